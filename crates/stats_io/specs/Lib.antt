@@ -1,0 +1,5 @@
+pub mod Pulls
+pub mod Pushes
+pub mod Feed
+pub mod Files
+pub mod Edge

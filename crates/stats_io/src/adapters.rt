@@ -1,0 +1,158 @@
+//! Files and streams of the system, the trusted edge: they count their failures and tell no content.
+ghost use Rattle.std.specs.Prelude.{◌≡◌, None, []};
+
+use crate::shelf::{OpenFault, Shelf};
+use crate::sink::{Push, Sink};
+use crate::source::{Pull, Source};
+use std::alloc::Global;
+use std::fs;
+use std::io::{Read, Write};
+use std::marker::{Model, Send};
+use std::rt::Files;
+
+/// An open file, or another reader. A read that fails takes nothing and is counted.
+#[derive(Drop)]
+pub struct FileSource<F> {
+    inner: F,
+    name: String,
+    faults: u64,
+}
+
+impl<F> Model for FileSource<F> {
+    ghost use Rattle.std.specs.Prelude.{string_bytes};
+    ghost use Rattle.stats_io.specs.Edge.{OpenFile};
+
+    ghost Value = { OpenFile };
+
+    ghost view = { λ s. record { name = string_bytes s.name; faults = s.faults } };
+}
+
+impl<F: Read> Source for FileSource<F> {
+    ghost left = { λ _. None };
+
+    ghost origin = { λ s. s.name };
+
+    ghost faults = { λ s. s.faults };
+
+    fn pull(&mut self, into: &mut [u8]) -> Pull {
+        match self.inner.read(into) {
+            Ok(0) => Pull::End,
+            Ok(count) => Pull::Bytes(count),
+            Err(_) => {
+                self.faults = self.faults.saturating_add(1);
+                Pull::Failed
+            }
+        }
+    }
+
+    fn fault_count(&self) -> u64 {
+        self.faults
+    }
+}
+
+/// The files of the folder where the program runs.
+#[derive(Drop)]
+pub struct FolderShelf<'a, R> {
+    rt: &'a R,
+    faults: u64,
+    failed: Option<String>,
+}
+
+impl<'a, R> Model for FolderShelf<'a, R> {
+    ghost use Rattle.stats_io.specs.Edge.{Folder};
+    ghost use Rattle.stats_io.specs.Files.{last_name};
+
+    ghost Value = { Folder };
+
+    ghost view = { λ s. record { faults = s.faults; failed = last_name s.failed } };
+}
+
+impl<'a, R: Files> FolderShelf<'a, R> {
+    /// The folder, on which no opening has failed yet.
+    pub fn new(rt: &'a R) -> FolderShelf<'a, R>
+        ensures { result ≡ record { faults = 0; failed = [] } }
+    {
+        FolderShelf {
+            rt,
+            faults: 0,
+            failed: None,
+        }
+    }
+}
+
+impl<'a, R: Files> Shelf for FolderShelf<'a, R>
+where
+    R::File: Send,
+{
+    type S = FileSource<R::File>;
+
+    ghost holds = { λ s name. None };
+
+    ghost faults = { λ s. s.faults };
+
+    ghost failed = { λ s. s.failed };
+
+    fn open(&mut self, alloc: Global, name: &str) -> Result<FileSource<R::File>, OpenFault> {
+        let copy = String::from_str(alloc, name)?;
+        match fs::open(self.rt, name) {
+            Ok(inner) => Ok(FileSource {
+                inner,
+                name: copy,
+                faults: 0,
+            }),
+            Err(_) => {
+                self.faults = self.faults.saturating_add(1);
+                self.failed = Some(copy);
+                Err(OpenFault::Failed)
+            }
+        }
+    }
+
+    fn fault_count(&self) -> u64 {
+        self.faults
+    }
+}
+
+/// A standard stream, or another writer. Contracts see it as its count of faults. A write of no bytes counts as a failure.
+#[derive(Drop)]
+pub struct StdSink<W> {
+    inner: W,
+    faults: u64,
+}
+
+impl<W> Model for StdSink<W> {
+    ghost use Rattle.std.specs.Prelude.{ℕ};
+
+    ghost Value = { ℕ };
+
+    ghost view = { λ s. s.faults };
+}
+
+impl<W: Write> StdSink<W> {
+    /// A sink whose writes have not failed yet.
+    pub fn new(inner: W) -> StdSink<W>
+        ensures { result ≡ 0 }
+    {
+        StdSink { inner, faults: 0 }
+    }
+}
+
+impl<W: Write> Sink for StdSink<W> {
+    ghost written = { λ _. None };
+
+    ghost faults = { λ s. s };
+
+    fn push(&mut self, piece: &[u8]) -> Push {
+        match self.inner.write(piece) {
+            Ok(0) | Err(_) => {
+                self.faults = self.faults.saturating_add(1);
+                Push::Failed
+            }
+            Ok(count) => Push::Took(count),
+        }
+    }
+
+    fn fault_count(&self) -> u64 {
+        self.faults
+    }
+}

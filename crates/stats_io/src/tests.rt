@@ -1,0 +1,74 @@
+use super::*;
+use std::alloc::Global;
+use std::fs;
+use std::test::Fail;
+
+fn shelf_of(alloc: Global, bytes: &[u8], fails: Vec<u64>) -> Result<MemShelf, Fail> {
+    let file = MemFile {
+        name: String::from_str(alloc, "f")?,
+        bytes: bytes.to_vec(alloc)?,
+        piece: 2,
+        fails,
+    };
+    Ok(MemShelf::new(vec![in alloc; file]?, vec![in alloc; 2]?))
+}
+
+#[test]
+fn memory_tells_its_bytes(rt: HostRuntime) -> Result<(), Fail> {
+    let alloc = rt.alloc();
+    let mut shelf = shelf_of(alloc, b"abc", vec![in alloc; 1]?)?;
+    let mut source = shelf.open(alloc, "f")?;
+    let mut into = [0u8; 8];
+    assert_eq!(rt; source.pull(&mut into), Pull::Bytes(2));
+    assert_eq!(rt; source.pull(&mut into), Pull::Failed);
+    assert_eq!(rt; source.fault_count(), 1);
+    assert_eq!(rt; source.pull(&mut into), Pull::Bytes(1));
+    assert_eq!(rt; into[0], b'c');
+    assert_eq!(rt; source.pull(&mut into), Pull::End);
+    assert_eq!(rt; shelf.open(alloc, "g").err(), Some(OpenFault::Failed));
+    assert_eq!(rt; shelf.open(alloc, "f").err(), Some(OpenFault::Failed));
+    assert_eq!(rt; shelf.fault_count(), 2);
+
+    let mut sink = MemSink::new(alloc, 4, 3, vec![in alloc; 1]?)?;
+    assert_eq!(rt; push_all(&mut sink, b"xyzw"), Err(WriteFault));
+    assert_eq!(rt; push_all(&mut sink, b"w"), Ok(()));
+    assert_eq!(rt; push_all(&mut sink, b"v"), Err(WriteFault));
+    assert_eq!(rt; sink.bytes(), b"xyzw".as_slice());
+    assert_eq!(rt; sink.fault_count(), 2);
+    Ok(())
+}
+
+#[test]
+fn a_real_folder(rt: HostRuntime) -> Result<(), Fail> {
+    let alloc = rt.alloc();
+    fs::write(&rt, "given", b"ab".as_slice())?;
+    let mut shelf = FolderShelf::new(&rt);
+    let mut source = shelf.open(alloc, "given")?;
+    let mut into = [0u8; 8];
+    assert_eq!(rt; source.pull(&mut into), Pull::Bytes(2));
+    assert_eq!(rt; into[1], b'b');
+    assert_eq!(rt; source.pull(&mut into), Pull::End);
+    assert_eq!(rt; source.fault_count(), 0);
+    assert_eq!(rt; shelf.open(alloc, "missing").err(), Some(OpenFault::Failed));
+    assert_eq!(rt; shelf.fault_count(), 1);
+
+    let mut folder = shelf.open(alloc, ".")?;
+    assert_eq!(rt; folder.pull(&mut into), Pull::Failed);
+    assert_eq!(rt; folder.fault_count(), 1);
+    Ok(())
+}
+
+#[test]
+fn a_real_stream(rt: HostRuntime) -> Result<(), Fail> {
+    let alloc = rt.alloc();
+    let mut sink = StdSink::new(fs::create(&rt, "written")?);
+    assert_eq!(rt; push_all(&mut sink, b"abc"), Ok(()));
+    assert_eq!(rt; sink.fault_count(), 0);
+    let written = fs::read(&rt, "written")?;
+    assert_eq!(rt; written.as_slice(), b"abc".as_slice());
+
+    let mut full = StdSink::new(fs::create(&rt, "/dev/full")?);
+    assert_eq!(rt; push_all(&mut full, b"abc"), Err(WriteFault));
+    assert_eq!(rt; full.fault_count(), 1);
+    Ok(())
+}
