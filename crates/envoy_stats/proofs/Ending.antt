@@ -1,0 +1,77 @@
+-- A file that was read to its end.
+use Rattle.std.proofs.Common.{◌≡◌, ℕ, Option, None, Some, IfSome, Result, List, [], ◌++◌, length, sym, ap, ◌∙◌, subst, zero-add}
+use Rattle.std.proofs.lemmas.List.{append-nil}
+use Rattle.std.specs.Io.KnownBytes.{IsAtEnd}
+use Rattle.stat_defs.specs.declared.events.Event.{Event}
+use Rattle.stat_defs.specs.declared.memory.NoMemory.{NoMemory}
+use Rattle.stat_defs.specs.declared.reports.FileEnd.{FileEnd}
+use Rattle.stat_defs.specs.declared.reports.FileEnd.TheVariants.{Whole, BadLine, LineTooLong, TooBig, TooMany, ReadFault, NotOpened}
+use Rattle.event_script.specs.declared.step.Step.{Step}
+use Rattle.event_script.specs.declared.step.Stop.{Stop}
+use Rattle.event_script.specs.declared.step.Stop.TheVariants as stop
+use Rattle.event_script.specs.Steps.{events_of, IfEnded, Answers, Explains, StoppedBy}
+use Rattle.event_script.specs.Reading.{Reading, Moves}
+use Rattle.event_script.specs.Run.{IsRun}
+use Rattle.event_script.proofs.Runs.{run_of}
+use Rattle.event_script.proofs.Filling.{moves_trans}
+use Rattle.envoy_stats.specs.declared.reading.FileRun.{FileRun}
+use Rattle.envoy_stats.specs.Reading.{ReadsSource}
+use Rattle.envoy_stats.specs.Reporting.{taken_at}
+use Rattle.envoy_stats.proofs.Following.{SoFar, few_so_far}
+
+-- what holds of the end that was answered
+pub at_end_of : (answer : Result Step NoMemory) (end : FileEnd) (fact : FileEnd → Type 0) → Answers answer end → IfEnded answer fact → fact end
+at_end_of answer end fact answers holds = subst (λ (o : Option FileEnd). IfSome o fact) answers.1 holds
+
+-- the bytes that were taken matter at a read fault alone
+run_taken : (content : Option (List ℕ)) (end : FileEnd) (taken : ℕ) (events : List Event) → IsRun content end taken events → IsRun content end (taken_at end taken) events
+run_taken content Whole taken events run = run
+run_taken content (BadLine n) taken events run = run
+run_taken content (LineTooLong n) taken events run = run
+run_taken content TooBig taken events run = run
+run_taken content TooMany taken events run = run
+run_taken content ReadFault taken events run = run
+run_taken content NotOpened taken events run = run
+
+was_opened : (stopped : Option Stop) (end : FileEnd) → StoppedBy stopped end → end ≡ NotOpened → ⊥
+was_opened None end by e = by
+was_opened (Some stop) end by e = subst (λ (x : FileEnd). StoppedBy (Some stop) x) e by
+
+module _ {S : Type 0} (left : S → Option (List ℕ)) (origin : S → List ℕ) (faults : S → ℕ) where
+  pub read_all : (source : S) (init old new : Reading S) (run : FileRun)
+      → SoFar left origin init old run.verdicts.items run.counters.entries
+      → init ≡ record { source = source; number = 1; offset = 0; pending = []; taken = 0; first_faults = faults source; stopped = None; ended = None }
+      → (answer : Result Step NoMemory) → Answers answer run.end.end → (got : List ℕ) → Moves left old new got (events_of answer)
+      → IfEnded answer (λ end. new.ended ≡ Some end) → IfEnded answer (λ end. StoppedBy new.stopped end)
+      → IfEnded answer (λ end. Explains (left new.source) new.first_faults (faults new.source) end)
+      → (new.stopped ≡ Some stop.Whole → IsAtEnd (left new.source)) → new.first_faults ≡ old.first_faults → origin new.source ≡ origin old.source
+      → run.end.taken ≡ taken_at run.end.end new.taken → run.end.faults_before ≡ faults source → run.end.faults_after ≡ faults new.source
+      → ReadsSource left origin faults source run
+  read_all source init old new run so is answer answers got moves ended by explained at_end first same_origin taken_is before_is after_is =
+      let end = run.end.end in
+      let last : Moves left old new got [] = subst (λ (es : List Event). Moves left old new got es) answers.0 moves in
+      let all = moves_trans left init old new so.got got so.events [] so.moves last in
+      let from_start = rw (is, append-nil) at all in
+      let stopped : StoppedBy new.stopped end = at_end_of answer end (λ e. StoppedBy new.stopped e) answers by in
+      let why : Explains (left new.source) new.first_faults (faults new.source) end = at_end_of answer end (λ e. Explains (left new.source) new.first_faults (faults new.source) e) answers explained in
+      let faults_first : new.first_faults ≡ faults source = first ∙ so.first ∙ ap (λ r. r.first_faults) is in
+      record {
+        reads = record {
+          events = so.events;
+          is_run = subst (λ (n : ℕ). IsRun (left source) end n so.events) (sym taken_is)
+              (run_taken (left source) end new.taken so.events
+              (run_of left source new (faults source) (so.got ++ got) so.events end from_start (at_end_of answer end (λ e. new.ended ≡ Some e) answers ended) stopped at_end));
+          verdicts_are = so.verdicts_are;
+          counters_are = so.counters_are;
+          few = few_so_far left origin init old run.verdicts.items run.counters.entries so;
+        };
+        opened = was_opened new.stopped end stopped;
+        later = new.source;
+        same_origin = same_origin ∙ so.same_origin ∙ ap (λ r. origin r.source) is;
+        given = so.got ++ got;
+        consumed = from_start.consumed;
+        taken = taken_is ∙ ap (taken_at end) (from_start.taken ∙ zero-add (length (so.got ++ got)));
+        count_before = before_is;
+        count_after = after_is;
+        rose = λ fault. rw (before_is, after_is, ← faults_first) (subst (λ (e : FileEnd). Explains (left new.source) new.first_faults (faults new.source) e) fault why);
+      }

@@ -1,0 +1,9 @@
+pub mod Command
+pub mod Counting
+pub mod Held
+pub mod Reporting
+pub mod Output
+pub mod Causes
+pub mod Reading
+pub mod Outcomes
+pub mod Readiness

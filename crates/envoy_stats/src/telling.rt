@@ -1,0 +1,45 @@
+//! What is said on the second sink.
+ghost use Rattle.std.specs.Prelude.{◌≡◌, ◌≤◌, IfOk, string_bytes};
+ghost use Rattle.std.specs.Io.KnownBytes.{Appends};
+ghost use Rattle.stat_defs.specs.Faults.{Rose};
+ghost use Rattle.envoy_stats.specs.Outcomes.{fault_line};
+
+use stat_defs::{FileEnd, NoMemory};
+use stats_io::{Sink, push_all};
+use std::alloc::Global;
+
+/// What words that are no command are answered.
+pub const USAGE: &[u8] =
+    b"usage: envoy_stats run|replay [--symbols] [--format statsd|prom|admin] BOOT FILE.. | check BOOT | bins V..\n";
+
+/// Says a text. A fault of the sink changes nothing else.
+pub fn say<E: Sink>(err: &mut E, text: &[u8])
+    ensures said { ¬ Rose (E.faults err.old) (E.faults err.new) → Appends (E.written err.old) (E.written err.new) text.now }
+    ensures later { E.faults err.old ≤ E.faults err.new }
+{
+    let _ = push_all(err, text);
+}
+
+// The line as text.
+fn fault_text(alloc: Global, number: u32, end: FileEnd) -> Result<String, NoMemory>
+    ensures { IfOk result (λ text. string_bytes text ≡ fault_line number end) }
+{
+    match end {
+        FileEnd::Whole => Ok(String::new(alloc)),
+        FileEnd::BadLine(n) => Ok(format!(in alloc; "file {number} line {n}: no event\n")?),
+        FileEnd::LineTooLong(n) => Ok(format!(in alloc;
+            "file {number} line {n}: line too long\n"
+        )?),
+        FileEnd::TooBig => Ok(format!(in alloc; "file {number}: too big\n")?),
+        FileEnd::TooMany => Ok(format!(in alloc; "file {number}: too many events\n")?),
+        FileEnd::ReadFault => Ok(format!(in alloc; "file {number}: read failed\n")?),
+        FileEnd::NotOpened => Ok(format!(in alloc; "file {number}: not opened\n")?),
+    }
+}
+
+/// The line on the file of that number, from 1, which ended so; nothing where it was read whole.
+pub fn fault_line(alloc: Global, number: u32, end: FileEnd) -> Result<Vec<u8>, NoMemory>
+    ensures { IfOk result (λ text. text.items ≡ fault_line number end) }
+{
+    Ok(fault_text(alloc, number, end)?.into_bytes())
+}

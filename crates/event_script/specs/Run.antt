@@ -1,0 +1,23 @@
+-- What was read of a file.
+use Rattle.std.specs.Prelude.{◌≡◌, ◌≤◌, ℕ, Option, Some, None, List, [], length, take}
+use Rattle.stat_defs.specs.declared.events.Event.{Event}
+use Rattle.stat_defs.specs.declared.reports.FileEnd.{FileEnd}
+use Rattle.stat_defs.specs.declared.reports.FileEnd.TheVariants.{Whole, BadLine, LineTooLong, TooBig, TooMany, ReadFault, NotOpened}
+use Rattle.event_script.specs.Script.{File, FileToFault}
+
+-- these are the bytes, where they are told
+abbrev pub MayBe : Option (List ℕ) → List ℕ → Type 0
+MayBe None bytes = Unit {0}
+MayBe (Some told) bytes = told ≡ bytes
+
+-- The events that were read of a file of this content, how it ended, and how many bytes were taken before a read fault. Where
+-- the content is not told, they are those of some list of bytes.
+abbrev pub IsRun : Option (List ℕ) → FileEnd → ℕ → List Event → Type 0
+IsRun content NotOpened taken events = events ≡ []
+IsRun content ReadFault taken events =
+    (bytes : List ℕ) × MayBe content bytes × (taken ≤ length bytes) × FileToFault (take taken bytes) events
+IsRun content Whole taken events = (bytes : List ℕ) × MayBe content bytes × File bytes events Whole
+IsRun content TooBig taken events = (bytes : List ℕ) × MayBe content bytes × File bytes events TooBig
+IsRun content TooMany taken events = (bytes : List ℕ) × MayBe content bytes × File bytes events TooMany
+IsRun content (BadLine n) taken events = (bytes : List ℕ) × MayBe content bytes × File bytes events (BadLine n)
+IsRun content (LineTooLong n) taken events = (bytes : List ℕ) × MayBe content bytes × File bytes events (LineTooLong n)

@@ -1,0 +1,28 @@
+-- What the reader says of a line.
+use Rattle.std.specs.Prelude.{◌≡◌, ◌≢◌, ◌<◌, ◌≤◌, ℕ, Bool, true, false, List, ◌∷◌, ◌++◌, length, take, slice_index}
+use Rattle.std.specs.List.{list_all}
+use Rattle.event_script.specs.Grammar.{IsPassedOver, IsLineOf, IsNoLine}
+use Rattle.event_script.specs.declared.grammar.Said.{Said}
+use Rattle.event_script.specs.declared.grammar.Said.TheVariants.{Nothing, Event, NoLine}
+
+abbrev pub Says : List ℕ → Said → Type 0
+Says line Nothing = IsPassedOver line
+Says line (Event e) = IsLineOf line e
+Says line NoLine = IsNoLine line
+
+-- so many bytes that pass the test stand first, and then one that doesn't or none
+pub record IsRunOf (test : ℕ → Bool) (text : List ℕ) (count : ℕ) : Type 0 where
+  pub within : count ≤ length text
+  pub pass : list_all test (take count text) ≡ true
+  pub longest : count < length text → test (slice_index text count) ≡ false
+
+-- the text's first bytes, 1 to so many, and those behind the space that ends them
+pub record IsPart (text : List ℕ) (at most : ℕ) (part rest : List ℕ) : Type 0 where
+  pub first : part ≡ take at text
+  pub some : 1 ≤ length part
+  pub few : length part ≤ most
+  pub parted : text ≡ part ++ 32 ∷ rest
+
+-- no space stands at that place, or there are none or too many bytes before it
+abbrev pub IsNoPart : List ℕ → ℕ → ℕ → Type 0
+IsNoPart text at most = 1 ≤ at → at ≤ most → at < length text → slice_index text at ≢ 32

@@ -1,0 +1,105 @@
+-- What the reader answers.
+use Rattle.std.specs.Prelude.{◌≡◌, ℕ, List, [], ◌∷◌, Option, Some, None, IfSome, Result, Ok, Err}
+use Rattle.std.specs.Io.KnownBytes.{IsAtEnd}
+use Rattle.stat_defs.specs.declared.events.Event.{Event}
+use Rattle.stat_defs.specs.declared.reports.FileEnd.{FileEnd}
+use Rattle.stat_defs.specs.declared.reports.FileEnd.TheVariants as file
+use Rattle.stat_defs.specs.declared.memory.NoMemory.{NoMemory}
+use Rattle.stat_defs.specs.Faults.{Rose}
+use Rattle.event_script.specs.Script.{Reads, end_by}
+use Rattle.event_script.specs.declared.step.Stop.{Stop}
+use Rattle.event_script.specs.declared.step.Step.{Step}
+use Rattle.event_script.specs.declared.step.Step.TheVariants as step
+use Rattle.event_script.specs.declared.step.Found.{Found}
+use Rattle.event_script.specs.declared.step.Found.TheVariants as found
+
+-- the event that an answer gives, if it is one
+abbrev pub events_of : Result Step NoMemory → List Event
+events_of (Ok (step.Event e)) = e ∷ []
+events_of (Ok step.End) = []
+events_of (Ok (step.BadLine n)) = []
+events_of (Ok step.TooBig) = []
+events_of (Ok step.ReadFault) = []
+events_of (Err e) = []
+
+-- the end of the file that an answer tells, if it tells one
+abbrev pub end_of : Result Step NoMemory → Option FileEnd
+end_of (Ok (step.Event e)) = None
+end_of (Ok step.End) = Some file.Whole
+end_of (Ok (step.BadLine n)) = Some (file.BadLine n)
+end_of (Ok step.TooBig) = Some file.TooBig
+end_of (Ok step.ReadFault) = Some file.ReadFault
+end_of (Err e) = None
+
+-- where the answer is an end of the file, this holds of it
+abbrev pub IfEnded : Result Step NoMemory → (FileEnd → Type 0) → Type 0
+IfEnded answer fact = IfSome (end_of answer) fact
+
+abbrev pub IfEvent : Result Step NoMemory → Type 0 → Type 0
+IfEvent (Ok (step.Event e)) fact = fact
+IfEvent (Ok step.End) fact = Unit {0}
+IfEvent (Ok (step.BadLine n)) fact = Unit {0}
+IfEvent (Ok step.TooBig) fact = Unit {0}
+IfEvent (Ok step.ReadFault) fact = Unit {0}
+IfEvent (Err e) fact = Unit {0}
+
+-- the answer is this end of the file
+abbrev pub Answers : Result Step NoMemory → FileEnd → Type 0
+Answers answer end = (events_of answer ≡ []) × (end_of answer ≡ Some end)
+
+-- an end that the reader can answer
+abbrev pub CanAnswer : FileEnd → Type 0
+CanAnswer file.Whole = Unit {0}
+CanAnswer (file.BadLine n) = Unit {0}
+CanAnswer file.TooBig = Unit {0}
+CanAnswer file.ReadFault = Unit {0}
+CanAnswer (file.LineTooLong n) = ⊥
+CanAnswer file.TooMany = ⊥
+CanAnswer file.NotOpened = ⊥
+
+-- the end is that of the source, or a line of no meaning
+abbrev pub EndsBy : Stop → FileEnd → Type 0
+EndsBy stop (file.BadLine n) = Unit {0}
+EndsBy stop file.Whole = end_by stop ≡ file.Whole
+EndsBy stop file.TooBig = end_by stop ≡ file.TooBig
+EndsBy stop file.ReadFault = end_by stop ≡ file.ReadFault
+EndsBy stop (file.LineTooLong n) = ⊥
+EndsBy stop file.TooMany = ⊥
+EndsBy stop file.NotOpened = ⊥
+
+-- why the file ended so: the source has nothing left, or its count of faults rose
+abbrev pub Explains : Option (List ℕ) → ℕ → ℕ → FileEnd → Type 0
+Explains left first faults file.Whole = IsAtEnd left
+Explains left first faults file.ReadFault = Rose first faults
+Explains left first faults (file.BadLine n) = Unit {0}
+Explains left first faults file.TooBig = Unit {0}
+Explains left first faults (file.LineTooLong n) = ⊥
+Explains left first faults file.TooMany = ⊥
+Explains left first faults file.NotOpened = ⊥
+
+-- the source had stopped, and the end is its end or a line of no meaning
+abbrev pub StoppedBy : Option Stop → FileEnd → Type 0
+StoppedBy None end = ⊥
+StoppedBy (Some stop) end = EndsBy stop end
+
+-- what was found in the lines
+abbrev pub events_found : Result Found NoMemory → List Event
+events_found (Ok (found.Event e)) = e ∷ []
+events_found (Ok (found.Ended end)) = []
+events_found (Err e) = []
+
+abbrev pub IfFoundEnd : Result Found NoMemory → (FileEnd → Type 0) → Type 0
+IfFoundEnd (Ok (found.Event e)) fact = Unit {0}
+IfFoundEnd (Ok (found.Ended end)) fact = fact end
+IfFoundEnd (Err e) fact = Unit {0}
+
+abbrev pub IfFoundEvent : Result Found NoMemory → Type 0 → Type 0
+IfFoundEvent (Ok (found.Event e)) fact = fact
+IfFoundEvent (Ok (found.Ended end)) fact = Unit {0}
+IfFoundEvent (Err e) fact = Unit {0}
+
+-- what comes behind it: nothing behind an end
+abbrev pub Follows : Result Found NoMemory → ℕ → List (List ℕ) → Stop → List Event → FileEnd → Type 0
+Follows (Ok (found.Event e)) number lines stop events end = Reads number lines stop events end
+Follows (Ok (found.Ended ended)) number lines stop events end = (events ≡ []) × (end ≡ ended)
+Follows (Err e) number lines stop events end = Reads number lines stop events end

@@ -1,0 +1,31 @@
+//! Laws of the definitions, each the contract of a function that does nothing.
+ghost use Rattle.std.specs.Prelude.{◌≡◌, ◌++◌, ℕ, List, Some};
+ghost use Rattle.std.specs.Io.KnownBytes.{IsAtEnd};
+ghost use Rattle.event_script.specs.Reading.{Reading, Moves, unread};
+ghost use Rattle.event_script.specs.Run.{IsRun};
+ghost use Rattle.event_script.specs.Steps.{StoppedBy};
+ghost use Rattle.event_script.specs.declared.step.Stop.{Stop};
+ghost use Rattle.event_script.specs.Script.{File};
+ghost use Rattle.stat_defs.specs.declared.events.Event.{Event};
+ghost use Rattle.stat_defs.specs.declared.reports.FileEnd.{FileEnd};
+
+use stats_io::Source;
+
+/// A file has one list of events and one end.
+pub fn file_is_single_valued()
+    ensures { (bytes : List ℕ) (events others : List Event) (end other : FileEnd) → File bytes events end → File bytes others other → (events ≡ others) × (end ≡ other) }
+{}
+
+/// Two calls in a row took and gave what one would have.
+pub fn moves_compose<S: Source>()
+    ensures { (a b c : Reading S) (got more : List ℕ) (events others : List Event) → Moves S.left a b got events → Moves S.left b c more others
+        → Moves S.left a c (got ++ more) (events ++ others) }
+{}
+
+/// What a reader answered from its start to an end of the file is what there was to read of that file: the clauses of
+/// [`Lines::next`](crate::Lines::next) are the premises.
+pub fn answers_are_a_run<S: Source>()
+    ensures { (source : S) (now : Reading S) (faults : ℕ) (got : List ℕ) (events : List Event) (end : FileEnd) → Moves S.left (unread source faults) now got events
+        → now.ended ≡ Some end → StoppedBy now.stopped end → (now.stopped ≡ Some Stop.Whole → IsAtEnd (S.left now.source))
+        → IsRun (S.left source) end now.taken events }
+{}

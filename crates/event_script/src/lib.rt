@@ -1,0 +1,16 @@
+//! The events of an event file, line by line.
+#![tactic(auto)]
+
+mod cutting;
+mod grammar;
+mod laws;
+mod lines;
+mod pulling;
+mod step;
+#[cfg(test)]
+mod tests;
+
+pub use laws::{answers_are_a_run, file_is_single_valued, moves_compose};
+pub use lines::Lines;
+pub use pulling::MAX_FILE_BYTES;
+pub use step::{Step, Stop};

@@ -1,0 +1,206 @@
+//! Files with their events and their ends.
+
+use crate::lines::Lines;
+use crate::step::Step;
+use stat_defs::{Event, NoMemory};
+use stats_io::MemSource;
+use std::alloc::Global;
+
+// A reader of these bytes, which come in pieces of that length; the pulls of these numbers fail.
+fn lines_of(
+    alloc: Global,
+    file: &[u8],
+    piece: usize,
+    fails: Vec<u64>,
+) -> Result<Lines<MemSource>, NoMemory> {
+    let source = MemSource::new(String::new(alloc), file.to_vec(alloc)?, piece.max(1), fails);
+    Lines::new(alloc, source)
+}
+
+// Adds an answer: `label name n|`, or the end.
+fn tell(alloc: Global, told: &mut Vec<u8>, step: &Step) -> Result<(), NoMemory> {
+    match step {
+        Step::Event(Event::Inc { label, name, n }) => {
+            told.extend_from_slice(label.bytes())?;
+            told.push(b' ')?;
+            told.extend_from_slice(name.bytes())?;
+            told.push(b' ')?;
+            told.extend_from_slice(n.to_string(alloc)?.as_bytes())?;
+            told.push(b'|')?;
+        }
+        Step::Event(_) => told.extend_from_slice(b"another event|")?,
+        Step::End => told.extend_from_slice(b"end")?,
+        Step::BadLine(number) => {
+            told.extend_from_slice(b"bad ")?;
+            told.extend_from_slice(number.to_string(alloc)?.as_bytes())?;
+        }
+        Step::TooBig => told.extend_from_slice(b"too big")?,
+        Step::ReadFault => told.extend_from_slice(b"read fault")?,
+    }
+    Ok(())
+}
+
+// All answers up to the end, as one text.
+fn told_by(alloc: Global, lines: &mut Lines<MemSource>) -> Result<Vec<u8>, NoMemory> {
+    let mut told = Vec::new(alloc);
+    for _ in 0..100 {
+        let step = lines.next(alloc)?;
+        tell(alloc, &mut told, &step)?;
+        if !matches!(&step, Step::Event(_)) {
+            return Ok(told);
+        }
+    }
+    Ok(told)
+}
+
+// A line with a label and a name of these lengths.
+fn line_of_lengths(alloc: Global, label: usize, name: usize) -> Result<Vec<u8>, NoMemory> {
+    let mut line = b"inc ".to_vec(alloc)?;
+    line.extend_from_slice(&vec![in alloc; b'x'; label]?)?;
+    line.push(b' ')?;
+    line.extend_from_slice(&vec![in alloc; b'y'; name]?)?;
+    line.extend_from_slice(b" 1\n")?;
+    Ok(line)
+}
+
+#[test]
+fn files(rt: HostRuntime) -> Result<(), NoMemory> {
+    let alloc = rt.alloc();
+    let rows: [(&[u8], &[u8]); 44] = [
+        (b"inc root a 3\ninc root a 4\n", b"root a 3|root a 4|end"),
+        (b"", b"end"),
+        (b"\n\n", b"end"),
+        (b"inc web a 1\ninc root a 2\n", b"web a 1|root a 2|end"),
+        (
+            b"inc root a 1\ninc root a 01\ninc root a 1\n",
+            b"root a 1|bad 2",
+        ),
+        (b"inc root a 1", b"root a 1|end"),
+        (b"inc root a 1\ninc", b"root a 1|bad 2"),
+        (b"inc root a 1\n\nbogus\ninc root b 1\n", b"root a 1|bad 3"),
+        (b"# x\n\n#\ninc root a 0\n#inc root a 1", b"root a 0|end"),
+        (b"#\x00\xff\r\ninc root a 1\n", b"root a 1|end"),
+        (b" # x\n", b"bad 1"),
+        (b" \n", b"bad 1"),
+        (b"\r\n", b"bad 1"),
+        (b"inc root a 1\r\n", b"bad 1"),
+        (b"inc root.b a 1\n", b"bad 1"),
+        (b"inc ro-ot a 1\n", b"bad 1"),
+        (b"inc A_z09 !~#. 7\n", b"A_z09 !~#. 7|end"),
+        (b"inc root a\x7f 1\n", b"bad 1"),
+        (b"inc root a\x80 1\n", b"bad 1"),
+        (b"inc root \x1f 1\n", b"bad 1"),
+        (b"inc  root a 1\n", b"bad 1"),
+        (b"inc root  a 1\n", b"bad 1"),
+        (b"inc root a  1\n", b"bad 1"),
+        (b"inc root a 1 \n", b"bad 1"),
+        (b" inc root a 1\n", b"bad 1"),
+        (b"inc\troot a 1\n", b"bad 1"),
+        (b"inc root a\n", b"bad 1"),
+        (b"inc root a \n", b"bad 1"),
+        (b"inc root  1\n", b"bad 1"),
+        (b"inc  a 1\n", b"bad 1"),
+        (b"inc root\n", b"bad 1"),
+        (b"inc \n", b"bad 1"),
+        (b"INC root a 1\n", b"bad 1"),
+        (b"incr root a 1\n", b"bad 1"),
+        (b"inc root a +1\n", b"bad 1"),
+        (b"inc root a -1\n", b"bad 1"),
+        (b"inc root a 1x\n", b"bad 1"),
+        (b"inc root a 1:\n", b"bad 1"),
+        (b"inc root a 1/\n", b"bad 1"),
+        (b"inc root a 00\n", b"bad 1"),
+        (b"inc root a 4294967295\n", b"root a 4294967295|end"),
+        (b"inc root a 4294967296\n", b"bad 1"),
+        (b"inc root a 18446744073709551617\n", b"bad 1"),
+        (b"inc root a 1 2\n", b"bad 1"),
+    ];
+    for (at, (file, want)) in rows.iter().enumerate() {
+        for piece in [1, 2, 5, 65_536] {
+            let mut lines = lines_of(alloc, file, piece, Vec::new(alloc))?;
+            let told = told_by(alloc, &mut lines)?;
+            assert!(rt; told.as_slice() == *want, "row {at} by {piece}");
+            let mut again = Vec::new(alloc);
+            let last = lines.next(alloc)?;
+            tell(alloc, &mut again, &last)?;
+            assert!(rt; want.ends_with(&again), "row {at} by {piece}, again");
+        }
+    }
+    Ok(())
+}
+
+#[test]
+fn lengths(rt: HostRuntime) -> Result<(), NoMemory> {
+    let alloc = rt.alloc();
+    for (label, name, fits) in [
+        (32, 255, true),
+        (33, 255, false),
+        (32, 256, false),
+        (0, 1, false),
+        (1, 0, false),
+        (1, 1, true),
+    ] {
+        let line = line_of_lengths(alloc, label, name)?;
+        let mut lines = lines_of(alloc, &line, 65_536, Vec::new(alloc))?;
+        let step = lines.next(alloc)?;
+        assert_eq!(rt;
+            matches!(&step, Step::Event(_)),
+            fits,
+            "label of {label}, name of {name}"
+        );
+    }
+    Ok(())
+}
+
+#[test]
+fn read_faults(rt: HostRuntime) -> Result<(), NoMemory> {
+    let alloc = rt.alloc();
+    let rows: [(&[u8], usize, u64, &[u8], u64); 4] = [
+        (
+            b"inc root a 1\ninc root b 2",
+            16,
+            1,
+            b"root a 1|read fault",
+            16,
+        ),
+        (
+            b"inc root a 1\nbogus",
+            65_536,
+            1,
+            b"root a 1|read fault",
+            18,
+        ),
+        (b"inc root a 1\n", 65_536, 0, b"read fault", 0),
+        (b"bogus\ninc root a 1\n", 7, 1, b"bad 1", 7),
+    ];
+    for (at, (file, piece, call, want, taken)) in rows.iter().enumerate() {
+        let mut fails = Vec::new(alloc);
+        fails.push(*call)?;
+        let mut lines = lines_of(alloc, file, *piece, fails)?;
+        let told = told_by(alloc, &mut lines)?;
+        assert!(rt; told.as_slice() == *want, "row {at}");
+        assert_eq!(rt; lines.taken(), *taken, "row {at}");
+        let again = told_by(alloc, &mut lines)?;
+        assert!(rt; want.ends_with(&again), "row {at}, again");
+    }
+    Ok(())
+}
+
+#[test]
+fn file_of_the_greatest_size(rt: HostRuntime) -> Result<(), NoMemory> {
+    let alloc = rt.alloc();
+    let mut comment = vec![in alloc; b'#'; 1_023]?;
+    comment.push(b'\n')?;
+    let mut file = Vec::new(alloc);
+    for _ in 0..8_192 {
+        file.extend_from_slice(&comment)?;
+    }
+    let mut lines = lines_of(alloc, &file, 65_536, Vec::new(alloc))?;
+    let told = told_by(alloc, &mut lines)?;
+    assert!(rt; told.as_slice() == b"end".as_slice(), "8,388,608 bytes");
+    file.push(b'\n')?;
+    let mut lines = lines_of(alloc, &file, 65_536, Vec::new(alloc))?;
+    let told = told_by(alloc, &mut lines)?;
+    assert!(rt; told.as_slice() == b"too big".as_slice(), "one byte more");
+    Ok(())
+}
