@@ -1,0 +1,10 @@
+//! Histograms in the log-linear bins of circllhist: two significant decimal digits and a power of ten.
+#![tactic(auto)]
+
+mod bins;
+mod digits;
+mod place;
+
+pub use bins::Bins;
+pub use digits::bin_of;
+pub use place::{BIN_COUNT, MAX_COUNT};

@@ -1,0 +1,50 @@
+//! The place of a bin in the table of counts.
+ghost use Rattle.std.specs.Prelude.{◌≡◌, ◌<◌, IsTrue};
+ghost use Rattle.loglinear_bins.specs.Bins.{is_lawful};
+ghost use Rattle.loglinear_bins.specs.Table.{place_of as the_place, bin_at as the_bin};
+
+use stat_defs::Bin;
+
+/// The greatest exponent of a bin of 64-bit values.
+pub const GREATEST_EXP: usize = 19;
+
+/// The greatest first two digits at that exponent.
+pub const GREATEST_VAL: usize = 18;
+
+/// How many bins 64-bit values meet: 10 at the least exponent and 90 at each other one, up to the greatest bin.
+pub const BIN_COUNT: usize = 90 * (GREATEST_EXP - 1) + GREATEST_VAL + 1;
+
+/// The most values of one histogram.
+pub const MAX_COUNT: u64 = 1 << 40;
+
+/// The place of a bin, in their order.
+pub(crate) fn place_of(bin: Bin) -> usize
+    requires { IsTrue (is_lawful bin) }
+    ensures place { result ≡ the_place bin }
+    ensures bound { result < BIN_COUNT }
+{
+    let val = bin.val as usize;
+    if bin.exp == 0 {
+        val / 10
+    } else {
+        90 * bin.exp as usize + val - 90
+    }
+}
+
+/// The bin at a place.
+pub(crate) fn bin_at(place: usize) -> Bin
+    requires { place < BIN_COUNT }
+    ensures { result ≡ the_bin place }
+{
+    if place < 10 {
+        return Bin {
+            val: 10 * place as u8,
+            exp: 0,
+        };
+    }
+    let over = place - 10;
+    Bin {
+        val: (over % 90) as u8 + 10,
+        exp: (over / 90 + 1) as i8,
+    }
+}
