@@ -9,11 +9,9 @@ use Rattle.loglinear_bins.proofs.Leading.{bin-small, bin-large, two_digits}
 use Rattle.loglinear_bins.proofs.Places.{bin_at-first, bin_at-later}
 
 lawful-first : (val : ℕ) → val % 10 ≡ 0 → val ≤ 90 → is_lawful (record { val = val; exp = pos 0 }) ≡ true
-unfolding is_lawful
 lawful-first val tens most = and_from _ _ (eq-eqb _ _ tens) (le-leb _ _ most)
 
 lawful-later : (val e : ℕ) → 10 ≤ val → val ≤ 99 → (e < 18) ⊎ ((e ≡ 18) × (val ≤ 18)) → is_lawful (record { val = val; exp = pos (suc e) }) ≡ true
-unfolding is_lawful
 lawful-later val e low high (inl below) = and_from _ _ (and_from _ _ (le-leb _ _ low) (le-leb _ _ high)) (or_left _ _ (lt-ltb (suc e) 19 (omega arith)))
 lawful-later val e low high (inr last) = and_from _ _ (and_from _ _ (le-leb _ _ low) (le-leb _ _ high)) (or_right _ _ (and_from _ _ (eq-eqb (suc e) 19 (omega (arith, last.0))) (le-leb _ _ last.1)))
 

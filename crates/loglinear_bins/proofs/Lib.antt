@@ -4,3 +4,8 @@ pub mod Places
 pub mod Order
 pub mod Lawful
 pub mod Tables
+pub mod Reading
+pub mod Rising
+pub mod Merging
+pub mod Adding
+pub mod Restored

@@ -6,8 +6,8 @@ use Rattle.std.proofs.lemmas.Int.{to_z_pos}
 use Rattle.std.proofs.lemmas.Nat.{div-mul-add, mod-mul-add}
 use Rattle.stat_defs.specs.declared.bins.Bin.{Bin}
 use Rattle.loglinear_bins.specs.declared.place.TheConstants.{BIN_COUNT, GREATEST_EXP, GREATEST_VAL}
-use Rattle.loglinear_bins.specs.Bins.{is_lawful, is_lawful_at, is_same}
-use Rattle.loglinear_bins.specs.Table.{place_of, bin_at}
+use Rattle.loglinear_bins.specs.Bins.{steps, is_lawful, is_lawful_at, is_same}
+use Rattle.loglinear_bins.specs.Table.{place_at, place_of, bin_at}
 
 pub is_same-refl : (bin : Bin) → is_same bin bin ≡ true
 is_same-refl bin = and_from _ _ (eq-eqb bin.val bin.val refl) ((Decides-int_eq bin.exp bin.exp).1 refl)
@@ -84,29 +84,32 @@ cases-at val (negsuc e) holds = absurd (false≢true holds)
 
 -- a lawful bin is one or the other
 pub lawful_cases : (bin : Bin) → is_lawful bin ≡ true → First bin ⊎ Later bin
-unfolding is_lawful
 lawful_cases bin holds = cases-at bin.val bin.exp holds
 
--- its exponent
-pub record HasExp (bin : Bin) : Type 0 where
-  pub exp : ℕ
-  pub is : bin.exp ≡ pos exp
-  pub small : exp < 20
-
-pub lawful_exp : (bin : Bin) → is_lawful bin ≡ true → HasExp bin
-lawful_exp bin holds = elim (lawful_cases bin holds) [
-  | inl f ↦ record { exp = 0; is = ap (λ (b : Bin). b.exp) f.is; small = omega arith }
-  | inr l ↦ record { exp = suc l.row; is = l.exp; small = omega (arith, l.within, l.low) }
-]
-
-pub place_of-first : (val : ℕ) → place_of (record { val = val; exp = pos 0 }) ≡ val / 10
+place_of-first : (val : ℕ) → place_of (record { val = val; exp = pos 0 }) ≡ val / 10
 unfolding place_of
 place_of-first val = refl
 
-pub place_of-later : (val e : ℕ) → e ≢ 0 → place_of (record { val = val; exp = pos e }) ≡ 90 * e + val - 90
+place_of-later : (val row : ℕ) → place_of (record { val = val; exp = pos (suc row) }) ≡ 90 * row + val
 unfolding place_of
-place_of-later val zero some = absurd (some refl)
-place_of-later val (suc row) some = omega arith
+place_of-later val row = refl
+
+-- the place of a bin at the least exponent, and of any other one
+pub place_of-least : (bin : Bin) → steps bin.exp ≡ 0 → bin.val / 10 ≡ place_of bin
+unfolding place_of
+place_of-least bin none = at bin.val (steps bin.exp) none
+  where
+    at : (val e : ℕ) → e ≡ 0 → val / 10 ≡ place_at val e
+    at val zero none = refl
+    at val (suc row) none = absurd (omega arith)
+
+pub place_of-above : (bin : Bin) → steps bin.exp ≢ 0 → 90 * steps bin.exp + bin.val - 90 ≡ place_of bin
+unfolding place_of
+place_of-above bin some = at bin.val (steps bin.exp) some
+  where
+    at : (val e : ℕ) → e ≢ 0 → 90 * e + val - 90 ≡ place_at val e
+    at val zero some = absurd (some refl)
+    at val (suc row) some = omega arith
 
 -- the law of places: a lawful bin stands at its place
 pub bin_at-place_of : (bin : Bin) → is_lawful bin ≡ true → bin_at (place_of bin) ≡ bin
@@ -121,15 +124,11 @@ bin_at-place_of bin holds = elim (lawful_cases bin holds) [
     at_later : (bin : Bin) → Later bin → bin_at (place_of bin) ≡ bin
     at_later bin l =
         let is : bin ≡ record { val = bin.val; exp = pos (suc l.row) } = ap (λ (z : ℤ). record { val = bin.val; exp = z }) l.exp in
-        let place : place_of bin ≡ l.row * 90 + (bin.val - 10) + 10 = ap place_of is ∙ (place_of-later bin.val (suc l.row) (omega arith) ∙ omega (arith, l.low)) in
+        let place : place_of bin ≡ l.row * 90 + (bin.val - 10) + 10 = ap place_of is ∙ (place_of-later bin.val l.row ∙ omega (arith, l.low)) in
         bin_at-row (place_of bin) l.row (bin.val - 10) (omega (arith, l.low, l.high)) place ∙ (ap (λ (n : ℕ). record { val = n; exp = pos (l.row + 1) }) (omega (arith, l.low)) ∙ (ap (λ (n : ℕ). record { val = bin.val; exp = pos n }) (omega arith) ∙ sym is))
 
 pub place_of-below : (bin : Bin) → is_lawful bin ≡ true → place_of bin < BIN_COUNT
 place_of-below bin holds = elim (lawful_cases bin holds) [
   | inl f ↦ let place : place_of bin ≡ 10 * f.digit / 10 = ap place_of f.is ∙ place_of-first (10 * f.digit) in omega (arith, f.small)
-  | inr l ↦ let place : place_of bin ≡ 90 * suc l.row + bin.val - 90 = ap (λ (z : ℤ). place_of (record { val = bin.val; exp = z })) l.exp ∙ place_of-later bin.val (suc l.row) (omega arith) in omega (arith, l.within)
+  | inr l ↦ let place : place_of bin ≡ 90 * l.row + bin.val = ap (λ (z : ℤ). place_of (record { val = bin.val; exp = z })) l.exp ∙ place_of-later bin.val l.row in omega (arith, l.within)
 ]
-
--- the exponent as a signed byte
-pub to_z-exp : (bin : Bin) (e : HasExp bin) → to_z w8 (of_z w8 bin.exp) ≡ pos e.exp
-to_z-exp bin e = ap (λ (z : ℤ). to_z w8 (of_z w8 z)) e.is ∙ to_z_pos w8 e.exp (omega (arith, e.small))

@@ -3,7 +3,7 @@ use Rattle.std.proofs.Common.{◌≡◌, ℕ, suc, zero, ◌+◌, ◌<◌, ◌�
 use Rattle.std.proofs.lemmas.Bool.{lt-ltb, le-ltb}
 use Rattle.std.proofs.lemmas.List.{length-set, set-get_or, get_or_default}
 use Rattle.std.proofs.lemmas.List.Sums.{sum_by-cons, sum_by-set}
-use Rattle.std.proofs.Math.Seq.{drop-cons, drop-length}
+use Rattle.std.proofs.Math.Seq.{drop-cons}
 use Rattle.stat_defs.specs.declared.bins.Bin.{Bin}
 use Rattle.stat_defs.specs.declared.bins.BinCount.{BinCount}
 use Rattle.loglinear_bins.specs.Bins.{is_lawful}
@@ -74,9 +74,9 @@ listed-drop-none i ns short none = ap (listed i) (drop-cons ns i 0 short) ∙ at
 pub listed-drop-some : (i : ℕ) (ns : List ℕ) → i < length ns → 0 < get_or ns i 0 → listed i (drop i ns) ≡ (record { bin = bin_at i; count = get_or ns i 0 }) ∷ listed (suc i) (drop (suc i) ns)
 listed-drop-some i ns short some = ap (listed i) (drop-cons ns i 0 short) ∙ at_cons_some i (get_or ns i 0) (drop (suc i) ns) some
 
-pub listed-drop-end : (ns : List ℕ) → listed (length ns) (drop (length ns) ns) ≡ []
+pub listed-nil : (k : ℕ) → listed k [] ≡ []
 unfolding listed
-listed-drop-end ns = rw (drop-length ns) refl
+listed-nil k = refl
 
 -- the same of the value that contracts see
 pub total-view : (ns : List ℕ) (n : ℕ) (counts : List BinCount) → listed 0 ns ≡ counts → IsTable ns n → total counts ≡ n
@@ -91,11 +91,15 @@ IsTable-set ns total place here n table below is room = record {
 }
 
 -- and adds them at the bin of the place
-pub listed-added : (ns : List ℕ) (bin : Bin) (place here n : ℕ) → place < length ns → here ≡ get_or ns place here → place ≡ place_of bin → is_lawful bin ≡ true → listed 0 (set ns place (here + n)) ≡ added (listed 0 ns) bin n
-listed-added ns bin place here zero short is at lawful =
+pub listed-added-at : (ns : List ℕ) (place here n : ℕ) → place < length ns → here ≡ get_or ns place here → listed 0 (set ns place (here + n)) ≡ added (listed 0 ns) (bin_at place) n
+listed-added-at ns place here zero short is =
     let none : here + 0 ≡ get_or ns place here = omega arith in
     ap (listed 0) (ap (set ns place) none ∙ set-get_or ns place here)
-listed-added ns bin place here (suc n) short is at lawful =
+listed-added-at ns place here (suc n) short is =
     let same : here ≡ get_or ns place 0 = is ∙ get_or_default ns place here 0 short in
-    let found : bin_at (0 + place) ≡ bin = ap bin_at (omega (arith, at)) ∙ bin_at-place_of bin lawful in
-    ap (λ m. listed 0 (set ns place (m + suc n))) same ∙ (listed-set 0 place n ns short ∙ ap (λ (b : Bin). placed (listed 0 ns) b (suc n)) found)
+    let at : 0 + place ≡ place = omega arith in
+    ap (λ m. listed 0 (set ns place (m + suc n))) same ∙ (listed-set 0 place n ns short ∙ ap (λ k. placed (listed 0 ns) (bin_at k) (suc n)) at)
+
+pub listed-added : (ns : List ℕ) (bin : Bin) (place here n : ℕ) → place < length ns → here ≡ get_or ns place here → place ≡ place_of bin → is_lawful bin ≡ true → listed 0 (set ns place (here + n)) ≡ added (listed 0 ns) bin n
+listed-added ns bin place here n short is at lawful =
+    listed-added-at ns place here n short is ∙ ap (λ (b : Bin). added (listed 0 ns) b n) (ap bin_at at ∙ bin_at-place_of bin lawful)

@@ -28,7 +28,7 @@ is_lawful_at val (pos zero) = val % 10 == 0 && nat_le val 90
 is_lawful_at val (pos (suc e)) = nat_le 10 val && nat_le val 99 && (nat_lt (suc e) GREATEST_EXP || (suc e == GREATEST_EXP && nat_le val GREATEST_VAL))
 
 -- the bins that values of 64 bits meet
-unfoldable pub is_lawful : Bin → Bool
+abbrev pub is_lawful : Bin → Bool
 is_lawful bin = is_lawful_at bin.val bin.exp
 
 abbrev pub is_same : Bin → Bin → Bool

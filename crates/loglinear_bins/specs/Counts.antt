@@ -6,9 +6,13 @@ use Rattle.stat_defs.specs.declared.bins.Bin.{Bin}
 use Rattle.stat_defs.specs.declared.bins.BinCount.{BinCount}
 use Rattle.loglinear_bins.specs.Bins.{bin_of_value, is_lawful, is_same, low_tenths, low_thousandths, width_thousandths, largest_whole, mark_twentieths}
 
+-- each bin is one that values of 64 bits meet
+abbrev pub AreLawful : List BinCount → Type 0
+AreLawful counts = IsTrue (list_all (λ c. is_lawful c.bin) counts)
+
 -- lawful bins, rising, none of them empty
 pub record IsBinList (counts : List BinCount) : Type 0 where
-  pub lawful : IsTrue (list_all (λ c. is_lawful c.bin) counts)
+  pub lawful : AreLawful counts
   pub rising : IsStrictlyIncreasing (map (λ c. low_tenths c.bin) counts)
   pub some : IsTrue (list_all (λ c. nat_lt 0 c.count) counts)
 

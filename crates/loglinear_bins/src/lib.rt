@@ -3,8 +3,11 @@
 
 mod bins;
 mod digits;
+mod laws;
+mod measures;
 mod place;
 
 pub use bins::Bins;
 pub use digits::bin_of;
+pub use laws::{merge_law, record_law};
 pub use place::{BIN_COUNT, MAX_COUNT};

@@ -1,6 +1,6 @@
 //! The place of a bin in the table of counts.
 ghost use Rattle.std.specs.Prelude.{◌≡◌, ◌<◌, IsTrue};
-ghost use Rattle.loglinear_bins.specs.Bins.{is_lawful};
+ghost use Rattle.loglinear_bins.specs.Bins.{steps, is_lawful};
 ghost use Rattle.loglinear_bins.specs.Table.{place_of as the_place, bin_at as the_bin};
 
 use stat_defs::Bin;
@@ -17,24 +17,35 @@ pub const BIN_COUNT: usize = 90 * (GREATEST_EXP - 1) + GREATEST_VAL + 1;
 /// The most values of one histogram.
 pub const MAX_COUNT: u64 = 1 << 40;
 
+/// How far the exponent of a bin is above the least one.
+pub(crate) fn steps_of(bin: Bin) -> usize
+    requires { IsTrue (is_lawful bin) }
+    ensures steps { result ≡ steps bin.exp }
+    ensures bound { result < 20 }
+{
+    bin.exp as usize
+}
+
 /// The place of a bin, in their order.
 pub(crate) fn place_of(bin: Bin) -> usize
     requires { IsTrue (is_lawful bin) }
     ensures place { result ≡ the_place bin }
     ensures bound { result < BIN_COUNT }
 {
+    let steps = steps_of(bin);
     let val = bin.val as usize;
-    if bin.exp == 0 {
+    if steps == 0 {
         val / 10
     } else {
-        90 * bin.exp as usize + val - 90
+        90 * steps + val - 90
     }
 }
 
 /// The bin at a place.
 pub(crate) fn bin_at(place: usize) -> Bin
     requires { place < BIN_COUNT }
-    ensures { result ≡ the_bin place }
+    ensures bin { result ≡ the_bin place }
+    ensures lawful { IsTrue (is_lawful result) }
 {
     if place < 10 {
         return Bin {
