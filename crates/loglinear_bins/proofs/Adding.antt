@@ -1,13 +1,12 @@
 -- What `added` does to a list of counts.
-use Rattle.std.proofs.Common.{◌≡◌, ℕ, suc, zero, ◌+◌, ◌<◌, ◌≤◌, Bool, true, false, List, [], ◌∷◌, ◌++◌, length, get_or, drop, refl, sym, ap, ◌∙◌, arith, add-one, cond, ltb, inl, inr}
-use Rattle.std.specs.Prelude.{sum_by, count_by}
-use Rattle.std.specs.List.{list_all}
+use Rattle.std.proofs.Common.{◌≡◌, ℕ, suc, zero, ◌+◌, ◌<◌, Bool, true, false, List, [], ◌∷◌, ◌++◌, length, get_or, drop, refl, sym, ap, ◌∙◌, arith, add-one, cond, ltb, inl, inr}
+use Rattle.std.specs.Prelude.{sum_by}
 use Rattle.std.proofs.Math.Seq.{drop-cons}
 use Rattle.std.proofs.lemmas.Bool.{cases_Bool, and_parts}
 use Rattle.std.proofs.lemmas.List.Sums.{sum_by-cons, sum_by-append, sum_by_push}
 use Rattle.stat_defs.specs.declared.bins.Bin.{Bin}
 use Rattle.stat_defs.specs.declared.bins.BinCount.{BinCount}
-use Rattle.loglinear_bins.specs.Bins.{is_lawful, is_same, low_tenths, bin_of_value}
+use Rattle.loglinear_bins.specs.Bins.{is_same, low_tenths, bin_of_value}
 use Rattle.loglinear_bins.specs.Counts.{AreLawful, AreBinsOf, total, count_of, placed, added, merged}
 use Rattle.loglinear_bins.proofs.Places.{is_same-true}
 

@@ -1,5 +1,5 @@
 -- Loops over the places of a table.
-use Rattle.std.proofs.Common.{◌≡◌, ◌≢◌, Some, None, ℕ, suc, zero, ◌+◌, ◌*◌, ◌<◌, ◌≤◌, ◌-◌, ◌/◌, List, [], ◌∷◌, ◌++◌, append_assoc, append-nil, length, get_or, drop, refl, sym, ap, ◌∙◌, arith, add-one, cond, leb, Bool, true, false, inl, inr}
+use Rattle.std.proofs.Common.{◌≡◌, ◌≢◌, Some, None, ℕ, suc, ◌+◌, ◌*◌, ◌<◌, ◌≤◌, ◌-◌, ◌/◌, List, [], ◌∷◌, ◌++◌, append_assoc, append-nil, length, get_or, drop, refl, sym, ap, ◌∙◌, arith, add-one, cond, leb, Bool, true, false, inl, inr}
 use Rattle.std.specs.Prelude.{sum_by}
 use Rattle.std.proofs.Math.ListN.{drop_of_length-le}
 use Rattle.std.proofs.lemmas.Bool.{cases_lt, eq-eqb, ne_eqb, le-leb, lt-leb}
@@ -7,7 +7,7 @@ use Rattle.std.proofs.lemmas.List.Sums.{sum_by-cons, sum_by-le-sum_by, get_or-le
 use Rattle.stat_defs.specs.declared.bins.Bin.{Bin}
 use Rattle.stat_defs.specs.declared.bins.BinCount.{BinCount}
 use Rattle.loglinear_bins.specs.declared.place.TheConstants.{BIN_COUNT, MAX_COUNT}
-use Rattle.loglinear_bins.specs.Counts.{total, count_at_most, sum_of, value_at, rank, quantile_of}
+use Rattle.loglinear_bins.specs.Counts.{total, count_at_most, value_at, rank, quantile_of}
 use Rattle.loglinear_bins.specs.Bins.{low_thousandths, width_thousandths, largest_whole, mark_twentieths}
 use Rattle.loglinear_bins.specs.Table.{bin_at, listed, IsTable}
 use Rattle.loglinear_bins.proofs.Tables.{listed-drop-none, listed-drop-some, listed-nil, total-listed, total-view}

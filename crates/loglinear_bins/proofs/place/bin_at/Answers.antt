@@ -1,7 +1,5 @@
-use Rattle.std.proofs.Common.{◌≡◌, ◌+◌, ◌-◌, ◌*◌, ◌/◌, ◌%◌, ◌<◌, ◌≤◌, ℕ, ℤ, pos, w8, Fits, to_z, of_z, sym, ap, ◌∙◌, subst, true, arith}
+use Rattle.std.proofs.Common.{◌≡◌, ◌+◌, ◌-◌, ◌/◌, ◌%◌, ◌≤◌, ℕ, ℤ, pos, w8, to_z, sym, ap, ◌∙◌, arith}
 use Rattle.std.proofs.lemmas.Int.{to_z_pos}
-use Rattle.stat_defs.specs.declared.bins.Bin.{Bin}
-use Rattle.loglinear_bins.specs.Bins.{is_lawful}
 use Rattle.loglinear_bins.specs.Table.{bin_at as the_bin}
 use Rattle.loglinear_bins.proofs.Places.{bin_at-first, bin_at-later}
 use Rattle.loglinear_bins.proofs.Lawful.{is_lawful-bin_at}

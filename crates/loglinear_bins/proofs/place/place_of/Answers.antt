@@ -1,5 +1,5 @@
-use Rattle.std.proofs.Common.{◌≡◌, ◌+◌, ◌-◌, ◌*◌, ◌∙◌, sym}
-use Rattle.loglinear_bins.proofs.Places.{place_of-least, place_of-above, place_of-below}
+use Rattle.std.proofs.Common.{◌∙◌, sym}
+use Rattle.loglinear_bins.proofs.Places.{place_of-least, place_of-above}
 use Rattle.loglinear_bins.proofs.place.place_of.Goals as goal
 
 pub returns-then-steps-eq0-clause-place : goal.returns-then-steps-eq0-clause-place

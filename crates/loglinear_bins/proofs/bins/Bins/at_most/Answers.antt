@@ -1,6 +1,6 @@
-use Rattle.std.proofs.Common.{◌≡◌, ◌+◌, ◌<◌, ◌≤◌, get_or, length, sym, ap, ◌∙◌, arith}
+use Rattle.std.proofs.Common.{arith}
 use Rattle.loglinear_bins.specs.Counts.{count_at_most}
-use Rattle.loglinear_bins.proofs.Reading.{Shows, shown, sum_start, sum_step, sum_within, sum_end, share_at, share_at-empty, count_at_most-le}
+use Rattle.loglinear_bins.proofs.Reading.{shown, sum_start, sum_step, sum_within, sum_end, share_at, share_at-empty, count_at_most-le}
 use Rattle.loglinear_bins.proofs.bins.Bins.at_most.Goals as goal
 
 pub loop-place-init : goal.loop-place-init

@@ -1,4 +1,4 @@
-use Rattle.std.proofs.Common.{◌≡◌, ◌+◌, ◌<◌, ◌≤◌, refl, sym, ap, ◌∙◌, arith}
+use Rattle.std.proofs.Common.{refl, ap, ◌∙◌, arith}
 use Rattle.loglinear_bins.specs.Counts.{merged}
 use Rattle.loglinear_bins.specs.Table.{listed}
 use Rattle.loglinear_bins.proofs.Tables.{total-view}

@@ -1,4 +1,4 @@
-use Rattle.std.proofs.Common.{◌≡◌, ◌+◌, ◌<◌, ◌≤◌, sym, ap, ◌∙◌, arith, zero, pos}
+use Rattle.std.proofs.Common.{sym, ap, ◌∙◌, arith, pos}
 use Rattle.stat_defs.specs.declared.bins.BinCount.{BinCount}
 use Rattle.loglinear_bins.specs.Counts.{merged}
 use Rattle.std.proofs.Math.ListN.{drop_of_length-le}

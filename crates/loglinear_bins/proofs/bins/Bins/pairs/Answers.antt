@@ -1,6 +1,5 @@
-use Rattle.std.proofs.Common.{◌≡◌, ◌+◌, ◌<◌, ◌≤◌, [], ◌∷◌, ◌++◌, ◌∙◌, arith}
-use Rattle.loglinear_bins.specs.Counts.{IsBinList}
-use Rattle.loglinear_bins.proofs.Reading.{Shows, shown, pairs_some, pairs_none, pairs_end}
+use Rattle.std.proofs.Common.{◌∙◌, arith}
+use Rattle.loglinear_bins.proofs.Reading.{shown, pairs_some, pairs_none, pairs_end}
 use Rattle.loglinear_bins.proofs.Rising.{IsBinList-shown}
 use Rattle.loglinear_bins.proofs.bins.Bins.pairs.Goals as goal
 use Rattle.loglinear_bins.proofs.bins.Bins.pairs.Goals.{then-n-gt0+in_ok-push, else-n-gt0}

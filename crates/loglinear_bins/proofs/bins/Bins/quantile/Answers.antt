@@ -1,6 +1,5 @@
-use Rattle.std.proofs.Common.{◌≡◌, ◌≢◌, sym, ◌∙◌, refl}
+use Rattle.std.proofs.Common.{sym, ◌∙◌, refl}
 use Rattle.std.proofs.lemmas.Bool.{true≢false}
-use Rattle.loglinear_bins.specs.Counts.{total}
 use Rattle.loglinear_bins.proofs.Tables.{total-view}
 use Rattle.loglinear_bins.proofs.Reading.{quantile_of-none, quantile_of-some}
 use Rattle.loglinear_bins.proofs.bins.Bins.quantile.Goals as goal

@@ -1,7 +1,6 @@
-use Rattle.std.proofs.Common.{◌≡◌, ◌+◌, ◌*◌, ◌^◌, ◌<◌, ◌≤◌, refl, arith, add-one}
-use Rattle.loglinear_bins.specs.declared.place.TheConstants.{MAX_COUNT}
-use Rattle.loglinear_bins.specs.Counts.{sum_of, total}
-use Rattle.loglinear_bins.proofs.Reading.{Shows, shown, sum_start, sum_step, sum_end, sum-listed-drop, mark_of, mark_of-empty}
+use Rattle.std.proofs.Common.{refl, arith, add-one}
+use Rattle.loglinear_bins.specs.Counts.{sum_of}
+use Rattle.loglinear_bins.proofs.Reading.{shown, sum_start, sum_step, sum_end, sum-listed-drop, mark_of, mark_of-empty}
 use Rattle.loglinear_bins.proofs.bins.Bins.sum_twentieths.Goals as goal
 
 pub loop-place-init : goal.loop-place-init

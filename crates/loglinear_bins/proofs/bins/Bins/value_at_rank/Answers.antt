@@ -1,6 +1,6 @@
-use Rattle.std.proofs.Common.{◌≡◌, refl, ap, ◌+◌, ◌-◌, ◌*◌, ◌/◌, ◌<◌, ◌≤◌, sym, ◌∙◌, arith}
+use Rattle.std.proofs.Common.{ap, sym, ◌∙◌, arith}
 use Rattle.loglinear_bins.specs.Counts.{value_at}
-use Rattle.loglinear_bins.proofs.Reading.{Shows, shown, value_at-here, value_at-later, value_at-none, value_at-end}
+use Rattle.loglinear_bins.proofs.Reading.{shown, value_at-here, value_at-later, value_at-none, value_at-end}
 use Rattle.loglinear_bins.proofs.bins.Bins.value_at_rank.Goals as goal
 use Rattle.loglinear_bins.proofs.bins.Bins.value_at_rank.Goals.{then-n-gt0+else-rest-n, else-n-gt0}
 
