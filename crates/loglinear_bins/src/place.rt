@@ -6,10 +6,10 @@ ghost use Rattle.loglinear_bins.specs.Table.{place_of as the_place, bin_at as th
 use stat_defs::Bin;
 
 /// The greatest exponent of a bin of 64-bit values.
-pub const GREATEST_EXP: usize = 19;
+const GREATEST_EXP: usize = 19;
 
 /// The greatest first two digits at that exponent.
-pub const GREATEST_VAL: usize = 18;
+const GREATEST_VAL: usize = 18;
 
 /// How many bins 64-bit values meet: 10 at the least exponent and 90 at each other one, up to the greatest bin.
 pub const BIN_COUNT: usize = 90 * (GREATEST_EXP - 1) + GREATEST_VAL + 1;
