@@ -6,7 +6,7 @@ use Rattle.loglinear_bins.specs.Table.{bin_at}
 use Rattle.loglinear_bins.proofs.Powers.{pow_ten_more, pow_ten_some}
 use Rattle.loglinear_bins.proofs.Places.{is_same-true, bin_at-first, bin_at-row}
 
-pub low_tenths-at : (val e : ℕ) → low_tenths (record { val = val; exp = pos e }) ≡ val * 10 ^ e
+low_tenths-at : (val e : ℕ) → low_tenths (record { val = val; exp = pos e }) ≡ val * 10 ^ e
 unfolding low_tenths
 low_tenths-at val e = refl
 

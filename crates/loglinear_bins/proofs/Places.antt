@@ -1,10 +1,9 @@
 -- The place of a bin in the table, and the bin at a place.
-use Rattle.std.proofs.Common.{◌≡◌, ◌≢◌, ℕ, suc, zero, ℤ, pos, negsuc, ◌+◌, ◌-◌, ◌*◌, ◌/◌, ◌%◌, ◌<◌, ◌≤◌, true, ◌&&◌, ◌||◌, eqb, leb, ltb, refl, sym, ap, ◌∙◌, arith, ◌⊎◌, inl, inr}
-use Rattle.std.proofs.lemmas.Bool.{and_parts, and_from, or_cases, eqb-true, eq-eqb, leb-true, lt-ltb, ltb-true, le-ltb, false≢true}
+use Rattle.std.proofs.Common.{◌≡◌, ◌≢◌, ℕ, suc, zero, ℤ, pos, negsuc, ◌+◌, ◌-◌, ◌*◌, ◌/◌, ◌%◌, ◌<◌, ◌≤◌, Bool, true, ◌&&◌, eqb, leb, refl, sym, ap, ◌∙◌, arith, ◌⊎◌, inl, inr}
+use Rattle.std.proofs.lemmas.Bool.{and_parts, and_from, eqb-true, eq-eqb, leb-true, lt-ltb, le-ltb, false≢true}
 use Rattle.std.proofs.lemmas.Bool.Decides.{Decides-int_eq}
 use Rattle.std.proofs.lemmas.Nat.{div-mul-add, mod-mul-add}
 use Rattle.stat_defs.specs.declared.bins.Bin.{Bin}
-use Rattle.loglinear_bins.specs.declared.place.TheConstants.{BIN_COUNT, GREATEST_EXP, GREATEST_VAL}
 use Rattle.loglinear_bins.specs.Bins.{steps, is_lawful, is_lawful_at, is_same}
 use Rattle.loglinear_bins.specs.Table.{place_at, place_of, bin_at}
 
@@ -45,7 +44,6 @@ pub record Later (bin : Bin) : Type 0 where
   pub exp : bin.exp ≡ pos (suc row)
   pub low : 10 ≤ bin.val
   pub high : bin.val ≤ 99
-  pub within : 90 * row + bin.val < BIN_COUNT
 
 first-from : (val : ℕ) → (eqb (val % 10) 0 && leb val 90) ≡ true → First (record { val = val; exp = pos 0 })
 first-from val holds =
@@ -55,34 +53,18 @@ first-from val holds =
     let tens : val ≡ 10 * (val / 10) = omega arith in
     record { digit = val / 10; small = omega arith; is = ap (λ (n : ℕ). record { val = n; exp = pos 0 }) tens }
 
-later-from : (val e : ℕ) → (leb 10 val && leb val 99 && (ltb (suc e) GREATEST_EXP || (eqb (suc e) GREATEST_EXP && leb val GREATEST_VAL))) ≡ true → Later (record { val = val; exp = pos (suc e) })
-later-from val e holds =
-    let parts = and_parts _ _ holds in
-    let ends = and_parts _ _ parts.0 in
-    let low : 10 ≤ val = leb-true _ _ ends.0 in
-    let high : val ≤ 99 = leb-true _ _ ends.1 in
-    record {
-      row = e;
-      exp = refl;
-      low = low;
-      high = high;
-      within = elim (or_cases _ _ parts.1) [
-        | inl below ↦ let h : suc e < GREATEST_EXP = ltb-true _ _ below in omega arith
-        | inr last ↦
-            let both = and_parts _ _ last in
-            let at : suc e ≡ GREATEST_EXP = eqb-true _ _ both.0 in
-            let most : val ≤ GREATEST_VAL = leb-true _ _ both.1 in
-            omega arith
-      ];
-    }
+later-from : (val e : ℕ) (rest : Bool) → (leb 10 val && leb val 99 && rest) ≡ true → Later (record { val = val; exp = pos (suc e) })
+later-from val e rest holds =
+    let ends = and_parts _ _ (and_parts _ _ holds).0 in
+    record { row = e; exp = refl; low = leb-true _ _ ends.0; high = leb-true _ _ ends.1 }
 
 cases-at : (val : ℕ) (exp : ℤ) → is_lawful_at val exp ≡ true → First (record { val = val; exp = exp }) ⊎ Later (record { val = val; exp = exp })
 cases-at val (pos zero) holds = inl (first-from val holds)
-cases-at val (pos (suc e)) holds = inr (later-from val e holds)
+cases-at val (pos (suc e)) holds = inr (later-from val e _ holds)
 cases-at val (negsuc e) holds = absurd (false≢true holds)
 
 -- a lawful bin is one or the other
-pub lawful_cases : (bin : Bin) → is_lawful bin ≡ true → First bin ⊎ Later bin
+lawful_cases : (bin : Bin) → is_lawful bin ≡ true → First bin ⊎ Later bin
 lawful_cases bin holds = cases-at bin.val bin.exp holds
 
 place_of-first : (val : ℕ) → place_of (record { val = val; exp = pos 0 }) ≡ val / 10
@@ -125,9 +107,3 @@ bin_at-place_of bin holds = elim (lawful_cases bin holds) [
         let is : bin ≡ record { val = bin.val; exp = pos (suc l.row) } = ap (λ (z : ℤ). record { val = bin.val; exp = z }) l.exp in
         let place : place_of bin ≡ l.row * 90 + (bin.val - 10) + 10 = ap place_of is ∙ (place_of-later bin.val l.row ∙ omega (arith, l.low)) in
         bin_at-row (place_of bin) l.row (bin.val - 10) (omega (arith, l.low, l.high)) place ∙ (ap (λ (n : ℕ). record { val = n; exp = pos (l.row + 1) }) (omega (arith, l.low)) ∙ (ap (λ (n : ℕ). record { val = bin.val; exp = pos n }) (omega arith) ∙ sym is))
-
-pub place_of-below : (bin : Bin) → is_lawful bin ≡ true → place_of bin < BIN_COUNT
-place_of-below bin holds = elim (lawful_cases bin holds) [
-  | inl f ↦ let place : place_of bin ≡ 10 * f.digit / 10 = ap place_of f.is ∙ place_of-first (10 * f.digit) in omega (arith, f.small)
-  | inr l ↦ let place : place_of bin ≡ 90 * l.row + bin.val = ap (λ (z : ℤ). place_of (record { val = bin.val; exp = z })) l.exp ∙ place_of-later bin.val l.row in omega (arith, l.within)
-]

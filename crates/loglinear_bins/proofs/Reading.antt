@@ -3,14 +3,14 @@ use Rattle.std.proofs.Common.{◌≡◌, ◌≢◌, Some, None, ℕ, suc, ◌+�
 use Rattle.std.specs.Prelude.{sum_by}
 use Rattle.std.proofs.Math.ListN.{drop_of_length-le}
 use Rattle.std.proofs.lemmas.Bool.{cases_lt, eq-eqb, ne_eqb, le-leb, lt-leb}
-use Rattle.std.proofs.lemmas.List.Sums.{sum_by-cons, sum_by-le-sum_by, get_or-le-sum_by}
+use Rattle.std.proofs.lemmas.List.Sums.{sum_by-cons, sum_by-le-sum_by}
 use Rattle.stat_defs.specs.declared.bins.Bin.{Bin}
 use Rattle.stat_defs.specs.declared.bins.BinCount.{BinCount}
 use Rattle.loglinear_bins.specs.declared.place.TheConstants.{BIN_COUNT, MAX_COUNT}
 use Rattle.loglinear_bins.specs.Counts.{total, count_at_most, value_at, rank, quantile_of}
 use Rattle.loglinear_bins.specs.Bins.{low_thousandths, width_thousandths, largest_whole, mark_twentieths}
 use Rattle.loglinear_bins.specs.Table.{bin_at, listed, IsTable}
-use Rattle.loglinear_bins.proofs.Tables.{listed-drop-none, listed-drop-some, listed-nil, total-listed, total-view}
+use Rattle.loglinear_bins.proofs.Tables.{listed-drop-none, listed-drop-some, listed-nil, total-view}
 
 -- the counts that a loop goes over are those that contracts see
 pub record Shows (ns : List ℕ) (counts : List BinCount) : Type 0 where
@@ -32,7 +32,7 @@ sum-listed-drop f empty i ns short = elim (cases_lt 0 (get_or ns i 0)) [
 ]
 
 -- nothing is left after the last place
-pub sum-listed-end : (f : BinCount → ℕ) (i : ℕ) (ns : List ℕ) → length ns ≤ i → sum_by f (listed i (drop i ns)) ≡ 0
+sum-listed-end : (f : BinCount → ℕ) (i : ℕ) (ns : List ℕ) → length ns ≤ i → sum_by f (listed i (drop i ns)) ≡ 0
 sum-listed-end f i ns past = rw (drop_of_length-le ns past) (ap (sum_by f) (listed-nil i))
 
 -- a loop that adds each place's share, at its start, at a step, before the step's end, and at its end
@@ -72,10 +72,6 @@ mark_of c = c.count * mark_twentieths c.bin
 
 pub mark_of-empty : (bin : Bin) → mark_of (record { bin = bin; count = 0 }) ≡ 0
 mark_of-empty bin = omega arith
-
--- each count is at most the number of values
-pub count-le : (ns : List ℕ) (counts : List BinCount) (i : ℕ) → Shows ns counts → i < length ns → get_or ns i 0 ≤ MAX_COUNT
-count-le ns counts i shows short = omega (arith, get_or-le-sum_by (λ n. n) ns i 0 short, total-listed 0 ns, ap total shows.view, shows.few)
 
 -- the value of a rank in the place that holds it
 pub value_at-here : (i t : ℕ) (ns : List ℕ) → i < length ns → 0 < get_or ns i 0 → t ≤ get_or ns i 0 → value_at (listed i (drop i ns)) t ≡ low_thousandths (bin_at i) + width_thousandths (bin_at i) * t / get_or ns i 0

@@ -1,5 +1,5 @@
 -- A list of bins that is rising and without empty ones is what it adds up to.
-use Rattle.std.proofs.Common.{◌≡◌, ℕ, suc, zero, ◌+◌, ◌<◌, true, false, List, [], ◌∷◌, ◌++◌, length, map, get_or, refl, sym, ap, ◌∙◌, arith, ltb, append-nil, append_assoc}
+use Rattle.std.proofs.Common.{◌≡◌, ℕ, suc, zero, ◌+◌, ◌<◌, true, false, List, [], ◌∷◌, ◌++◌, length, get_or, refl, sym, ap, ◌∙◌, arith, ltb, append-nil, append_assoc}
 use Rattle.std.specs.List.{list_all}
 use Rattle.std.specs.List.Sorted.{IsStrictlyIncreasing}
 use Rattle.std.proofs.lemmas.Bool.{and_parts, ltb-true, le-ltb, false_from_ne_true}
@@ -7,10 +7,8 @@ use Rattle.stat_defs.specs.declared.bins.Bin.{Bin}
 use Rattle.stat_defs.specs.declared.bins.BinCount.{BinCount}
 use Rattle.loglinear_bins.specs.Bins.{is_same, low_tenths}
 use Rattle.loglinear_bins.specs.Counts.{IsBinList, placed, added, merged}
+use Rattle.loglinear_bins.proofs.Rising.{lows}
 use Rattle.loglinear_bins.proofs.Places.{is_same-true}
-
-abbrev lows : List BinCount → List ℕ
-lows counts = map (λ c. low_tenths c.bin) counts
 
 rising-tail : (x : ℕ) (xs : List ℕ) → IsStrictlyIncreasing (x ∷ xs) → IsStrictlyIncreasing xs
 rising-tail x xs rising k short = let next : suc k + 1 ≡ suc (k + 1) = omega arith in rw next at (rising (suc k) (omega arith))

@@ -24,7 +24,8 @@ all_some k [] = refl
 all_some k (zero ∷ ns) = all_some (suc k) ns
 all_some k (suc n ∷ ns) = and_from _ _ (lt-ltb 0 (suc n) (omega arith)) (all_some (suc k) ns)
 
-abbrev lows : List BinCount → List ℕ
+-- ten times the low ends
+abbrev pub lows : List BinCount → List ℕ
 lows counts = map (λ c. low_tenths c.bin) counts
 
 -- a bin at a lower place begins below the first listed one
@@ -35,7 +36,7 @@ first_above j k (zero ∷ ns) below some = first_above j (suc k) ns (omega arith
 first_above j k (suc n ∷ ns) below some = low_tenths-bin_at j k below
 
 -- a lower number in front of rising ones
-pub rising-cons : (x : ℕ) (xs : List ℕ) → (0 < length xs → x < get_or xs 0 0) → IsStrictlyIncreasing xs → IsStrictlyIncreasing (x ∷ xs)
+rising-cons : (x : ℕ) (xs : List ℕ) → (0 < length xs → x < get_or xs 0 0) → IsStrictlyIncreasing xs → IsStrictlyIncreasing (x ∷ xs)
 rising-cons x xs first rising zero short = first (omega arith)
 rising-cons x xs first rising (suc k) short = let next : suc k + 1 ≡ suc (k + 1) = omega arith in rw next (rising k (omega arith))
 

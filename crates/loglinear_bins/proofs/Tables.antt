@@ -21,7 +21,7 @@ placed-front k place n (zero ∷ ns) below = placed-front k (suc place) n ns (om
 placed-front k place n (suc m ∷ ns) below = rw (other_bin_back k place below, lt-ltb _ _ (low_tenths-bin_at k place below)) refl
 
 -- a greater count at one place lists its bin with that many more
-pub listed-set : (k i n : ℕ) (ns : List ℕ) → i < length ns → listed k (set ns i (get_or ns i 0 + suc n)) ≡ placed (listed k ns) (bin_at (k + i)) (suc n)
+listed-set : (k i n : ℕ) (ns : List ℕ) → i < length ns → listed k (set ns i (get_or ns i 0 + suc n)) ≡ placed (listed k ns) (bin_at (k + i)) (suc n)
 unfolding listed
 listed-set k i n [] short = absurd (omega arith)
 listed-set k zero n (zero ∷ ns) short =

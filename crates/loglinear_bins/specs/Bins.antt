@@ -6,7 +6,8 @@ use Rattle.std.specs.Ordering.{int_eq}
 use Rattle.stat_defs.specs.declared.bins.Bin.{Bin}
 use Rattle.loglinear_bins.specs.declared.place.TheConstants.{GREATEST_EXP, GREATEST_VAL}
 
--- the bin of a number with these decimal digits, the highest first: its first two digits, or ten times its one digit, and how many digits follow the first one; the number 0 has no digits here
+-- the bin of a number with these decimal digits, the highest first: its first two digits, or ten times its one digit,
+-- and how many digits follow the first one; the number 0 has no digits here
 abbrev pub bin_of_digits : List ℕ → Bin
 bin_of_digits [] = record { val = 0; exp = pos 0 }
 bin_of_digits (first ∷ []) = record { val = 10 * first; exp = pos 0 }
@@ -21,11 +22,14 @@ abbrev pub steps : ℤ → ℕ
 steps (pos e) = e
 steps (negsuc e) = 0
 
--- at the least exponent val is a multiple of ten up to 90, and at any other it has two digits, which are at most 18 at the greatest exponent: no value of 64 bits is above that
+-- at the least exponent val is a multiple of ten up to 90, and at any other it has two digits,
+-- which are at most 18 at the greatest exponent: no value of 64 bits is above that
 abbrev pub is_lawful_at : ℕ → ℤ → Bool
 is_lawful_at val (negsuc e) = false
 is_lawful_at val (pos zero) = val % 10 == 0 && nat_le val 90
-is_lawful_at val (pos (suc e)) = nat_le 10 val && nat_le val 99 && (nat_lt (suc e) GREATEST_EXP || (suc e == GREATEST_EXP && nat_le val GREATEST_VAL))
+is_lawful_at val (pos (suc e)) =
+    nat_le 10 val && nat_le val 99
+    && (nat_lt (suc e) GREATEST_EXP || (suc e == GREATEST_EXP && nat_le val GREATEST_VAL))
 
 -- the bins that values of 64 bits meet
 abbrev pub is_lawful : Bin → Bool

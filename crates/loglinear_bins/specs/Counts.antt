@@ -1,4 +1,5 @@
--- Lists of bins with their counts, rising and without empty bins, and what a histogram tells of them (Envoy's histograms over circllhist; thousandths and twentieths are this project's own units).
+-- Lists of bins with their counts, rising and without empty bins, and what a histogram tells of them
+-- (Envoy's histograms over circllhist; thousandths and twentieths are this project's own units).
 use Rattle.std.specs.Prelude.{◌≡◌, ℕ, zero, suc, ◌+◌, ◌-◌, ◌*◌, ◌/◌, ◌==◌, nat_le, nat_lt, if◌then◌else◌, List, [], ◌∷◌, Option, Some, None, IsTrue, map, sum_by, count_by}
 use Rattle.std.specs.List.{list_all}
 use Rattle.std.specs.List.Sorted.{IsStrictlyIncreasing}
@@ -31,7 +32,10 @@ pub record AreBinsOf (counts : List BinCount) (values : List ℕ) : Type 0 where
 -- `n` more in this bin, which takes its place among the rising ones; `n` is not 0
 abbrev pub placed : List BinCount → Bin → ℕ → List BinCount
 placed [] bin n = (record { bin = bin; count = n }) ∷ []
-placed (c ∷ cs) bin n = if is_same c.bin bin then (record { bin = c.bin; count = c.count + n }) ∷ cs else if nat_lt (low_tenths bin) (low_tenths c.bin) then (record { bin = bin; count = n }) ∷ c ∷ cs else c ∷ placed cs bin n
+placed (c ∷ cs) bin n =
+    if is_same c.bin bin then (record { bin = c.bin; count = c.count + n }) ∷ cs
+    else if nat_lt (low_tenths bin) (low_tenths c.bin) then (record { bin = bin; count = n }) ∷ c ∷ cs
+    else c ∷ placed cs bin n
 
 -- `n` more in this bin
 abbrev pub added : List BinCount → Bin → ℕ → List BinCount
@@ -55,10 +59,13 @@ sum_of counts = sum_by (λ c. c.count * mark_twentieths c.bin) counts
 abbrev pub rank : ℕ → ℕ → ℕ
 rank q n = (q * n + 999) / 1000
 
--- a thousand times the value of a rank: the low end of the bin that holds it, plus the bin's width times the rank less the count before the bin over the bin's count; rank 0 is the low end of the first bin
+-- a thousand times the value of a rank: the low end of the bin that holds it, plus the bin's width
+-- times the rank less the count before the bin over the bin's count; rank 0 is the low end of the first bin
 abbrev pub value_at : List BinCount → ℕ → ℕ
 value_at [] t = 0
-value_at (c ∷ cs) t = if nat_le t c.count then low_thousandths c.bin + width_thousandths c.bin * t / c.count else value_at cs (t - c.count)
+value_at (c ∷ cs) t =
+    if nat_le t c.count then low_thousandths c.bin + width_thousandths c.bin * t / c.count
+    else value_at cs (t - c.count)
 
 -- a thousand times the quantile, in thousandths; there is none without values
 abbrev pub quantile_of : List BinCount → ℕ → Option ℕ

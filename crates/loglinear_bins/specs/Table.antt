@@ -14,7 +14,9 @@ unfoldable pub place_of : Bin → ℕ
 place_of bin = place_at bin.val (steps bin.exp)
 
 unfoldable pub bin_at : ℕ → Bin
-bin_at place = if nat_lt place 10 then record { val = 10 * place; exp = pos 0 } else record { val = (place - 10) % 90 + 10; exp = pos ((place - 10) / 90 + 1) }
+bin_at place =
+    if nat_lt place 10 then record { val = 10 * place; exp = pos 0 }
+    else record { val = (place - 10) % 90 + 10; exp = pos ((place - 10) / 90 + 1) }
 
 -- the bins of the places from this one on that are not empty, with their counts
 unfoldable pub listed : ℕ → List ℕ → List BinCount

@@ -10,7 +10,8 @@ use stat_defs::{Bin, BinCount, BinList, Bound, List, NoMemory};
 use std::alloc::Global;
 use std::marker::Model;
 
-/// How many values fell into each bin. Contracts see the bins that are not empty, rising, with their counts.
+/// A histogram: how many values fell into each bin of circllhist.
+/// Contracts see the bins that are not empty, rising, with their counts.
 #[derive(Drop, Debug)]
 pub struct Bins {
     counts: Vec<u64>,
@@ -99,7 +100,7 @@ impl Bins {
         self.total
     }
 
-    /// The number of values in bins whose largest whole number is at most a bound.
+    /// How many values are in bins whose largest whole number is at most a bound.
     pub fn at_most(&self, bound: Bound) -> u64
         ensures { result ≡ count_at_most self.now bound.halves }
     {
@@ -121,7 +122,8 @@ impl Bins {
         sum
     }
 
-    /// A thousand times the quantile `q`, in thousandths, or `None` where there are no values.
+    /// A thousand times the quantile `q`, which is in thousandths, or `None` where there are no values.
+    /// It lies as far into its bin as the rank, rounded up, among the values of the bin.
     pub fn quantile(&self, q: u32) -> Option<u128>
         requires { q ≤ 1000 }
         ensures value { result ≡ quantile_of self.now q }
@@ -134,7 +136,7 @@ impl Bins {
         Some(self.value_at_rank(rank))
     }
 
-    /// A thousand times the value of a rank.
+    /// A thousand times the value of a rank, or 0 of a rank above the number of values.
     fn value_at_rank(&self, rank: u64) -> u128
         ensures { result ≡ value_at self.now rank }
     {

@@ -36,7 +36,8 @@ pub(crate) fn power_of_ten(exp: usize) -> u64
     POWERS[exp]
 }
 
-/// At most one less or as many as the digits after the first one of a number with this binary logarithm: 1233 / 4096 is just above the logarithm of 2.
+/// How many digits follow the first one of a number with this binary logarithm, or one more.
+/// 1233 / 4096 is just above the decimal logarithm of 2.
 fn digits_guessed(log: u32) -> usize
     requires { log < 64 }
     ensures bound { result < 20 }

@@ -14,7 +14,7 @@ const GREATEST_VAL: usize = 18;
 /// How many bins 64-bit values meet: 10 at the least exponent and 90 at each other one, up to the greatest bin.
 pub const BIN_COUNT: usize = 90 * (GREATEST_EXP - 1) + GREATEST_VAL + 1;
 
-/// The most values of one histogram.
+/// The most values of one histogram, as this project limits it.
 pub const MAX_COUNT: u64 = 1 << 40;
 
 /// How far the exponent of a bin is above the least one.
