@@ -1,0 +1,11 @@
+pub mod Powers
+pub mod Leading
+pub mod Places
+pub mod Order
+pub mod Lawful
+pub mod Tables
+pub mod Reading
+pub mod Rising
+pub mod Merging
+pub mod Adding
+pub mod Restored

@@ -1,0 +1,8 @@
+use Rattle.std.proofs.Common.{ap, ◌∙◌}
+use Rattle.loglinear_bins.specs.Table.{listed}
+use Rattle.loglinear_bins.specs.declared.place.TheConstants.{BIN_COUNT}
+use Rattle.loglinear_bins.proofs.Tables.{listed-replicate}
+use Rattle.loglinear_bins.proofs.bins.Bins.new.Goals as goal
+
+pub returns : goal.returns
+returns c = ap (listed 0) (c.in_ok-vec.ensures.items_if_clones_equal (λ y same. same)) ∙ listed-replicate 0 BIN_COUNT

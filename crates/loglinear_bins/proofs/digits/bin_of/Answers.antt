@@ -1,0 +1,22 @@
+use Rattle.std.proofs.Common.{◌≡◌, ◌-◌, w8, pos, sym, arith, to_z}
+use Rattle.std.proofs.lemmas.Int.{to_z_pos}
+use Rattle.loglinear_bins.proofs.Powers.{pow_ten_some}
+use Rattle.loglinear_bins.proofs.Leading.{bin-small, bin-large, two_digits}
+use Rattle.loglinear_bins.proofs.digits.bin_of.Goals as goal
+
+pub returns-then-v-lt10 : goal.returns-then-v-lt10
+returns-then-v-lt10 c = sym (bin-small c.args.v c.if-v-lt10.true)
+
+pub nonzero_div-val : goal.nonzero_div-val
+nonzero_div-val c = omega (arith, pow_ten_some (c.digits_after_first-exp.result - 1))
+
+pub overflow_cast-result-2 : goal.overflow_cast-result-2
+overflow_cast-result-2 c =
+    let exp = c.digits_after_first-exp in
+    rw c.power_of_ten.ensures (omega (arith, two_digits exp.result c.args.v c.if-v-lt10.false exp.ensures.reached exp.ensures.below_next))
+
+pub returns : goal.returns
+returns c =
+    let exp = c.digits_after_first-exp in
+    let signed : to_z w8 exp.result ≡ pos exp.result = to_z_pos w8 exp.result (omega arith) in
+    rw (signed, c.power_of_ten.ensures) (sym (bin-large exp.result c.args.v c.if-v-lt10.false exp.ensures.reached exp.ensures.below_next))

@@ -1,0 +1,15 @@
+//! Histograms in the log-linear bins of circllhist: two significant decimal digits and a power of ten.
+#![tactic(auto)]
+
+mod bins;
+mod digits;
+mod laws;
+mod measures;
+mod place;
+#[cfg(test)]
+mod tests;
+
+pub use bins::Bins;
+pub use digits::bin_of;
+pub use laws::{merge_law, record_law};
+pub use place::{BIN_COUNT, MAX_COUNT};
