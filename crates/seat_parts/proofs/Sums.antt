@@ -20,15 +20,6 @@ module _ {A : Type 0} where
   total-bound f weight b P each [] e = omega arith
   total-bound f weight b P each (x ∷ xs) e = omega (arith, each x (All-head P x xs e), total-bound f weight b P each xs (All-tail P x xs e), add-mul (weight x) (total weight xs) b)
 
-  -- terms that are equal wherever a fact holds
-  pub total-same : (f g : A → ℕ) (P : A → Type 0) → ((x : A) → P x → f x ≡ g x) → (l : List A) → All P l → total f l ≡ total g l
-  total-same f g P each [] e = refl
-  total-same f g P each (x ∷ xs) e = omega (arith, each x (All-head P x xs e), total-same f g P each xs (All-tail P x xs e))
-
-  pub total-ones : (l : List A) → total (λ (_ : A). 1) l ≡ length l
-  total-ones [] = refl
-  total-ones (x ∷ xs) = omega (arith, total-ones xs)
-
   -- where the weight is 0 in all, each term that a weight of 0 makes 0 is 0
   pub total-none : (f weight : A → ℕ) (P : A → Type 0) → ((x : A) → P x → weight x ≡ 0 → f x ≡ 0) → (l : List A) → All P l → total weight l ≡ 0 → total f l ≡ 0
   total-none f weight P each [] e z = refl

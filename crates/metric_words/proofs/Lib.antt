@@ -1,0 +1,3 @@
+mod Keeps
+mod Deals
+mod Ends
