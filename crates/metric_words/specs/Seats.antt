@@ -69,6 +69,7 @@ IsNewWorker id w = (worker_bank w ≡ id) × (worker_steps w ≡ [])
 
 -- the seats of a new bank: the flusher's has the number 0, the workers' those from 1 to W in order, and the reader's W + 1
 pub record AreNew (id : TableId) (workers : ℕ) (s : WordSeats) : Type 0 where
+  pub workers_count : length s.workers.items ≡ workers
   pub workers_new : All (IsNewWorker id) s.workers.items
   pub workers_numbers : map worker_number s.workers.items ≡ range_with_len 1 workers
   pub flusher_bank : flush_bank s.flusher ≡ id

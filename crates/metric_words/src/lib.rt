@@ -15,3 +15,6 @@ pub use closing::CounterClose;
 pub use limits::{MAX_SIZE, MAX_UNITS, MAX_WORKERS};
 pub use seats::{FlushSeat, ReadSeat, WordSeats, WorkerSeat};
 pub use view::{BankKey, CountKind, CountPart, CountStep, CountView, SeatRole};
+
+#[cfg(test)]
+mod tests;

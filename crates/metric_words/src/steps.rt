@@ -23,13 +23,10 @@ impl CounterBank {
         ensures number { worker_number seat.new ≡ worker_number seat.old }
         ensures steps { (x y : ℕ) × (worker_steps seat.new ≡ step_of Second id.0 n y ∷ step_of First id.0 n x ∷ worker_steps seat.old) }
     {
-        let word = 2 * id.0 as usize;
-        self.table
-            .shared
-            .fetch_add::<AddFirst>(&mut seat.seat, word, n as u64);
-        self.table
-            .shared
-            .fetch_add::<AddSecond>(&mut seat.seat, word + 1, n as u64);
+        let (value, pending) = (2 * id.0 as usize, 2 * id.0 as usize + 1);
+        let shared = &self.table.shared;
+        shared.fetch_add::<AddFirst>(&mut seat.seat, value, n as u64);
+        shared.fetch_add::<AddSecond>(&mut seat.seat, pending, n as u64);
     }
 
     /// Takes the units that are pending, by one atomic swap with 0, and gives them.
@@ -45,9 +42,8 @@ impl CounterBank {
         ensures whole { length (flush_taken seat.new) ≡ flush_workers seat.new →
             latches id.0 (flush_steps seat.new) ≡ total (λ p. seconds id.0 p.steps) (flush_taken seat.new) }
     {
-        self.table
-            .shared
-            .swap::<Latching>(&mut seat.seat, 2 * id.0 as usize + 1, 0)
+        let word = 2 * id.0 as usize + 1;
+        self.table.shared.swap::<Latching>(&mut seat.seat, word, 0)
     }
 
     /// Reads the counter's value by one atomic load. It may be ahead of the latched and pending units by adds that are under way.
@@ -60,9 +56,8 @@ impl CounterBank {
         // no earlier load of the counter found more
         ensures rises { Rises id.0 (read_steps seat.old) result }
     {
-        self.table
-            .shared
-            .load::<Loading>(&mut seat.seat, 2 * id.0 as usize)
+        let word = 2 * id.0 as usize;
+        self.table.shared.load::<Loading>(&mut seat.seat, word)
     }
 
     /// Joins a worker's seat into the flusher's, which keeps its list under its number.

@@ -27,6 +27,7 @@ loop-preserved c = let n = c.loop.counter in let w = c.args.workers in let i = c
     let p = part-of _ _ (c.split_seat-worker.ensures.4 ∙ k.0) in let P = IsNewWorker c.args.seat.table_id in (
       search rules,
       c.split_seat-worker.ensures.2 ∙ k.1,
-      numbers-push c.loop.list.items _ _ n i.2 items (ap (λ z. z.seat) p.2),
-      subst (All P) (sym items) (All-push P c.loop.list.items _ i.3 ((c.split_seat-worker.ensures.3 ∙ i.0), ap (λ z. z.steps) p.2)),
+      search rules,
+      numbers-push c.loop.list.items _ _ n i.3 items (ap (λ z. z.seat) p.2),
+      subst (All P) (sym items) (All-push P c.loop.list.items _ i.4 ((c.split_seat-worker.ensures.3 ∙ i.0), ap (λ z. z.steps) p.2)),
     )
