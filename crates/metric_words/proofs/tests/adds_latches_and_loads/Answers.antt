@@ -1,4 +1,4 @@
-use Rattle.std.proofs.Common.{rules, arith}
+use Rattle.std.proofs.Common.{rules}
 use Rattle.metric_words.proofs.tests.adds_latches_and_loads.Goals as goal
 
 pub close-requires : goal.close-requires
