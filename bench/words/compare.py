@@ -1,0 +1,47 @@
+#!/usr/bin/env python3
+"""Runs the words' benchmark and the plain Rust program in turn, and prints nanoseconds per call and their ratio.
+
+usage: bench/words/compare.py [ROUNDS]      at the top of the repository, with `rt` and `cargo` on the path
+
+Both programs print a line "NAME: X ns" per measure when they are given the word `time`. Each figure is the median of all rounds,
+and the ratio the median of the rounds' ratios, since the two programs of one round ran one after the other.
+"""
+import re
+import statistics
+import subprocess
+import sys
+from pathlib import Path
+
+TOP = Path(__file__).resolve().parents[2]
+OURS = TOP / "crates/words_bench/out/words_bench"
+PLAIN = TOP / "bench/words/target/release/words"
+LIMIT = 1.2
+
+
+def build():
+    subprocess.run(["rt", "run"], cwd=TOP / "crates/words_bench", check=True, stdout=subprocess.DEVNULL)
+    subprocess.run(["cargo", "build", "--release", "--quiet", "--offline"], cwd=TOP / "bench/words", check=True)
+
+
+def measure(program):
+    text = subprocess.run([str(program), "time"], check=True, capture_output=True, text=True).stdout
+    return {name: float(ns) for name, ns in re.findall(r"^(.*): ([0-9.]+) ns$", text, re.M)}
+
+
+def main():
+    rounds = int(sys.argv[1]) if len(sys.argv) > 1 else 9
+    build()
+    ours, plain = [], []
+    for _ in range(rounds):
+        ours.append(measure(OURS))
+        plain.append(measure(PLAIN))
+    print(f"{'measure':40} {'words':>10} {'plain Rust':>10} {'ratio':>6}")
+    for name in ours[0]:
+        ratio = statistics.median(o[name] / p[name] for o, p in zip(ours, plain))
+        a = statistics.median(o[name] for o in ours)
+        b = statistics.median(p[name] for p in plain)
+        print(f"{name:40} {a:8.2f} ns {b:8.2f} ns {ratio:6.2f}" + ("" if ratio <= LIMIT else f"   above {LIMIT}"))
+
+
+if __name__ == "__main__":
+    main()

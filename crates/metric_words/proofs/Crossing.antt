@@ -1,0 +1,15 @@
+-- Threads may share the seats of a bank.
+use denote.Param.Send.{IsSync, sendable}
+use Rattle.seat_parts.proofs.Crossing.{seat_sync}
+use Rattle.metric_words.specs.contracts.seats.WorkerSeat as worker
+use Rattle.metric_words.specs.contracts.seats.FlushSeat as flush
+use Rattle.metric_words.specs.contracts.seats.ReadSeat as reader
+
+pub worker_sync : IsSync worker.the_row
+worker_sync = search (seat_sync, sendable) depth 20
+
+pub flush_sync : IsSync flush.the_row
+flush_sync = search (seat_sync, sendable) depth 20
+
+pub reader_sync : IsSync reader.the_row
+reader_sync = search (seat_sync, sendable) depth 20

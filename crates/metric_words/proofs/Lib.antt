@@ -1,0 +1,4 @@
+mod Keeps
+mod Deals
+mod Ends
+pub mod Crossing
