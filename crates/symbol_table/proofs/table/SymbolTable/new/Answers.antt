@@ -1,0 +1,6 @@
+use Rattle.std.proofs.Common.{refl}
+use Rattle.symbol_table.proofs.Whole.{empty_kept}
+use Rattle.symbol_table.proofs.table.SymbolTable.new.Goals as goal
+
+pub invariant_of-result : goal.invariant_of-result
+invariant_of-result c = empty_kept _ c.new.ensures.items c.new-2.ensures.empty refl refl

@@ -1,0 +1,4 @@
+pub mod Drawing
+pub mod Table
+pub mod Kept
+pub mod Slots
