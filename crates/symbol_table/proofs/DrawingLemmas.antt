@@ -151,7 +151,7 @@ holds_on m t n s k d h =
 pub draws_after : (m : Table) (t : List ℕ) (n : ℕ) (ts : List (List ℕ)) (ns : List ℕ) → Draws (Holds m) t n → DrawsAll (with_use (Holds m) t n) ts ns → DrawsAll (Holds (counted m t n)) ts ns
 draws_after m t n ts ns d rest = DrawsAll_same (with_use (Holds m) t n) (Holds (counted m t n)) (counted_same m t n d) ts ns rest
 
-holds_all : (m : Table) (t : List ℕ) (n : ℕ) (ts : List (List ℕ)) (ns : List ℕ) → DrawsAll (Holds m) ts ns → Holds m t n → Holds (counted_all m ts ns) t n
+pub holds_all : (m : Table) (t : List ℕ) (n : ℕ) (ts : List (List ℕ)) (ns : List ℕ) → DrawsAll (Holds m) ts ns → Holds m t n → Holds (counted_all m ts ns) t n
 holds_all m t n [] [] d h = h
 holds_all m t n [] (k ∷ ns) d h = absurd d
 holds_all m t n (s ∷ ts) [] d h = absurd d

@@ -1,59 +1,12 @@
 -- The numbers of a name counted once more, or once less, one after another; and the text of a name, token by token.
-use Rattle.std.proofs.Common.{◌≡◌, ◌≢◌, ℕ, suc, ◌+◌, ◌-◌, ◌<◌, ◌≤◌, ◌==◌, Bool, true, false, cond, Option, Some, None, List, [], ◌∷◌, ◌++◌, length, map as list_map, All, take, drop, get_or, refl, ap, sym, ◌∙◌, subst, arith, inl, inr, add-one, drop-cons, eq-eqb}
-use Rattle.std.proofs.lemmas.Bool.Decides.{nat_tests}
-use Rattle.std.proofs.lemmas.List.{take_more, flat_map_more, append-nil}
-use Rattle.std.proofs.lemmas.List.Sums.{sum_by-cons}
-use Rattle.std.specs.List.{count_by, flat_map, join_with_byte}
-use Rattle.std.specs.Cmp.{nat_cmp_total}
-use Rattle.std.specs.FinMap as map
-use Rattle.std.specs.FinMap.{get-insert, get-remove}
-use Rattle.symbol_table.specs.Table.{Table, uses_at, token_in, text_in, counted_again, counted_again_all, uncounted, uncounted_all}
-use Rattle.symbol_table.proofs.Counting.{same_key, other_key, eq_or, uses_of_got}
-
-abbrev uses_in : Option (List ℕ × ℕ) → ℕ
-uses_in o = elim o as (λ x. ℕ) [ None ↦ 0 | Some entry ↦ entry.1 ]
+use Rattle.std.proofs.Common.{◌≡◌, ℕ, suc, ◌+◌, ◌<◌, ◌≤◌, List, [], ◌∷◌, ◌++◌, length, map as list_map, All, take, drop, get_or, refl, ap, sym, ◌∙◌, subst, arith, add-one, drop-cons}
+use Rattle.std.proofs.lemmas.List.{take_more, flat_map_more, append-nil, drop_all}
+use Rattle.std.specs.List.{flat_map, join_with_byte}
+use Rattle.symbol_table.specs.Table.{Table, uses_at, times, token_in, text_in, counted_again, counted_again_all, uncounted, uncounted_all}
+use Rattle.symbol_table.proofs.Adding.{tick, times_cons, tick_same, one_more, one_less, uses_again_all, uses_uncounted_all}
 
 next_number : (numbers : List ℕ) (i : ℕ) → i < length numbers → drop i numbers ≡ get_or numbers i 0 ∷ drop (i + 1) numbers
 next_number numbers i below = rw add-one (drop-cons numbers i 0 below)
-
--- uses after an entry was written
-insert_here : (m : Table) (n : ℕ) (v : List ℕ × ℕ) (k : ℕ) → k ≡ n → uses_at (map.insert m n v) k ≡ v.1
-insert_here m n v k e = uses_of_got (map.insert m n v) k v (get-insert nat_cmp_total m n v k ∙ rw (e, same_key n) refl)
-
-insert_other : (m : Table) (n : ℕ) (v : List ℕ × ℕ) (k : ℕ) → k ≢ n → uses_at (map.insert m n v) k ≡ uses_at m k
-insert_other m n v k ne =
-    let e : map.get (map.insert m n v) k ≡ map.get m k = get-insert nat_cmp_total m n v k ∙ rw (other_key k n ne) refl in
-    ap uses_in e
-
-again_le : (m : Table) (n k : ℕ) → uses_at m k ≤ uses_at (counted_again m n) k
-again_le m n k = elim (eq_or k n) [
-  | inl e ↦ omega (arith, insert_here m n (token_in m n, uses_at m n + 1) k e, ap (λ (j : ℕ). uses_at m j) e)
-  | inr ne ↦ omega (arith, insert_other m n (token_in m n, uses_at m n + 1) k ne)
-]
-
-same_test : (n k : ℕ) → k ≡ n → (n == k) ≡ true
-same_test n k e = eq-eqb n k (sym e)
-
--- one use less at that number, and none elsewhere
-uncounted_case : (m : Table) (n k : ℕ) (b : Bool) → (uses_at m n == 1) ≡ b → uses_at m k ≤ uses_at (cond b (map.remove m n) (map.insert m n (token_in m n, uses_at m n - 1))) k + cond (n == k) 1 0
-uncounted_case m n k true t = elim (eq_or k n) [
-  | inl e ↦
-      let one : uses_at m n ≡ 1 = grind (arith, nat_tests) in
-      let here : ◌≡◌ {A = ℕ} (cond (n == k) 1 0) 1 = ap (λ (b : Bool). cond {A = ℕ} b 1 0) (same_test n k e) in
-      omega (arith, one, here, ap (λ (j : ℕ). uses_at m j) e)
-  | inr ne ↦
-      let g : map.get (map.remove m n) k ≡ map.get m k = get-remove nat_cmp_total m n k ∙ rw (other_key k n ne) refl in
-      omega (arith, ap uses_in g)
-]
-uncounted_case m n k false t = elim (eq_or k n) [
-  | inl e ↦
-      let here : ◌≡◌ {A = ℕ} (cond (n == k) 1 0) 1 = ap (λ (b : Bool). cond {A = ℕ} b 1 0) (same_test n k e) in
-      omega (arith, here, insert_here m n (token_in m n, uses_at m n - 1) k e, ap (λ (j : ℕ). uses_at m j) e)
-  | inr ne ↦ omega (arith, insert_other m n (token_in m n, uses_at m n - 1) k ne)
-]
-
-uncounted_le : (m : Table) (n k : ℕ) → uses_at m k ≤ uses_at (uncounted m n) k + cond (n == k) 1 0
-uncounted_le m n k = uncounted_case m n k (uses_at m n == 1) refl
 
 -- what holds of all numbers from a place on
 from_next : (P : ℕ → Type 0) (n : ℕ) (rest : List ℕ) → All P (n ∷ rest) → P n × All P rest
@@ -72,25 +25,23 @@ module _ (m m' : Table) (numbers : List ℕ) (i : ℕ) (below : i < length numbe
       λ k d less.
       let n = get_or (drop (i + 1) numbers) k d in
       let old : 0 < uses_at m n = rest k d less in
-      subst (λ (t : Table). 0 < uses_at t n) (sym is) (omega (arith, old, again_le m (get_or numbers i 0) n))
+      subst (λ (t : Table). 0 < uses_at t n) (sym is) (omega (arith, old, one_more m (get_or numbers i 0) (token_in m (get_or numbers i 0)) n))
 
   pub dropped_rest : m' ≡ uncounted m (get_or numbers i 0) → uncounted_all m' (drop (i + 1) numbers) ≡ uncounted_all m (drop i numbers)
   dropped_rest is = ap (λ (t : Table). uncounted_all t (drop (i + 1) numbers)) is ∙ ap (uncounted_all m) (sym (next_number numbers i below))
 
-  counts_next : (k : ℕ) → count_by (λ n. n == k) (drop i numbers) ≡ cond (get_or numbers i 0 == k) 1 0 + count_by (λ n. n == k) (drop (i + 1) numbers)
-  counts_next k = ap (count_by (λ n. n == k)) (next_number numbers i below) ∙ sum_by-cons (λ n. cond (n == k) 1 0) (get_or numbers i 0) (drop (i + 1) numbers)
+  counts_next : (k : ℕ) → times k (drop i numbers) ≡ tick (get_or numbers i 0) k + times k (drop (i + 1) numbers)
+  counts_next k = ap (times k) (next_number numbers i below) ∙ times_cons k (get_or numbers i 0) (drop (i + 1) numbers)
 
-  pub next_counted : ((n : ℕ) → count_by (λ k. k == n) (drop i numbers) ≤ uses_at m n) → 0 < uses_at m (get_or numbers i 0)
+  pub next_counted : ((n : ℕ) → times n (drop i numbers) ≤ uses_at m n) → 0 < uses_at m (get_or numbers i 0)
   next_counted counts =
       let n = get_or numbers i 0 in
-      let here : ◌≡◌ {A = ℕ} (cond (n == n) 1 0) 1 = ap (λ (b : Bool). cond {A = ℕ} b 1 0) (eq-eqb n n refl) in
-      omega (arith, counts n, counts_next n, here)
+      omega (arith, counts n, counts_next n, tick_same n n refl)
 
-  pub dropped_used : m' ≡ uncounted m (get_or numbers i 0) → ((n : ℕ) → count_by (λ k. k == n) (drop i numbers) ≤ uses_at m n) → (n : ℕ) → count_by (λ k. k == n) (drop (i + 1) numbers) ≤ uses_at m' n
+  pub dropped_used : m' ≡ uncounted m (get_or numbers i 0) → ((n : ℕ) → times n (drop i numbers) ≤ uses_at m n) → (n : ℕ) → times n (drop (i + 1) numbers) ≤ uses_at m' n
   dropped_used is counts k =
       let n = get_or numbers i 0 in
-      let step : uses_at m k ≤ uses_at (uncounted m n) k + cond (n == k) 1 0 = uncounted_le m n k in
-      subst (λ (t : Table). count_by (λ j. j == k) (drop (i + 1) numbers) ≤ uses_at t k) (sym is) (omega (arith, counts k, counts_next k, step))
+      subst (λ (t : Table). times k (drop (i + 1) numbers) ≤ uses_at t k) (sym is) (omega (arith, counts k, counts_next k, one_less m n k (next_counted counts)))
 
 -- the text of a name, from its first token on
 text_from : (c : ℕ) (f : ℕ → List ℕ) (x : List ℕ) (ns : List ℕ) → join_with_byte c (x ∷ list_map f ns) ≡ x ++ flat_map (λ n. c ∷ f n) ns
@@ -109,3 +60,18 @@ text_more m text rest i below =
 
 pub tail_used : (m : Table) (first : ℕ) (rest : List ℕ) (i : ℕ) → All (λ n. 0 < uses_at m n) (first ∷ rest) → i < length rest → 0 < uses_at m (get_or rest i 0)
 tail_used m first rest i all below = all (suc i) 0 (omega arith)
+
+nothing_left : (numbers : List ℕ) (i : ℕ) → length numbers ≤ i → drop i numbers ≡ []
+nothing_left numbers i end = drop_all i numbers end
+
+-- the uses at the end of a loop
+pub held_uses : (old m : Table) (numbers name : List ℕ) (i : ℕ) → length numbers ≤ i → numbers ≡ name → counted_again_all m (drop i numbers) ≡ counted_again_all old numbers → (n : ℕ) → uses_at m n ≡ uses_at old n + times n name
+held_uses old m numbers name i end is rest n =
+    let e : m ≡ counted_again_all old numbers = sym (ap (counted_again_all m) (nothing_left numbers i end)) ∙ rest in
+    ap (λ (t : Table). uses_at t n) e ∙ (uses_again_all old numbers n ∙ ap (λ (l : List ℕ). uses_at old n + times n l) is)
+
+pub dropped_uses : (old m : Table) (numbers name : List ℕ) (i : ℕ) → length numbers ≤ i → numbers ≡ name → uncounted_all m (drop i numbers) ≡ uncounted_all old numbers → ((n : ℕ) → times n name ≤ uses_at old n) → (n : ℕ) → uses_at m n + times n name ≡ uses_at old n
+dropped_uses old m numbers name i end is rest counts n =
+    let e : m ≡ uncounted_all old numbers = sym (ap (uncounted_all m) (nothing_left numbers i end)) ∙ rest in
+    let f : m ≡ uncounted_all old name = e ∙ ap (uncounted_all old) is in
+    ap (λ (t : Table). uses_at t n + times n name) f ∙ uses_uncounted_all old name counts n

@@ -6,3 +6,4 @@ pub mod Misses
 pub mod Whole
 pub mod Interning
 pub mod Holding
+pub mod Adding

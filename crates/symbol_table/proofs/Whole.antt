@@ -65,3 +65,6 @@ same_kept b b' slots index from in_use kept = record {
   in_use = in_use ∙ (kept.in_use ∙ sym (ap (λ (l : List Slot). map.len (view l)) slots));
   few = omega (arith, kept.few, ap (λ (l : List Slot). total (view l)) slots);
 }
+
+pub total_empty : (slots : List Slot) → slots ≡ [] → total (view slots) ≡ 0
+total_empty slots e = total_view slots ∙ all_nothing slots e

@@ -1,7 +1,7 @@
 -- The table as callers see it: the token and the count of uses of each number. A number without uses has no entry
 -- (Envoy's design note on statistics: symbols are counted by reference, and a symbol without references is free).
-use Rattle.std.specs.Prelude.{◌≡◌, ℕ, ◌+◌, ◌-◌, ◌<◌, ◌==◌, if◌then◌else◌, Some, None, List, [], ◌∷◌, ◌++◌, map as list_map}
-use Rattle.std.specs.List.{sum_by, join_with_byte}
+use Rattle.std.specs.Prelude.{◌≡◌, ℕ, ◌+◌, ◌-◌, ◌<◌, ◌==◌, if◌then◌else◌, Some, None, List, [], ◌∷◌, ◌++◌, map as list_map, All}
+use Rattle.std.specs.List.{sum_by, count_by, join_with_byte}
 use Rattle.std.specs.Ordering.{nat_cmp}
 use Rattle.std.specs.FinMap as map
 use Rattle.symbol_table.specs.declared.table.TheConstants.{MAX_USES}
@@ -55,6 +55,14 @@ uncounted table n = if uses_at table n == 1 then map.remove table n else map.ins
 abbrev pub uncounted_all : Table → List ℕ → Table
 uncounted_all table [] = table
 uncounted_all table (n ∷ ns) = uncounted_all (uncounted table n) ns
+
+-- how often a number stands in a name
+abbrev pub times : ℕ → List ℕ → ℕ
+times n numbers = count_by (λ k. k == n) numbers
+
+-- all numbers of the name are in use
+abbrev pub InUseAll : Table → List ℕ → Type 0
+InUseAll table name = All (λ n. 0 < uses_at table n) name
 
 -- what every table keeps: numbers begin at 1, each number in use has uses, no token has two numbers, and all uses together
 -- stay below the limit

@@ -1,11 +1,10 @@
 //! The symbol table.
-ghost use Rattle.std.specs.Prelude.{◌≡◌, ℕ, ◌+◌, ◌<◌, ◌≤◌, ◌==◌, List, map as list_map, All, length, IfOk, OnOk, OnErr, vec_len};
-ghost use Rattle.std.specs.List.{count_by};
+ghost use Rattle.std.specs.Prelude.{◌≡◌, ℕ, ◌+◌, ◌<◌, ◌≤◌, map as list_map, All, length, IfOk, OnOk, OnErr, vec_len};
 ghost use Rattle.std.specs.FinMap as map;
 ghost use Rattle.std.specs.Vec.{vec_capacity};
 ghost use Rattle.stat_defs.specs.Names.{IsFullName, tokens};
 ghost use Rattle.symbol_table.specs.Drawing.{Draws, DrawsAll};
-ghost use Rattle.symbol_table.specs.Table.{Holds, uses_at, token_in, total, text_in, counted, counted_all, counted_again, counted_again_all, uncounted, uncounted_all, IsTable, Interned};
+ghost use Rattle.symbol_table.specs.Table.{Holds, uses_at, times, InUseAll, token_in, total, text_in, counted, counted_all, counted_again, counted_again_all, uncounted, uncounted_all, IsTable, Interned};
 
 use crate::slots::{
     Slot, add_use, drop_use, list_token, next_free, number_of, put_last, token_at, unlist_token,
@@ -50,7 +49,8 @@ impl Model for SymbolTable {
 impl SymbolTable {
     /// A table without tokens.
     pub fn new(alloc: Global) -> Result<SymbolTable, NoMemory>
-        ensures { IfOk result (λ table. table ≡ map.empty) }
+        ensures empty { IfOk result (λ table. table ≡ map.empty) }
+        ensures total { IfOk result (λ table. total table ≡ 0) }
     {
         Ok(SymbolTable {
             slots: Vec::new(alloc),
@@ -75,6 +75,7 @@ impl SymbolTable {
         requires room { total self.old + length (tokens name.now) < MAX_USES }
         ensures drawn { IfOk result (DrawsAll (Holds self.old) (tokens name.now)) }
         ensures counted { IfOk result (λ numbers. self.new ≡ counted_all self.old (tokens name.now) numbers) }
+        ensures uses { IfOk result (λ numbers. (n : ℕ) → uses_at self.new n ≡ uses_at self.old n + times n numbers) }
         ensures text { IfOk result (λ numbers. text_in self.new numbers ≡ name.now) }
         ensures total { OnOk result (total self.new ≡ total self.old + length (tokens name.now)) }
         ensures err { OnErr result (self.new ≡ self.old) }
@@ -87,21 +88,23 @@ impl SymbolTable {
 
     /// Counts each number of a name once more.
     pub fn hold(&mut self, name: &StatName)
-        requires used { All (λ n. 0 < uses_at self.old n) name.now }
+        requires used { InUseAll self.old name.now }
         requires room { total self.old + length name.now < MAX_USES }
         ensures held { self.new ≡ counted_again_all self.old name.now }
+        ensures uses { (n : ℕ) → uses_at self.new n ≡ uses_at self.old n + times n name.now }
         ensures total { total self.new ≡ total self.old + length name.now }
     {
-        let numbers = name.symbols();
-        for n in numbers {
+        let held = name.symbols();
+        for n in held {
             self.count_again(*n);
         }
     }
 
     /// Takes one use of each number of a name away. A number without uses is free.
     pub fn drop_name(&mut self, name: &StatName)
-        requires { (n : ℕ) → count_by (λ k. k == n) name.now ≤ uses_at self.old n }
+        requires { (n : ℕ) → times n name.now ≤ uses_at self.old n }
         ensures dropped { self.new ≡ uncounted_all self.old name.now }
+        ensures uses { (n : ℕ) → uses_at self.new n + times n name.now ≡ uses_at self.old n }
         ensures total { total self.new + length name.now ≡ total self.old }
     {
         let numbers = name.symbols();
@@ -112,7 +115,7 @@ impl SymbolTable {
 
     /// The tokens of a name, with dots between them.
     pub fn text_of(&self, alloc: Global, name: &StatName) -> Result<Txt, NoMemory>
-        requires { All (λ n. 0 < uses_at self.now n) name.now }
+        requires { InUseAll self.now name.now }
         ensures { IfOk result (λ text. text ≡ text_in self.now name.now) }
     {
         let Some((first, rest)) = name.symbols().split_first() else {

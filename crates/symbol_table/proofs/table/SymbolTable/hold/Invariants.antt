@@ -4,7 +4,7 @@ use Rattle.symbol_table.proofs.table.SymbolTable.hold.Given as goal
 
 abbrev pub invariant-loop-n : goal.invariant-loop-n
 invariant-loop-n l = record {
-  rest : counted_again_all l.self (drop l.n-index l.numbers) ≡ counted_again_all l.initial.self l.numbers;
-  used : All (λ n. 0 < uses_at l.self n) (drop l.n-index l.numbers);
+  rest : counted_again_all l.self (drop l.n-index l.held) ≡ counted_again_all l.initial.self l.held;
+  used : All (λ n. 0 < uses_at l.self n) (drop l.n-index l.held);
   counted : total l.self ≡ total l.initial.self + l.n-index;
 }
