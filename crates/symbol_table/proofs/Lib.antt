@@ -1,0 +1,9 @@
+pub mod Counting
+pub mod Totals
+pub mod Uses
+pub mod DrawingLemmas
+pub mod Misses
+pub mod Whole
+pub mod Interning
+pub mod Holding
+pub mod Adding

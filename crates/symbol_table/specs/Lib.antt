@@ -1,0 +1,5 @@
+pub mod Drawing
+pub mod Table
+pub mod Kept
+pub mod Slots
+pub mod Laws
