@@ -1,7 +1,7 @@
 -- Stored names: no one begins another, and what is known while data are read.
 use Rattle.std.proofs.Common.{◌≡◌, ℕ, suc, ◌+◌, ◌-◌, ◌*◌, ◌<◌, ◌≤◌, ◌^◌, List, [], ◌∷◌, ◌++◌, length, take, drop, Option, Some, None, All, refl, ap, sym, ◌∙◌, subst, arith, append_assoc}
 use Rattle.std.proofs.lemmas.List.{length-append, length-drop, length-take-le, take-append-drop, flat_map_more}
-use Rattle.std.proofs.lemmas.List.Elements.{All-push, All-drop}
+use Rattle.std.proofs.lemmas.List.Elements.{All-drop}
 use Rattle.std.proofs.Math.Seq.{drop-append_seam, take-append_seam, take-length}
 use Rattle.stat_name.specs.declared.names.TheConstants.{MAX_NUMBERS}
 use Rattle.stat_name.specs.Spelling.{spelling, BeginsWith, Takes}
@@ -103,9 +103,6 @@ pub data_push : (numbers : List ℕ) (n : ℕ) → data_of numbers ++ spelling n
 data_push numbers n = flat_map_more spelling [] numbers n
 
 module _ (bytes numbers : List ℕ) (at : ℕ) (read : DataRead bytes numbers at) where
-  pub at_within : at ≤ length bytes
-  at_within = omega (arith, read.at_is, ap length read.bytes_are, length-append (data_of numbers) (drop at bytes))
-
   -- a name that has these data begins with the numbers so far
   pub name_begins : (name : List ℕ) → IsDataOf bytes name → (more : List ℕ) × (name ≡ numbers ++ more) × (drop at bytes ≡ data_of more)
   name_begins name is = data_begin numbers (drop at bytes) name (sym read.bytes_are ∙ is.bytes_are)
@@ -154,23 +151,6 @@ module _ (bytes numbers : List ℕ) (at : ℕ) (read : DataRead bytes numbers at
       let b = name_begins name is in
       let none = nothing_left b.0 b.2 end in
       omega (arith, is.name.some, ap length b.1, length-append numbers b.0, ap length none)
-
-  pub data_read_more : (n len : ℕ) → 0 < n → length numbers < MAX_NUMBERS → BeginsWith (drop at bytes) n → len ≡ length (spelling n)
-      → DataRead bytes (numbers ++ n ∷ []) (at + len)
-  data_read_more n len some few next len_is =
-      let e : bytes ≡ data_of (numbers ++ n ∷ []) ++ next.rest =
-      read.bytes_are ∙ (ap (λ (s : List ℕ). data_of numbers ++ s) next.bytes_are ∙ (sym (append_assoc (data_of numbers) (spelling n) next.rest) ∙ ap (λ (s : List ℕ). s ++ next.rest) (data_push numbers n))) in
-      let l : at + len ≡ length (data_of (numbers ++ n ∷ [])) =
-      omega (arith, read.at_is, len_is, length-append (data_of numbers) (spelling n), ap length (data_push numbers n)) in
-      let d : drop (at + len) bytes ≡ next.rest =
-      ap (λ (k : ℕ). drop k bytes) l ∙ (ap (λ (s : List ℕ). drop (length (data_of (numbers ++ n ∷ []))) s) e ∙ drop-append_seam (data_of (numbers ++ n ∷ [])) next.rest) in
-      record {
-        few = omega (arith, length-append numbers (n ∷ []));
-        each = All-push (λ k. 0 < k) numbers n read.each some;
-        small = All-push (λ k. k < 2 ^ 32) numbers n read.small next.small;
-        at_is = l;
-        bytes_are = e ∙ ap (λ (s : List ℕ). data_of (numbers ++ n ∷ []) ++ s) (sym d);
-      }
 
 -- the data of numbers below 2^32 have at most 5 bytes for each
 data_length : (numbers : List ℕ) → All (λ n. n < 2 ^ 32) numbers → length (data_of numbers) ≤ 5 * length numbers
