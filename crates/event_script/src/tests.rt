@@ -5,6 +5,7 @@ use crate::step::Step;
 use stat_defs::{Event, NoMemory};
 use stats_io::MemSource;
 use std::alloc::Global;
+use std::process::Abort;
 
 // A reader of these bytes, which come in pieces of that length; the pulls of these numbers fail.
 fn lines_of(
@@ -53,79 +54,92 @@ fn told_by(alloc: Global, lines: &mut Lines<MemSource>) -> Result<Vec<u8>, NoMem
     Ok(told)
 }
 
+// What stands before the first byte 1, and behind it.
+fn parts_of(row: &[u8]) -> (&[u8], &[u8]) {
+    match row.iter().position(|b| *b == 1) {
+        Some(at) => (&row[..at], &row[at + 1..]),
+        None => (row, b"no answers"),
+    }
+}
+
+// So many of that byte.
+fn bytes_of(alloc: Global, byte: u8, count: usize) -> Result<Vec<u8>, NoMemory> {
+    Ok(vec![in alloc; byte; count]?)
+}
+
 // A line with a label and a name of these lengths.
 fn line_of_lengths(alloc: Global, label: usize, name: usize) -> Result<Vec<u8>, NoMemory> {
     let mut line = b"inc ".to_vec(alloc)?;
-    line.extend_from_slice(&vec![in alloc; b'x'; label]?)?;
+    line.extend_from_slice(&bytes_of(alloc, b'x', label)?)?;
     line.push(b' ')?;
-    line.extend_from_slice(&vec![in alloc; b'y'; name]?)?;
+    line.extend_from_slice(&bytes_of(alloc, b'y', name)?)?;
     line.extend_from_slice(b" 1\n")?;
     Ok(line)
 }
 
+// Files and what they hold: rows parted by the byte 2, in each the file, the byte 1 and the answers.
+const FILES: &[u8] = b"\
+inc root a 3\ninc root a 4\n\x01root a 3|root a 4|end\x02\
+\x01end\x02\
+\n\n\x01end\x02\
+inc web a 1\ninc root a 2\n\x01web a 1|root a 2|end\x02\
+inc root a 1\ninc root a 01\ninc root a 1\n\x01root a 1|bad 2\x02\
+inc root a 1\x01root a 1|end\x02\
+inc root a 1\ninc\x01root a 1|bad 2\x02\
+inc root a 1\n\nbogus\ninc root b 1\n\x01root a 1|bad 3\x02\
+# x\n\n#\ninc root a 0\n#inc root a 1\x01root a 0|end\x02\
+#\x00\xff\r\ninc root a 1\n\x01root a 1|end\x02\
+\x20# x\n\x01bad 1\x02\
+\x20\n\x01bad 1\x02\
+\r\n\x01bad 1\x02\
+inc root a 1\r\n\x01bad 1\x02\
+inc root.b a 1\n\x01bad 1\x02\
+inc ro-ot a 1\n\x01bad 1\x02\
+inc A_z09 !~#. 7\n\x01A_z09 !~#. 7|end\x02\
+inc root a\x7f 1\n\x01bad 1\x02\
+inc root a\x80 1\n\x01bad 1\x02\
+inc root \x1f 1\n\x01bad 1\x02\
+inc  root a 1\n\x01bad 1\x02\
+inc root  a 1\n\x01bad 1\x02\
+inc root a  1\n\x01bad 1\x02\
+inc root a 1 \n\x01bad 1\x02\
+\x20inc root a 1\n\x01bad 1\x02\
+inc\troot a 1\n\x01bad 1\x02\
+inc root a\n\x01bad 1\x02\
+inc root a \n\x01bad 1\x02\
+inc root  1\n\x01bad 1\x02\
+inc  a 1\n\x01bad 1\x02\
+inc root\n\x01bad 1\x02\
+inc \n\x01bad 1\x02\
+INC root a 1\n\x01bad 1\x02\
+incr root a 1\n\x01bad 1\x02\
+inc root a +1\n\x01bad 1\x02\
+inc root a -1\n\x01bad 1\x02\
+inc root a 1x\n\x01bad 1\x02\
+inc root a 1:\n\x01bad 1\x02\
+inc root a 1/\n\x01bad 1\x02\
+inc root a 00\n\x01bad 1\x02\
+inc root a 4294967295\n\x01root a 4294967295|end\x02\
+inc root a 4294967296\n\x01bad 1\x02\
+inc root a 18446744073709551617\n\x01bad 1\x02\
+inc root a 1 2\n\x01bad 1";
+
 #[test]
 fn files(rt: HostRuntime) -> Result<(), NoMemory> {
     let alloc = rt.alloc();
-    let rows: [(&[u8], &[u8]); 44] = [
-        (b"inc root a 3\ninc root a 4\n", b"root a 3|root a 4|end"),
-        (b"", b"end"),
-        (b"\n\n", b"end"),
-        (b"inc web a 1\ninc root a 2\n", b"web a 1|root a 2|end"),
-        (
-            b"inc root a 1\ninc root a 01\ninc root a 1\n",
-            b"root a 1|bad 2",
-        ),
-        (b"inc root a 1", b"root a 1|end"),
-        (b"inc root a 1\ninc", b"root a 1|bad 2"),
-        (b"inc root a 1\n\nbogus\ninc root b 1\n", b"root a 1|bad 3"),
-        (b"# x\n\n#\ninc root a 0\n#inc root a 1", b"root a 0|end"),
-        (b"#\x00\xff\r\ninc root a 1\n", b"root a 1|end"),
-        (b" # x\n", b"bad 1"),
-        (b" \n", b"bad 1"),
-        (b"\r\n", b"bad 1"),
-        (b"inc root a 1\r\n", b"bad 1"),
-        (b"inc root.b a 1\n", b"bad 1"),
-        (b"inc ro-ot a 1\n", b"bad 1"),
-        (b"inc A_z09 !~#. 7\n", b"A_z09 !~#. 7|end"),
-        (b"inc root a\x7f 1\n", b"bad 1"),
-        (b"inc root a\x80 1\n", b"bad 1"),
-        (b"inc root \x1f 1\n", b"bad 1"),
-        (b"inc  root a 1\n", b"bad 1"),
-        (b"inc root  a 1\n", b"bad 1"),
-        (b"inc root a  1\n", b"bad 1"),
-        (b"inc root a 1 \n", b"bad 1"),
-        (b" inc root a 1\n", b"bad 1"),
-        (b"inc\troot a 1\n", b"bad 1"),
-        (b"inc root a\n", b"bad 1"),
-        (b"inc root a \n", b"bad 1"),
-        (b"inc root  1\n", b"bad 1"),
-        (b"inc  a 1\n", b"bad 1"),
-        (b"inc root\n", b"bad 1"),
-        (b"inc \n", b"bad 1"),
-        (b"INC root a 1\n", b"bad 1"),
-        (b"incr root a 1\n", b"bad 1"),
-        (b"inc root a +1\n", b"bad 1"),
-        (b"inc root a -1\n", b"bad 1"),
-        (b"inc root a 1x\n", b"bad 1"),
-        (b"inc root a 1:\n", b"bad 1"),
-        (b"inc root a 1/\n", b"bad 1"),
-        (b"inc root a 00\n", b"bad 1"),
-        (b"inc root a 4294967295\n", b"root a 4294967295|end"),
-        (b"inc root a 4294967296\n", b"bad 1"),
-        (b"inc root a 18446744073709551617\n", b"bad 1"),
-        (b"inc root a 1 2\n", b"bad 1"),
-    ];
-    for (at, (file, want)) in rows.iter().enumerate() {
+    let mut rows = 0u64;
+    for row in FILES.split(|b| *b == 2) {
+        let (file, want) = parts_of(row);
         for piece in [1, 2, 5, 65_536] {
             let mut lines = lines_of(alloc, file, piece, Vec::new(alloc))?;
             let told = told_by(alloc, &mut lines)?;
-            assert!(rt; told.as_slice() == *want, "row {at} by {piece}");
-            let mut again = Vec::new(alloc);
-            let last = lines.next(alloc)?;
-            tell(alloc, &mut again, &last)?;
-            assert!(rt; want.ends_with(&again), "row {at} by {piece}, again");
+            assert!(rt; told.as_slice() == want, "row {rows} by {piece}");
+            let again = told_by(alloc, &mut lines)?;
+            assert!(rt; want.ends_with(&again), "row {rows} by {piece}, again");
         }
+        rows = rows.saturating_add(1);
     }
+    assert_eq!(rt; rows, 44);
     Ok(())
 }
 
@@ -152,44 +166,63 @@ fn lengths(rt: HostRuntime) -> Result<(), NoMemory> {
     Ok(())
 }
 
+// Asserts the answers of a file whose pull of that number fails, and how many bytes were taken.
+fn assert_fault(
+    rt: &impl Abort,
+    alloc: Global,
+    file: &[u8],
+    piece: usize,
+    call: u64,
+    want: &[u8],
+    taken: u64,
+) -> Result<(), NoMemory> {
+    let mut fails = Vec::new(alloc);
+    fails.push(call)?;
+    let mut lines = lines_of(alloc, file, piece, fails)?;
+    let told = told_by(alloc, &mut lines)?;
+    assert!(rt; told.as_slice() == want, "{file:?}");
+    assert_eq!(rt; lines.taken(), taken, "{file:?}");
+    let again = told_by(alloc, &mut lines)?;
+    assert!(rt; want.ends_with(&again), "{file:?}, again");
+    Ok(())
+}
+
 #[test]
 fn read_faults(rt: HostRuntime) -> Result<(), NoMemory> {
-    let alloc = rt.alloc();
-    let rows: [(&[u8], usize, u64, &[u8], u64); 4] = [
-        (
-            b"inc root a 1\ninc root b 2",
-            16,
-            1,
-            b"root a 1|read fault",
-            16,
-        ),
-        (
-            b"inc root a 1\nbogus",
-            65_536,
-            1,
-            b"root a 1|read fault",
-            18,
-        ),
-        (b"inc root a 1\n", 65_536, 0, b"read fault", 0),
-        (b"bogus\ninc root a 1\n", 7, 1, b"bad 1", 7),
-    ];
-    for (at, (file, piece, call, want, taken)) in rows.iter().enumerate() {
-        let mut fails = Vec::new(alloc);
-        fails.push(*call)?;
-        let mut lines = lines_of(alloc, file, *piece, fails)?;
-        let told = told_by(alloc, &mut lines)?;
-        assert!(rt; told.as_slice() == *want, "row {at}");
-        assert_eq!(rt; lines.taken(), *taken, "row {at}");
-        let again = told_by(alloc, &mut lines)?;
-        assert!(rt; want.ends_with(&again), "row {at}, again");
-    }
-    Ok(())
+    assert_fault(
+        &rt,
+        rt.alloc(),
+        b"inc root a 1\ninc root b 2",
+        16,
+        1,
+        b"root a 1|read fault",
+        16,
+    )?;
+    assert_fault(
+        &rt,
+        rt.alloc(),
+        b"inc root a 1\nbogus",
+        65_536,
+        1,
+        b"root a 1|read fault",
+        18,
+    )?;
+    assert_fault(
+        &rt,
+        rt.alloc(),
+        b"inc root a 1\n",
+        65_536,
+        0,
+        b"read fault",
+        0,
+    )?;
+    assert_fault(&rt, rt.alloc(), b"bogus\ninc root a 1\n", 7, 1, b"bad 1", 7)
 }
 
 #[test]
 fn file_of_the_greatest_size(rt: HostRuntime) -> Result<(), NoMemory> {
     let alloc = rt.alloc();
-    let mut comment = vec![in alloc; b'#'; 1_023]?;
+    let mut comment = bytes_of(alloc, b'#', 1_023)?;
     comment.push(b'\n')?;
     let mut file = Vec::new(alloc);
     for _ in 0..8_192 {
