@@ -8,6 +8,7 @@ use std::time::Instant;
 
 const COUNTED: u32 = 1_000;
 const TIMED: u32 = 4_000_000;
+const TIMED_LOADS: u32 = 400_000_000;
 /// Counters so far apart that no two are in one cache line.
 const APART: usize = 16;
 
@@ -60,11 +61,11 @@ enum Call {
     Value,
 }
 
-const CALLS: [(Call, &str); 4] = [
-    (Call::Add, "gauge add"),
-    (Call::Sub, "gauge sub"),
-    (Call::Set, "gauge set"),
-    (Call::Value, "gauge value"),
+const CALLS: [(Call, &str, u32); 4] = [
+    (Call::Add, "gauge add", TIMED),
+    (Call::Sub, "gauge sub", TIMED),
+    (Call::Set, "gauge set", TIMED),
+    (Call::Value, "gauge value", TIMED_LOADS),
 ];
 
 #[inline(never)]
@@ -112,8 +113,8 @@ fn run_gauge(call: Call, four: bool, times: u32) -> u64 {
     word.load(SeqCst)
 }
 
-fn per_call(start: Instant) -> u128 {
-    start.elapsed().as_nanos() / (TIMED as u128 / 1000)
+fn per_call(start: Instant, times: u32) -> u128 {
+    start.elapsed().as_nanos() / (times as u128 / 1000)
 }
 
 fn main() {
@@ -122,7 +123,7 @@ fn main() {
         if timed {
             let start = Instant::now();
             run(shape, TIMED);
-            let picoseconds = per_call(start);
+            let picoseconds = per_call(start, TIMED);
             println!("{name}: {}.{:03} ns", picoseconds / 1000, picoseconds % 1000);
         } else {
             let (value, pending) = run(shape, COUNTED);
@@ -131,11 +132,11 @@ fn main() {
     }
     for four in [false, true] {
         let threads = if four { "four threads" } else { "one thread" };
-        for (call, name) in CALLS {
+        for (call, name, times) in CALLS {
             if timed {
                 let start = Instant::now();
-                run_gauge(call, four, TIMED);
-                let picoseconds = per_call(start);
+                run_gauge(call, four, times);
+                let picoseconds = per_call(start, times);
                 println!("{name}, {threads}: {}.{:03} ns", picoseconds / 1000, picoseconds % 1000);
             } else {
                 println!("{name}, {threads}: word {}", run_gauge(call, four, COUNTED));

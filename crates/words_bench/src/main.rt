@@ -1,6 +1,8 @@
 //! Adds to counter words and steps on gauge words, counted or timed.
 #![tactic(auto)]
 
+ghost use Rattle.std.specs.Prelude.{◌≤◌};
+
 mod counters;
 mod gauges;
 
@@ -16,17 +18,20 @@ const COUNTED: u32 = 1_000;
 /// Calls of each thread where they are timed.
 const TIMED: u32 = 4_000_000;
 
+/// The same of loads, which take much less.
+const TIMED_LOADS: u32 = 400_000_000;
+
 const SHAPES: [(Shape, &str); 3] = [
     (Shape::OneThread, "add, one thread"),
     (Shape::OneCounter, "add, four threads on one counter"),
     (Shape::FourCounters, "add, four threads on four counters"),
 ];
 
-const CALLS: [(Call, &str); 4] = [
-    (Call::Add, "gauge add"),
-    (Call::Sub, "gauge sub"),
-    (Call::Set, "gauge set"),
-    (Call::Value, "gauge value"),
+const CALLS: [(Call, &str, u32); 4] = [
+    (Call::Add, "gauge add", TIMED),
+    (Call::Sub, "gauge sub", TIMED),
+    (Call::Set, "gauge set", TIMED),
+    (Call::Value, "gauge value", TIMED_LOADS),
 ];
 
 fn main(rt: HostRuntime) -> io::Result<()> {
@@ -40,7 +45,7 @@ fn main(rt: HostRuntime) -> io::Result<()> {
         if timed {
             let start = Instant::now(&rt)?;
             counters::run(&rt, rt.alloc(), shape, TIMED).map_err(no_memory)?;
-            let picoseconds = per_call(start.elapsed(&rt)?);
+            let picoseconds = per_call(start.elapsed(&rt)?, TIMED);
             println!(rt;
                 "{name}: {}.{:03} ns",
                 picoseconds / 1000,
@@ -56,11 +61,11 @@ fn main(rt: HostRuntime) -> io::Result<()> {
     }
     for four in [false, true] {
         let threads = if four { "four threads" } else { "one thread" };
-        for (call, name) in CALLS {
+        for (call, name, times) in CALLS {
             if timed {
                 let start = Instant::now(&rt)?;
-                gauges::run(&rt, rt.alloc(), call, four, TIMED).map_err(no_memory)?;
-                let picoseconds = per_call(start.elapsed(&rt)?);
+                gauges::run(&rt, rt.alloc(), call, four, times).map_err(no_memory)?;
+                let picoseconds = per_call(start.elapsed(&rt)?, times);
                 println!(rt;
                     "{name}, {threads}: {}.{:03} ns",
                     picoseconds / 1000,
@@ -76,8 +81,10 @@ fn main(rt: HostRuntime) -> io::Result<()> {
 }
 
 // Picoseconds of a thread's time per call.
-fn per_call(time: Duration) -> u128 {
-    time.as_nanos() / (TIMED as u128 / 1000)
+fn per_call(time: Duration, times: u32) -> u128
+    requires { 1000 ≤ times }
+{
+    time.as_nanos() / (times as u128 / 1000)
 }
 
 fn no_memory(_: NoMemory) -> io::Error {
