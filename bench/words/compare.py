@@ -19,7 +19,7 @@ LIMIT = 1.2
 
 
 def build():
-    subprocess.run(["rt", "run"], cwd=TOP / "crates/words_bench", check=True, stdout=subprocess.DEVNULL)
+    subprocess.run(["rt", "run"], cwd=TOP / "crates/words_bench", check=True, capture_output=True)
     subprocess.run(["cargo", "build", "--release", "--quiet", "--offline"], cwd=TOP / "bench/words", check=True)
 
 

@@ -1,4 +1,5 @@
-//! The yardstick of the words' benchmark: the same adds by `std::sync::atomic`, two to two adjacent words each.
+//! The yardstick of the words' benchmark: the same calls by `std::sync::atomic`, each with `SeqCst`.
+//! A counter's add is two adds to two adjacent words.
 
 use std::env;
 use std::sync::atomic::{AtomicU64, Ordering::SeqCst};
@@ -7,6 +8,7 @@ use std::time::Instant;
 
 const COUNTED: u32 = 1_000;
 const TIMED: u32 = 4_000_000;
+const TIMED_LOADS: u32 = 400_000_000;
 /// Counters so far apart that no two are in one cache line.
 const APART: usize = 16;
 
@@ -51,17 +53,94 @@ fn run(shape: Shape, times: u32) -> (u64, u64) {
     (sum(0), sum(1))
 }
 
+#[derive(Clone, Copy)]
+enum Call {
+    Add,
+    Sub,
+    Set,
+    Value,
+}
+
+const CALLS: [(Call, &str, u32); 4] = [
+    (Call::Add, "gauge add", TIMED),
+    (Call::Sub, "gauge sub", TIMED),
+    (Call::Set, "gauge set", TIMED),
+    (Call::Value, "gauge value", TIMED_LOADS),
+];
+
+#[inline(never)]
+fn call_often(word: &AtomicU64, call: Call, times: u32) {
+    match call {
+        Call::Add => {
+            for _ in 0..times {
+                word.fetch_add(1, SeqCst);
+            }
+        }
+        Call::Sub => {
+            for _ in 0..times {
+                word.fetch_sub(1, SeqCst);
+            }
+        }
+        Call::Set => {
+            for _ in 0..times {
+                word.swap(7, SeqCst);
+            }
+        }
+        Call::Value => {
+            // each reading goes into a running sum, which is added at the end, so that no compiler leaves a reading out
+            let mut sum = 0u64;
+            for _ in 0..times {
+                sum = sum.wrapping_mul(31).wrapping_add(word.load(SeqCst));
+            }
+            word.fetch_add(sum, SeqCst);
+        }
+    }
+}
+
+fn run_gauge(call: Call, four: bool, times: u32) -> u64 {
+    let words = vec![AtomicU64::new(0)];
+    let word = &words[0];
+    if four {
+        thread::scope(|scope| {
+            for _ in 1..4 {
+                scope.spawn(move || call_often(word, call, times));
+            }
+            call_often(word, call, times);
+        });
+    } else {
+        call_often(word, call, times);
+    }
+    word.load(SeqCst)
+}
+
+fn per_call(start: Instant, times: u32) -> u128 {
+    start.elapsed().as_nanos() / (times as u128 / 1000)
+}
+
 fn main() {
     let timed = env::args().nth(1).as_deref() == Some("time");
     for (shape, name) in SHAPES {
         if timed {
             let start = Instant::now();
             run(shape, TIMED);
-            let picoseconds = start.elapsed().as_nanos() / (TIMED as u128 / 1000);
+            let picoseconds = per_call(start, TIMED);
             println!("{name}: {}.{:03} ns", picoseconds / 1000, picoseconds % 1000);
         } else {
             let (value, pending) = run(shape, COUNTED);
             println!("{name}: value {value}, pending {pending}");
+        }
+    }
+    for four in [false, true] {
+        let threads = if four { "four threads" } else { "one thread" };
+        for (call, name, times) in CALLS {
+            if timed {
+                let start = Instant::now();
+                run_gauge(call, four, times);
+                let picoseconds = per_call(start, times);
+                println!("{name}, {threads}: {}.{:03} ns", picoseconds / 1000, picoseconds % 1000);
+            } else {
+                println!("{name}, {threads}: word {}", run_gauge(call, four, COUNTED));
+            }
         }
     }
 }

@@ -31,10 +31,10 @@ later-fits : (workers seat n : ℕ) (words : List ℕ) → All (FitsBank workers
 later-fits workers seat zero words = All-cons (FitsBank workers words) (new_part Reader workers seat) [] (new-fits Reader workers seat words) (All-nil (FitsBank workers words))
 later-fits workers seat (suc n) words = All-cons (FitsBank workers words) (new_part Worker workers seat) (later_parts workers (suc seat) n) (new-fits Worker workers seat words) (later-fits workers (suc seat) n words)
 
-abbrev zeros : ℕ → List ℕ
+abbrev pub zeros : ℕ → List ℕ
 zeros n = replicate n 0
 
-zeros-at : (n k : ℕ) → get_or (zeros n) k 0 ≡ 0
+pub zeros-at : (n k : ℕ) → get_or (zeros n) k 0 ≡ 0
 zeros-at zero k = refl
 zeros-at (suc n) zero = refl
 zeros-at (suc n) (suc k) = zeros-at n k
@@ -103,7 +103,7 @@ cut m workers seat n seat' n' e h es en = let c = cut-later workers seat n h in
 pub part-of : (m : Sat) (p : CountPart) → m ≡ one_of p → (length m.0.parts ≡ 1) × (length m.1 ≡ 0) × (own_part m.0 ≡ p) × (taken_parts m.0 ≡ [])
 part-of m p e = (ap (λ (z : Sat). length z.0.parts) e, ap (λ (z : Sat). length z.1) e, ap (λ (z : Sat). own_part z.0) e, ap (λ (z : Sat). taken_parts z.0) e)
 
-range-more : (a n : ℕ) → range_with_len a (n + 1) ≡ range_with_len a n ++ (a + n) ∷ []
+pub range-more : (a n : ℕ) → range_with_len a (n + 1) ≡ range_with_len a n ++ (a + n) ∷ []
 range-more a n = sym (map-id (range_with_len a (n + 1))) ∙ (map-range_with_len_more (λ k. k) a n (a + n) refl ∙ ap (λ l. l ++ (a + n) ∷ []) (map-id (range_with_len a n)))
 
 pub numbers-push : (ws all : List WorkerSeat) (w : WorkerSeat) (n : ℕ) → map worker_number ws ≡ range_with_len 1 n → all ≡ ws ++ w ∷ [] → worker_number w ≡ 1 + n → map worker_number all ≡ range_with_len 1 (n + 1)

@@ -1,38 +1,29 @@
 -- What joined seats keep, and what the last words are.
-use Rattle.std.proofs.Common.{◌≡◌, ℕ, zero, suc, ◌+◌, ◌*◌, ◌<◌, ◌≤◌, List, [], ◌∷◌, ◌++◌, length, get_or, sym, refl, ap, ◌∙◌, subst, arith, length-append, All}
+use Rattle.std.proofs.Common.{◌≡◌, ℕ, ◌+◌, ◌*◌, ◌<◌, ◌≤◌, List, [], ◌∷◌, ◌++◌, length, get_or, sym, refl, ap, ◌∙◌, subst, arith, length-append, All}
 use Rattle.std.proofs.lemmas.List.Elements.{All-head}
 use Rattle.std.proofs.lemmas.List.{get_or_append_left}
 use Rattle.std.proofs.Math.Seq.{get_or-append_seam}
 use mathlib.Core.Logic.{dite}
-use mathlib.Core.Option.{some, some-injective, some-ne-none}
+use mathlib.Core.Option.{some}
 use native.Mathlib.Decide.{ℕ_discrete}
 use lib.ListN.{get_elem?}
 use Rattle.atomic_table.specs.Seated.{TableId}
 use Rattle.atomic_table.specs.Table.{State, Me, Final, Seen}
 use Rattle.seat_parts.specs.Parts.{total, parts_total, joined}
-use Rattle.seat_parts.proofs.Sums.{total-append, all-at}
-use Rattle.seat_parts.proofs.Cuts.{one-view, parts_total-bound}
+use Rattle.seat_parts.proofs.Sums.{total-append, all-at, at-or}
+use Rattle.seat_parts.proofs.Cuts.{one-view, parts_total-bound, one-part}
 use Rattle.metric_words.specs.declared.limits.TheConstants.{MAX_UNITS}
 use Rattle.metric_words.specs.declared.seats.WorkerSeat.{WorkerSeat}
 use Rattle.metric_words.specs.declared.seats.WordSeats.{WordSeats}
 use Rattle.metric_words.specs.declared.view.BankKey.{BankKey}
+use Rattle.metric_words.specs.declared.view.SeatRole.TheVariants.{Reader}
 use Rattle.metric_words.specs.declared.view.CountPart.{CountPart}
-use Rattle.metric_words.specs.Counters.{View, worker_weight, flusher_weight, firsts, seconds, latches, Rises, FitsBank, Counted, own_part, own_steps, taken_parts}
+use Rattle.metric_words.specs.Counters.{View, new_part, worker_weight, flusher_weight, firsts, seconds, latches, Rises, FitsBank, Counted, own_part, own_steps, taken_parts}
 use Rattle.metric_words.specs.Seats.{worker_part, worker_steps, flush_steps, read_steps, AreAll, workers_total, seats_total, HasWords, IsLedger}
 use Rattle.metric_words.proofs.Keeps.{no-firsts, no-seconds, no-latches, firsts-cap}
 
 abbrev Sat : Type 0
 Sat = Me (Unit {0}) View
-
-pub nil_of : (c : List (ℕ × Unit {0})) → length c ≡ 0 → c ≡ []
-nil_of [] e = refl
-nil_of (x ∷ xs) e = absurd (omega arith)
-
--- a view with one part
-one-part : (ps : List CountPart) → length ps ≡ 1 → let v : View = record { parts = ps } in ps ≡ own_part v ∷ []
-one-part [] e = absurd (omega arith)
-one-part (p ∷ []) e = refl
-one-part (p ∷ q ∷ ps) e = absurd (omega arith)
 
 joined-parts : (ps qs : List CountPart) → 0 < length ps → let v : View = record { parts = ps } in let w : View = record { parts = ps ++ qs } in
     (own_part w ≡ own_part v) × (taken_parts w ≡ taken_parts v ++ qs) × (0 < length w.parts)
@@ -44,7 +35,7 @@ pub joined-one : (m : Sat) (v w : View) (c : List (ℕ × Unit {0})) → m ≡ (
     → (own_part m.0 ≡ own_part v) × (taken_parts m.0 ≡ taken_parts v ++ own_part w ∷ []) × (0 < length m.0.parts) × (m.1 ≡ c)
 joined-one m v w c e h one = let j = joined-parts v.parts w.parts h in (
   ap (λ (z : Sat). own_part z.0) e ∙ j.0,
-  ap (λ (z : Sat). taken_parts z.0) e ∙ (j.1 ∙ ap (λ ps. taken_parts v ++ ps) (one-part w.parts one)),
+  ap (λ (z : Sat). taken_parts z.0) e ∙ (j.1 ∙ ap (λ ps. taken_parts v ++ ps) (one-part (new_part Reader 0 0) w.parts one)),
   (let n = ap (λ (z : Sat). length z.0.parts) e in let k = j.2 in omega arith),
   ap (λ (z : Sat). z.1) e,
 )
@@ -53,13 +44,8 @@ joined-one m v w c e h one = let j = joined-parts v.parts w.parts h in (
 pub taken-total : (f : CountPart → ℕ) (ps qs : List CountPart) (p : CountPart) → ps ≡ qs ++ p ∷ [] → total f ps ≡ total f qs + f p
 taken-total f ps qs p e = ap (total f) e ∙ omega (arith, total-append f qs (p ∷ []))
 
-at-get : (ws : List ℕ) (i a : ℕ) → get_elem? ws i ≡ some a → get_or ws i 0 ≡ a
-at-get [] i a e = absurd (some-ne-none a (sym e))
-at-get (w ∷ ws) zero a e = some-injective w a e
-at-get (w ∷ ws) (suc i) a e = at-get ws i a e
-
 -- one more place of a list that has what f says at each place
-place-push : (f : ℕ → ℕ) (xs all : List ℕ) (x n : ℕ) → length xs ≡ n → ((k : ℕ) → k < n → get_or xs k 0 ≡ f k) → all ≡ xs ++ x ∷ [] → x ≡ f n → (k : ℕ) → k < n + 1 → get_or all k 0 ≡ f k
+pub place-push : (f : ℕ → ℕ) (xs all : List ℕ) (x n : ℕ) → length xs ≡ n → ((k : ℕ) → k < n → get_or xs k 0 ≡ f k) → all ≡ xs ++ x ∷ [] → x ≡ f n → (k : ℕ) → k < n + 1 → get_or all k 0 ≡ f k
 place-push f xs all x n l below e here k h = ap (λ z. get_or z k 0) e ∙ dite (ℕ_discrete k n)
     (λ i. ap (λ j. get_or (xs ++ x ∷ []) j 0) (i ∙ sym l) ∙ (get_or-append_seam xs x [] 0 ∙ (here ∙ ap f (sym i))))
     (λ ne. get_or_append_left xs (x ∷ []) 0 k (omega arith) ∙ below k (omega arith))
@@ -68,8 +54,8 @@ pub words-push : (n : ℕ) (words vs ps vs' ps' : List ℕ) (x y : ℕ) → HasW
 words-push n words vs ps vs' ps' x y has e e' at at' = record {
   values_length = ap length e ∙ omega (arith, length-append vs (x ∷ []), has.values_length);
   pending_length = ap length e' ∙ omega (arith, length-append ps (y ∷ []), has.pending_length);
-  even = place-push (λ k. get_or words (2 * k) 0) vs vs' x n has.values_length has.even e (sym (at-get words (2 * n) x at));
-  odd = place-push (λ k. get_or words (2 * k + 1) 0) ps ps' y n has.pending_length has.odd e' (sym (at-get words (2 * n + 1) y at'));
+  even = place-push (λ k. get_or words (2 * k) 0) vs vs' x n has.values_length has.even e (sym (at-or words (2 * n) x 0 at));
+  odd = place-push (λ k. get_or words (2 * k + 1) 0) ps ps' y n has.pending_length has.odd e' (sym (at-or words (2 * n + 1) y 0 at'));
 }
 
 pub one-total : (f : CountPart → ℕ) (ps : List CountPart) → length ps ≡ 1 → let v : View = record { parts = ps } in total f ps ≡ f (own_part v)

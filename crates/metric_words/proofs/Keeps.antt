@@ -8,7 +8,7 @@ use lib.ListN.{get_elem?}
 use Rattle.atomic_table.specs.Table.{State, Me, step, keeps, stepped, Allows}
 use Rattle.seat_parts.specs.Parts.{total, parts_total, led_by}
 use Rattle.seat_parts.proofs.Sums.{total-bound, total-none, all-at}
-use Rattle.seat_parts.proofs.Cuts.{step-total, step-all, own-fits, parts_total-bound, one-view, led}
+use Rattle.seat_parts.proofs.Cuts.{step-total, step-all, own-fits, parts_total-bound, one-view, led, after-own}
 use Rattle.metric_words.specs.declared.limits.TheConstants.{MAX_UNITS}
 use Rattle.metric_words.specs.declared.view.SeatRole.{SeatRole}
 use Rattle.metric_words.specs.declared.view.SeatRole.TheVariants.{Worker, Flusher, Reader}
@@ -17,7 +17,7 @@ use Rattle.metric_words.specs.declared.view.CountKind.TheVariants.{First, Second
 use Rattle.metric_words.specs.declared.view.CountStep.{CountStep}
 use Rattle.metric_words.specs.declared.view.CountPart.{CountPart}
 use Rattle.metric_words.specs.declared.view.BankKey.{BankKey}
-use Rattle.metric_words.specs.Counters.{View, role_of, worker_weight, flusher_weight, reader_weight, when, choose, as_first, as_second, as_latch, as_load, step_of, first_by, second_by, latch_by, firsts, seconds, latches, seen_by, Rises, FitsBank, Counted, FirstAdded, SecondAdded, Latched, Loaded, HasAllWorkers, longer, with_step, own_part, own_steps, taken_parts}
+use Rattle.metric_words.specs.Counters.{View, new_part, role_of, worker_weight, flusher_weight, reader_weight, when, choose, as_first, as_second, as_latch, as_load, step_of, first_by, second_by, latch_by, firsts, seconds, latches, seen_by, Rises, FitsBank, Counted, FirstAdded, SecondAdded, Latched, Loaded, HasAllWorkers, longer, with_step, own_part, own_steps, taken_parts}
 
 abbrev St : Type 0
 St = State (Unit {0}) View
@@ -93,10 +93,10 @@ rises-mono : (id : ℕ) (ss : List CountStep) (low top : ℕ) → low ≤ top �
 rises-mono id [] low top h r = tt
 rises-mono id (s ∷ ss) low top h r = let m = seen-mono s.kind (eqb s.id id) s.found low top h r.0 in (m.0, rises-mono id ss (seen_by id s low) (seen_by id s top) m.1 r.1)
 
-when-same : (i k n : ℕ) → i ≡ k → when (eqb i k) n ≡ n
+pub when-same : (i k n : ℕ) → i ≡ k → when (eqb i k) n ≡ n
 when-same i k n e = ap (λ b. when b n) (eq-eqb i k e)
 
-when-other : (i k n : ℕ) → ¬ (i ≡ k) → when (eqb i k) n ≡ 0
+pub when-other : (i k n : ℕ) → ¬ (i ≡ k) → when (eqb i k) n ≡ 0
 when-other i k n e = ap (λ b. when b n) (ne_eqb i k e)
 
 module _ (key : BankKey) (s : St) (r : Counted key s) where
@@ -312,17 +312,10 @@ module _ (key : BankKey) (slots id i : ℕ) where
         ),
       )) role
 
--- What a step leaves of a seat.
-longer-parts : (ps : List CountPart) (x : CountStep) → 0 < length ps → let v : View = record { parts = ps } in
-    (length (with_step x v).parts ≡ length ps) × (own_part (with_step x v) ≡ longer x (own_part v)) × (taken_parts (with_step x v) ≡ taken_parts v)
-longer-parts [] x a = absurd (omega arith)
-longer-parts (p ∷ ps) x a = (refl, refl, refl)
-
--- the same of a seat that is given by an equation
+-- what a step leaves of a seat
 pub after-step : (m m' : Sat) (x : CountStep) → 0 < length m.0.parts → m' ≡ (with_step x m.0, m.1)
     → (length m'.0.parts ≡ length m.0.parts) × (own_part m'.0 ≡ longer x (own_part m.0)) × (taken_parts m'.0 ≡ taken_parts m.0) × (length m'.1 ≡ length m.1)
-after-step m m' x a e = let l = longer-parts m.0.parts x a in
-    (ap (λ (z : Sat). length z.0.parts) e ∙ l.0, ap (λ (z : Sat). own_part z.0) e ∙ l.1, ap (λ (z : Sat). taken_parts z.0) e ∙ l.2, ap (λ (z : Sat). length z.1) e)
+after-step m m' x a e = after-own (longer x) (new_part Reader 0 0) m m' a e
 
 pub after-add : (m m' m'' : Sat) (x y : CountStep) → 0 < length m.0.parts → m' ≡ (with_step x m.0, m.1) → m'' ≡ (with_step y m'.0, m'.1)
     → (length m''.0.parts ≡ length m.0.parts) × (own_part m''.0 ≡ longer y (longer x (own_part m.0))) × (length m''.1 ≡ length m.1)

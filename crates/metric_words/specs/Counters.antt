@@ -4,8 +4,9 @@
 -- A worker's add of n is two steps, first n to the value and then n to the pending word, where its units count as accepted. The flusher's latch swaps the pending word with 0.
 -- The reader's reading loads the value.
 --
--- Why the ledger is exact at every moment of every interleaving. Each seat has the list of its own steps, which that seat's steps alone lengthen.
--- `Counted` is a fact of the words and of all these lists, and it holds between any two steps, whichever seat makes the next one.
+-- Why the ledger is exact at every moment of every interleaving. Each seat has the list of its own steps, which that seat's steps alone lengthen; it is kept for the proof alone, and the newest step stands first.
+-- `Counted` is a fact of the words and of all these lists. It is what the table's rule `holds`, so it holds when the bank is made, and a step is only allowed where it keeps it, whatever the other seats did before.
+-- So it holds at every moment, which is any point between two atomic steps, and the steps have one order, since all of them are sequentially consistent.
 -- An add's first step raises the value and its seat's first steps by the same n, and its second step raises the pending word and the second steps alike.
 -- A latch moves the whole pending word into the latches in one step. So an add that comes before the swap is in the latch, one that comes after it is pending, and none is in between.
 -- A load changes no word. A split or a join moves lists from view to view, and no sum over all lists can tell.

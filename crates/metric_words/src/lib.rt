@@ -3,6 +3,13 @@
 
 mod bank;
 mod closing;
+mod gauge_bank;
+mod gauge_closing;
+mod gauge_making;
+mod gauge_plays;
+mod gauge_seats;
+mod gauge_steps;
+mod gauge_view;
 mod limits;
 mod making;
 mod plays;
@@ -12,9 +19,14 @@ mod view;
 
 pub use bank::CounterBank;
 pub use closing::CounterClose;
+pub use gauge_bank::GaugeBank;
+pub use gauge_seats::{GaugeSeat, GaugeSeats};
+pub use gauge_view::{GaugeKey, GaugeKind, GaugePart, GaugeStep, GaugeView};
 pub use limits::{MAX_SIZE, MAX_UNITS, MAX_WORKERS};
 pub use seats::{FlushSeat, ReadSeat, WordSeats, WorkerSeat};
 pub use view::{BankKey, CountKind, CountPart, CountStep, CountView, SeatRole};
 
+#[cfg(test)]
+mod gauge_tests;
 #[cfg(test)]
 mod tests;

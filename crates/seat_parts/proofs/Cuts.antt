@@ -1,13 +1,13 @@
 -- Splits and joins keep each sum over all parts and each fact of all parts, and a step of a seat changes its own part alone.
-use Rattle.std.proofs.Common.{◌≡◌, ℕ, ◌+◌, ◌*◌, ◌<◌, ◌≤◌, List, [], ◌∷◌, ◌++◌, length, set, sym, refl, ◌∙◌, arith, All}
+use Rattle.std.proofs.Common.{◌≡◌, ℕ, ◌+◌, ◌*◌, ◌<◌, ◌≤◌, List, [], ◌∷◌, ◌++◌, length, set, sym, refl, ap, ◌∙◌, arith, All, le_refl}
 use Rattle.std.proofs.lemmas.List.Elements.{All-nil, All-cons, All-head, All-tail, All-append, All-set}
 use mathlib.Core.Option.{some}
 use lib.ListN.{get_elem?}
 use Rattle.atomic_table.specs.Table.{Me}
 use Rattle.atomic_table.proofs.Lists.{set_else}
 use Rattle.seat_parts.specs.declared.Parts.{Parts}
-use Rattle.seat_parts.specs.Parts.{total, parts_total, AllParts, led_by, first_of, others_of, dealt, undealt, joined, spent}
-use Rattle.seat_parts.proofs.Sums.{total-append, total-set, total-bound, total-none, total-one, all-at, all-mapped}
+use Rattle.seat_parts.specs.Parts.{total, parts_total, AllParts, led_by, first_or, first_of, others_of, first_changed, own_changed, dealt, undealt, joined, spent}
+use Rattle.seat_parts.proofs.Sums.{total-append, total-set, total-bound, total-none, total-one, all-at, all-mapped, all-in, all-beside}
 
 module _ {P : Type 0} where
   first-others-total : (f : P → ℕ) (ps : List P) → total f (first_of ps) + total f (others_of ps) ≡ total f ps
@@ -46,6 +46,15 @@ module _ {P : Type 0} where
       let own = all-mapped F G up (p ∷ ps) (all-at Q views id (led_by p ps) e at) in
       All-set R views id (led_by q ps) (All-cons G q ps g (All-tail G p ps own)) (all-mapped Q R (λ z. all-mapped F G up z.parts) views e)
 
+  -- what each other part keeps, which is beside the part q in each sum
+  pub step-beside : (F G : P → Type 0) (views : List (Parts P)) (id : ℕ) (p q : P) → get_elem? views id ≡ some (led_by p [])
+      → ((x : P) → F x → ((f : P → ℕ) → f q + f x ≤ parts_total f (set views id (led_by q []))) → G x) → AllParts F views → G q → AllParts G (set views id (led_by q []))
+  step-beside F G views id p q at up e g = all-beside (λ (z : Parts P). All F z.parts) (λ (z : Parts P). All G z.parts) (λ h. total h (set views id (led_by q []))) views id (led_by p []) (led_by q [])
+      (λ v ev h. all-in F G v.parts (λ x fx le. up x fx (λ w. let a = le w in let b = h (λ (z : Parts P). total w z.parts) in omega arith)) ev) at (λ h. le_refl _) e (All-cons G q [] g (All-nil G))
+
+  pub parts-mapped : (F G : P → Type 0) → ((p : P) → F p → G p) → (views : List (Parts P)) → AllParts F views → AllParts G views
+  parts-mapped F G up views e = all-mapped (λ (z : Parts P). All F z.parts) (λ (z : Parts P). All G z.parts) (λ z. all-mapped F G up z.parts) views e
+
   pub own-fits : (F : P → Type 0) (views : List (Parts P)) (id : ℕ) (p : P) (ps : List P) → get_elem? views id ≡ some (led_by p ps) → AllParts F views → F p
   own-fits F views id p ps at e = All-head F p ps (all-at (λ (z : Parts P). All F z.parts) views id (led_by p ps) e at)
 
@@ -57,7 +66,17 @@ module _ {P : Type 0} where
   pub one-view : (f weight : P → ℕ) (F : P → Type 0) → ((p : P) → F p → weight p ≡ 0 → f p ≡ 0) → (views : List (Parts P)) → AllParts F views → (id : ℕ) (v : Parts P) → get_elem? views id ≡ some v → parts_total weight views ≤ total weight v.parts → parts_total f views ≡ total f v.parts
   one-view f weight F each views e id v at le = total-one (λ (z : Parts P). total f z.parts) (λ (z : Parts P). total weight z.parts) (λ (z : Parts P). All F z.parts) (λ z. total-none f weight F each z.parts) views e id v at le
 
--- a seat that has a part of its own and holds no slot
+pub no-slots : {S : Type 0} (c : List (ℕ × S)) → length c ≡ 0 → c ≡ []
+no-slots [] e = refl
+no-slots (x ∷ xs) e = absurd (omega arith)
+
+-- what a step leaves that changes the own part
+changed-parts : {P : Type 0} (f : P → P) (blank : P) (ps : List P) → 0 < length ps
+    → (length (first_changed f ps) ≡ length ps) × (first_or blank (first_changed f ps) ≡ f (first_or blank ps)) × (others_of (first_changed f ps) ≡ others_of ps)
+changed-parts f blank [] a = absurd (omega arith)
+changed-parts f blank (p ∷ ps) a = (refl, refl, refl)
+
+-- a seat with a part of its own that holds no slot
 module _ {S P : Type 0} where
   me_of : List P → List (ℕ × S) → Me S (Parts P)
   me_of ps c = (record { parts = ps }, c)
@@ -70,3 +89,24 @@ module _ {S P : Type 0} where
   pub led : (m : Me S (Parts P)) → 0 < length m.0.parts → length m.1 ≡ 0 → (p : P) × (ps : List P) × (m ≡ (led_by p ps, []))
   unfolding me_of
   led m a b = led-lists m.0.parts m.1 a b
+
+  alone-lists : (ps : List P) (c : List (ℕ × S)) → length ps ≡ 1 → length c ≡ 0 → (p : P) × (me_of ps c ≡ me_of (p ∷ []) [])
+  alone-lists [] c a b = absurd (omega arith)
+  alone-lists (p ∷ []) [] a b = (p, refl)
+  alone-lists (p ∷ []) (x ∷ xs) a b = absurd (omega arith)
+  alone-lists (p ∷ q ∷ ps) c a b = absurd (omega arith)
+
+  pub led-alone : (m : Me S (Parts P)) → length m.0.parts ≡ 1 → length m.1 ≡ 0 → (p : P) × (m ≡ (led_by p [], []))
+  unfolding me_of
+  led-alone m a b = alone-lists m.0.parts m.1 a b
+
+  pub after-own : (f : P → P) (blank : P) (m m' : Me S (Parts P)) → 0 < length m.0.parts → m' ≡ (own_changed f m.0, m.1)
+      → (length m'.0.parts ≡ length m.0.parts) × (first_or blank m'.0.parts ≡ f (first_or blank m.0.parts)) × (others_of m'.0.parts ≡ others_of m.0.parts) × (length m'.1 ≡ length m.1)
+  after-own f blank m m' a e = let c = changed-parts f blank m.0.parts a in
+      (ap (λ z. length z.0.parts) e ∙ c.0, ap (λ z. first_or blank z.0.parts) e ∙ c.1, ap (λ z. others_of z.0.parts) e ∙ c.2, ap (λ z. length z.1) e)
+
+-- the parts of a view that has one
+pub one-part : {P : Type 0} (blank : P) (ps : List P) → length ps ≡ 1 → ps ≡ first_or blank ps ∷ []
+one-part blank [] e = absurd (omega arith)
+one-part blank (p ∷ []) e = refl
+one-part blank (p ∷ q ∷ ps) e = absurd (omega arith)

@@ -1,3 +1,4 @@
 pub mod Sums
 pub mod Cuts
+pub mod Anys
 pub mod Crossing

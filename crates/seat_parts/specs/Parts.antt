@@ -2,6 +2,7 @@
 -- The part of a seat that steps alone is the one part of its view. A seat that took others in has theirs behind its own, and a seat that was taken in has none.
 -- So each part stands in exactly one view, however seats are split and joined, and a sum over all parts of all views speaks of all seats that the table was made with.
 use Rattle.std.specs.Prelude.{ℕ, ◌+◌, List, [], ◌∷◌, ◌++◌, All}
+use Rattle.std.specs.List.{Any}
 use Rattle.seat_parts.specs.declared.Parts.{Parts}
 
 -- the sum of f over a list
@@ -16,6 +17,10 @@ parts_total f views = total (λ view. total f view.parts) views
 -- a fact of each part of each view
 abbrev pub AllParts : {P : Type 0} → (P → Type 0) → List (Parts P) → Type 0
 AllParts F views = All (λ view. All F view.parts) views
+
+-- a fact of some part of some view
+abbrev pub AnyPart : {P : Type 0} → (P → Type 0) → List (Parts P) → Type 0
+AnyPart F views = Any (λ view. Any F view.parts) views
 
 -- the view with this own part, before the parts of others
 abbrev pub led_by : {P : Type 0} → P → List P → Parts P

@@ -1,23 +1,37 @@
-//! Adds to counter words, counted or timed.
+//! Adds to counter words and steps on gauge words, counted or timed.
 #![tactic(auto)]
 
+ghost use Rattle.std.specs.Prelude.{◌≤◌};
+
 mod counters;
+mod gauges;
 
 use counters::Shape;
+use gauges::Call;
 use stat_defs::NoMemory;
-use std::time::Instant;
+use std::time::{Duration, Instant};
 use std::{env, io};
 
-/// Adds of each thread where they are counted.
+/// Calls of each thread where they are counted.
 const COUNTED: u32 = 1_000;
 
-/// Adds of each thread where they are timed.
+/// Calls of each thread where they are timed.
 const TIMED: u32 = 4_000_000;
+
+/// The same of loads, which take much less.
+const TIMED_LOADS: u32 = 400_000_000;
 
 const SHAPES: [(Shape, &str); 3] = [
     (Shape::OneThread, "add, one thread"),
     (Shape::OneCounter, "add, four threads on one counter"),
     (Shape::FourCounters, "add, four threads on four counters"),
+];
+
+const CALLS: [(Call, &str, u32); 4] = [
+    (Call::Add, "gauge add", TIMED),
+    (Call::Sub, "gauge sub", TIMED),
+    (Call::Set, "gauge set", TIMED),
+    (Call::Value, "gauge value", TIMED_LOADS),
 ];
 
 fn main(rt: HostRuntime) -> io::Result<()> {
@@ -31,7 +45,7 @@ fn main(rt: HostRuntime) -> io::Result<()> {
         if timed {
             let start = Instant::now(&rt)?;
             counters::run(&rt, rt.alloc(), shape, TIMED).map_err(no_memory)?;
-            let picoseconds = start.elapsed(&rt)?.as_nanos() / (TIMED as u128 / 1000);
+            let picoseconds = per_call(start.elapsed(&rt)?, TIMED);
             println!(rt;
                 "{name}: {}.{:03} ns",
                 picoseconds / 1000,
@@ -45,7 +59,32 @@ fn main(rt: HostRuntime) -> io::Result<()> {
             )?;
         }
     }
+    for four in [false, true] {
+        let threads = if four { "four threads" } else { "one thread" };
+        for (call, name, times) in CALLS {
+            if timed {
+                let start = Instant::now(&rt)?;
+                gauges::run(&rt, rt.alloc(), call, four, times).map_err(no_memory)?;
+                let picoseconds = per_call(start.elapsed(&rt)?, times);
+                println!(rt;
+                    "{name}, {threads}: {}.{:03} ns",
+                    picoseconds / 1000,
+                    picoseconds % 1000
+                )?;
+            } else {
+                let word = gauges::run(&rt, rt.alloc(), call, four, COUNTED).map_err(no_memory)?;
+                println!(rt; "{name}, {threads}: word {word}")?;
+            }
+        }
+    }
     Ok(())
+}
+
+// Picoseconds of a thread's time per call.
+fn per_call(time: Duration, times: u32) -> u128
+    requires { 1000 ≤ times }
+{
+    time.as_nanos() / (times as u128 / 1000)
 }
 
 fn no_memory(_: NoMemory) -> io::Error {

@@ -2,16 +2,17 @@ use Rattle.std.proofs.Common.{rules, arith, ◌≡◌, ◌∙◌, Some, ap, ◌�
 use Rattle.seat_parts.specs.Parts.{total}
 use Rattle.seat_parts.proofs.Sums.{total-append}
 use Rattle.std.proofs.lemmas.List.Elements.{All-pop}
+use Rattle.seat_parts.proofs.Cuts.{no-slots}
 use Rattle.metric_words.specs.Seats.{worker_bank, worker_part, bank_id}
 use Rattle.metric_words.proofs.Deals.{joins}
-use Rattle.metric_words.proofs.Ends.{nil_of, joined-seat, one-total, view-total}
+use Rattle.metric_words.proofs.Ends.{joined-seat, one-total, view-total}
 use Rattle.metric_words.proofs.bank.CounterBank.gather.Goals as goal
 
 pub join_seat-requires : goal.join_seat-requires
-join_seat-requires c = (search rules, search rules, nil_of _ c.args.seats.flusher.leads.1, search rules, joins _ _ _ _ _)
+join_seat-requires c = (search rules, search rules, no-slots _ c.args.seats.flusher.leads.1, search rules, joins _ _ _ _ _)
 
 pub join_seat-requires-in-Some : goal.join_seat-requires-in-Some
-join_seat-requires-in-Some c = (search rules, (All-pop (λ w. worker_bank w ≡ bank_id c.args.self.now) _ _ (Some c.in-Some.worker) c.in-Some.ensures.items c.loop-worker.invariant.5).1, nil_of _ c.in-Some.worker.alone.1, search rules, joins _ _ _ _ _)
+join_seat-requires-in-Some c = (search rules, (All-pop (λ w. worker_bank w ≡ bank_id c.args.self.now) _ _ (Some c.in-Some.worker) c.in-Some.ensures.items c.loop-worker.invariant.5).1, no-slots _ c.in-Some.worker.alone.1, search rules, joins _ _ _ _ _)
 
 pub loop-worker-init : goal.loop-worker-init
 loop-worker-init c = let r = c.args.seats.reader in let f = c.args.seats.flusher in

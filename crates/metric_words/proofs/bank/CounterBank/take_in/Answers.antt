@@ -1,11 +1,12 @@
 use Rattle.std.proofs.Common.{rules, arith, ap, ◌∙◌, ◌∷◌, [], length, length-append}
+use Rattle.seat_parts.proofs.Cuts.{no-slots}
 use Rattle.metric_words.specs.Counters.{own_part, taken_parts, worker_weight, flusher_weight, firsts, seconds, latches}
 use Rattle.metric_words.proofs.Deals.{joins}
-use Rattle.metric_words.proofs.Ends.{nil_of, joined-one, taken-total}
+use Rattle.metric_words.proofs.Ends.{joined-one, taken-total}
 use Rattle.metric_words.proofs.bank.CounterBank.take_in.Goals as goal
 
 pub join_seat-requires : goal.join_seat-requires
-join_seat-requires c = (search rules, search rules, nil_of _ c.args.worker.alone.1, search rules, joins _ _ _ _ _)
+join_seat-requires c = (search rules, search rules, no-slots _ c.args.worker.alone.1, search rules, joins _ _ _ _ _)
 
 pub invariant_of-flush : goal.invariant_of-flush
 invariant_of-flush c = let f = c.args.flush.now in let w = c.args.worker in

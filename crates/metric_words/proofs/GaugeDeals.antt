@@ -1,0 +1,94 @@
+-- A gauge bank begins under its rule, and splits and joins of seats keep it.
+use Rattle.std.proofs.Common.{◌≡◌, ℕ, zero, suc, ◌+◌, ◌-◌, ◌%◌, ◌^◌, ◌<◌, inl, inr, ⊎_elim, List, [], ◌∷◌, ◌++◌, length, map, get_or, set, replicate, sym, refl, ap, ◌∙◌, arith, All}
+use Rattle.std.proofs.lemmas.List.{length-replicate, map-append}
+use Rattle.std.specs.List.{range_with_len}
+use Rattle.std.proofs.lemmas.List.Elements.{All-nil, All-cons}
+use Rattle.atomic_table.specs.Table.{Me, Splits, Joins, opening}
+use Rattle.seat_parts.specs.Parts.{total, parts_total, dealt, undealt, joined, spent}
+use Rattle.seat_parts.proofs.Cuts.{split-total, split-all, join-total, join-all, parts-mapped}
+use Rattle.seat_parts.proofs.Anys.{split-any, join-any}
+use Rattle.metric_words.specs.declared.gauge_view.GaugePart.{GaugePart}
+use Rattle.metric_words.specs.declared.gauge_view.GaugeKey.{GaugeKey}
+use Rattle.metric_words.specs.declared.gauge_seats.GaugeSeat.{GaugeSeat}
+use Rattle.metric_words.specs.Gauges.{View, net, written, Alone, WroteLast, Gauged, new_gauge, new_gauges, gauge_view, own_gauge}
+use Rattle.metric_words.specs.GaugeLedger.{gauge_number}
+use Rattle.metric_words.proofs.Deals.{zeros-at, range-more}
+
+new-count : (seat n : ℕ) → total (λ (_ : GaugePart). 1) (new_gauges seat n) ≡ n
+new-count seat zero = refl
+new-count seat (suc n) = omega (arith, new-count (suc seat) n)
+
+new-none : (f : GaugePart → ℕ) → ((seat : ℕ) → f (new_gauge seat) ≡ 0) → (seat n : ℕ) → total f (new_gauges seat n) ≡ 0
+new-none f z seat zero = refl
+new-none f z seat (suc n) = omega (arith, z seat, new-none f z (suc seat) n)
+
+new-all : (F : GaugePart → Type 0) → ((seat : ℕ) → F (new_gauge seat)) → (seat n : ℕ) → All F (new_gauges seat n)
+new-all F f seat zero = All-nil F
+new-all F f seat (suc n) = All-cons F (new_gauge seat) (new_gauges (suc seat) n) (f seat) (new-all F f (suc seat) n)
+
+pub opens : (key : GaugeKey) (words : List ℕ) → words ≡ replicate key.size 0 → Gauged key (opening words [] (gauge_view key))
+opens key words is =
+    let none : (f : GaugePart → ℕ) → ((seat : ℕ) → f (new_gauge seat) ≡ 0) → parts_total f (gauge_view key ∷ []) ≡ 0 = λ f z. let a = new-none f z 0 (key.workers + 2) in omega arith in
+    let zero-at : (k : ℕ) → get_or words k 0 ≡ 0 = λ k. ap (λ (l : List ℕ). get_or l k 0) is ∙ zeros-at key.size k in
+    let A : GaugePart → Type 0 = Alone words (λ id. parts_total (λ (p : GaugePart). written id p.steps) (gauge_view key ∷ [])) in
+    record {
+      wide = ap length is ∙ length-replicate key.size 0;
+      seats = (let n = new-count 0 (key.workers + 2) in omega arith);
+      value = λ k. (let n = none (λ p. net k p.steps) (λ _. refl) in zero-at k ∙ ap (λ (z : ℕ). z % 2 ^ 64) (sym n));
+      alone = All-cons (λ (v : View). All A v.parts) (gauge_view key) [] (new-all A (λ seat k only. zero-at k) 0 (key.workers + 2)) (All-nil (λ (v : View). All A v.parts));
+      last = λ k. inl (none (λ p. written k p.steps) (λ _. refl));
+    }
+
+pub splits : (key : GaugeKey) (id : ℕ) (v : View) → Splits (Gauged key) id v (undealt v) (dealt v)
+splits key id v s r at =
+    let views : List View = set s.views id (undealt v) ++ dealt v ∷ [] in
+    let same : (f : GaugePart → ℕ) → parts_total f views ≡ parts_total f s.views = λ f. split-total f s.views id v at in
+    let A : GaugePart → Type 0 = Alone s.words (λ id. parts_total (λ (p : GaugePart). written id p.steps) s.views) in
+    let B : GaugePart → Type 0 = Alone s.words (λ id. parts_total (λ (p : GaugePart). written id p.steps) views) in
+    record {
+      wide = r.wide;
+      seats = same (λ _. 1) ∙ r.seats;
+      value = λ k. r.value k ∙ ap (λ (z : ℕ). z % 2 ^ 64) (sym (same (λ p. net k p.steps)));
+      alone = parts-mapped A B (λ p f k only. f k (sym (same (λ q. written k q.steps)) ∙ only)) views (split-all A s.views id v at r.alone);
+      last = λ k. ⊎_elim (λ z. inl (same (λ p. written k p.steps) ∙ z)) (λ a. inr (split-any (WroteLast k (get_or s.words k 0)) s.views id v at a)) (r.last k);
+    }
+
+pub joins : (key : GaugeKey) (id other : ℕ) (v w : View) → Joins (Gauged key) id v other w (joined v w) spent
+joins key id other v w s r at ne at' =
+    let views : List View = set (set s.views id (joined v w)) other spent in
+    let same : (f : GaugePart → ℕ) → parts_total f views ≡ parts_total f s.views = λ f. join-total f s.views id other v w at at' in
+    let A : GaugePart → Type 0 = Alone s.words (λ id. parts_total (λ (p : GaugePart). written id p.steps) s.views) in
+    let B : GaugePart → Type 0 = Alone s.words (λ id. parts_total (λ (p : GaugePart). written id p.steps) views) in
+    record {
+      wide = r.wide;
+      seats = same (λ _. 1) ∙ r.seats;
+      value = λ k. r.value k ∙ ap (λ (z : ℕ). z % 2 ^ 64) (sym (same (λ p. net k p.steps)));
+      alone = parts-mapped A B (λ p f k only. f k (sym (same (λ q. written k q.steps)) ∙ only)) views (join-all A s.views id other v w at ne at' r.alone);
+      last = λ k. ⊎_elim (λ z. inl (same (λ p. written k p.steps) ∙ z)) (λ a. inr (join-any (WroteLast k (get_or s.words k 0)) s.views id other v w at ne at' a)) (r.last k);
+    }
+
+abbrev Sat : Type 0
+Sat = Me (Unit {0}) View
+
+abbrev pub one_of : ℕ → Sat
+one_of seat = (record { parts = new_gauge seat ∷ [] }, [])
+
+abbrev pub rest_of : ℕ → ℕ → Sat
+rest_of seat n = (record { parts = new_gauges seat n }, [])
+
+cut-new : (seat n : ℕ) → 0 < n → ((dealt (rest_of seat n).0, []) ≡ one_of seat) × ((undealt (rest_of seat n).0, []) ≡ rest_of (seat + 1) (n - 1))
+cut-new seat zero h = absurd (omega arith)
+cut-new seat (suc n) h = (refl, (let e : suc seat ≡ seat + 1 = omega arith in let f : n ≡ suc n - 1 = omega arith in λ i. rest_of (e i) (f i)))
+
+-- a seat is cut off
+pub cut : (m : Sat) (seat n seat' n' : ℕ) → m ≡ rest_of seat n → 0 < n → seat' ≡ seat + 1 → n' ≡ n - 1 → ((dealt m.0, []) ≡ one_of seat) × ((undealt m.0, m.1) ≡ rest_of seat' n')
+cut m seat n seat' n' e h es en = let c = cut-new seat n h in
+    (ap (λ (z : Sat). (dealt z.0, [])) e ∙ c.0, ap (λ (z : Sat). (undealt z.0, z.1)) e ∙ (c.1 ∙ (λ i. rest_of (sym es i) (sym en i))))
+
+-- a seat with this part alone
+pub part-of : (m : Sat) (seat : ℕ) → m ≡ one_of seat → (length m.0.parts ≡ 1) × (length m.1 ≡ 0) × (own_gauge m.0 ≡ new_gauge seat)
+part-of m seat e = (ap (λ (z : Sat). length z.0.parts) e, ap (λ (z : Sat). length z.1) e, ap (λ (z : Sat). own_gauge z.0) e)
+
+pub numbers-push : (ws all : List GaugeSeat) (w : GaugeSeat) (n : ℕ) → map gauge_number ws ≡ range_with_len 1 n → all ≡ ws ++ w ∷ [] → gauge_number w ≡ 1 + n → map gauge_number all ≡ range_with_len 1 (n + 1)
+numbers-push ws all w n is e number =
+    ap (map gauge_number) e ∙ (map-append gauge_number ws (w ∷ []) ∙ (ap (λ z. z ++ gauge_number w ∷ []) is ∙ (ap (λ k. range_with_len 1 n ++ k ∷ []) number ∙ sym (range-more 1 n))))

@@ -1,0 +1,158 @@
+-- Each step of a gauge bank keeps its rule.
+use Rattle.std.proofs.Common.{◌≡◌, ℕ, ◌+◌, ◌%◌, ◌^◌, ◌<◌, inl, inr, ⊎_elim, List, [], length, get_or, set, sym, refl, ap, ◌∙◌, subst, arith, eqb, eq-eqb, ne_eqb, length-set, get_or-set_same, get_or-set_other, Bool, true, false}
+use mathlib.Core.Logic.{dite}
+use mathlib.Core.Option.{some}
+use native.Mathlib.Decide.{ℕ_discrete}
+use lib.ListN.{get_elem?}
+use Rattle.atomic_table.specs.Table.{State, Me, keeps, stepped, Allows}
+use Rattle.seat_parts.specs.Parts.{parts_total, led_by}
+use Rattle.seat_parts.proofs.Cuts.{step-total, step-all, step-beside, own-fits, led-alone}
+use Rattle.seat_parts.proofs.Anys.{step-any, own-any}
+use Rattle.metric_words.specs.declared.gauge_view.GaugeKind.{GaugeKind}
+use Rattle.metric_words.specs.declared.gauge_view.GaugeKind.TheVariants.{Add, Sub, Set, Load}
+use Rattle.metric_words.specs.declared.gauge_view.GaugePart.{GaugePart}
+use Rattle.metric_words.specs.declared.gauge_view.GaugeKey.{GaugeKey}
+use Rattle.metric_words.specs.Counters.{when, choose}
+use Rattle.metric_words.specs.Gauges.{View, gauge_step, counts, net, writes, written, left_by, fold_of, set_or, if_same, LastSet, Alone, WroteLast, Gauged, longer_gauge, with_gauge_step}
+use Rattle.metric_words.proofs.Keeps.{when-same, when-other}
+
+abbrev St : Type 0
+St = State (Unit {0}) View
+
+nets : (kind : GaugeKind) (n x s : ℕ) → x ≡ s % 2 ^ 64 → n < 2 ^ 64 → left_by kind n x ≡ (s + counts kind n x) % 2 ^ 64
+nets Add n x s e h = omega arith
+nets Sub n x s e h = omega arith
+nets Set n x s e h = omega arith
+nets Load n x s e h = omega arith
+
+last-of : (kind : GaugeKind) (n x word : ℕ) (Earlier : Type 0) → writes kind ≡ 1 → word ≡ left_by kind n x → set_or kind n word Earlier
+last-of Add n x word Earlier w e = tt
+last-of Sub n x word Earlier w e = tt
+last-of Set n x word Earlier w e = e
+last-of Load n x word Earlier w e = absurd (omega arith)
+
+when-zero : (b : Bool) → when b 0 ≡ 0
+when-zero true = refl
+when-zero false = refl
+
+choose-one : (b : Bool) (n : ℕ) → choose b n n ≡ n
+choose-one true n = refl
+choose-one false n = refl
+
+either-way : (b : Bool) (P : Type 0) → P → if_same b P P
+either-way true P p = p
+either-way false P p = p
+
+module _ (key : GaugeKey) (s : St) (r : Gauged key s) where
+  abbrev writes_of : ℕ → ℕ
+  writes_of k = parts_total (λ (p : GaugePart). written k p.steps) s.views
+
+  -- the seat id, whose part is p, makes a step that writes
+  write-placed : (kind : GaugeKind) (i n id : ℕ) (p : GaugePart) → get_elem? s.views id ≡ some (led_by p []) → writes kind ≡ 1 → i < key.size → n < 2 ^ 64
+      → Gauged key (stepped s i (left_by kind n (get_or s.words i 0)) id [] (led_by (longer_gauge (gauge_step kind i n (get_or s.words i 0)) p) []) keeps)
+  write-placed kind i n id p at one small fits =
+      let x : ℕ = get_or s.words i 0 in let y : ℕ = left_by kind n x in let q : GaugePart = longer_gauge (gauge_step kind i n x) p in
+      let words : List ℕ = set s.words i y in let views : List View = set s.views id (led_by q []) in let wide = r.wide in
+      let here : get_or words i 0 ≡ y = get_or-set_same s.words i y 0 (omega arith) in
+      let there : (k : ℕ) → ¬ (i ≡ k) → get_or words k 0 ≡ get_or s.words k 0 = λ k ne. get_or-set_other s.words i k y 0 (λ e. ne (sym e)) in
+      let after : ℕ → ℕ = λ k. parts_total (λ (a : GaugePart). written k a.steps) views in
+      let writes-step : (k : ℕ) → after k + written k p.steps ≡ writes_of k + written k q.steps = λ k. step-total (λ (a : GaugePart). written k a.steps) s.views id p q [] at in
+      let same-writes : (k : ℕ) → ¬ (i ≡ k) → after k ≡ writes_of k = λ k ne. let t = writes-step k in let z = when-other i k (writes kind) ne in omega arith in
+      let own : Alone s.words writes_of p = own-fits (Alone s.words writes_of) s.views id p [] at r.alone in
+      record {
+        wide = length-set s.words i y ∙ r.wide;
+        seats = (let t = step-total (λ (_ : GaugePart). 1) s.views id p q [] at in let c = r.seats in omega arith);
+        value = λ k. (let t = step-total (λ (a : GaugePart). net k a.steps) s.views id p q [] at in let v = r.value k in dite (ℕ_discrete i k)
+            (λ e. let z = when-same i k (counts kind n x) e in let v' : x ≡ parts_total (λ (a : GaugePart). net k a.steps) s.views % 2 ^ 64 = ap (λ j. get_or s.words j 0) e ∙ v in
+            let sums : parts_total (λ (a : GaugePart). net k a.steps) views ≡ parts_total (λ (a : GaugePart). net k a.steps) s.views + counts kind n x = omega arith in
+            ap (λ j. get_or words j 0) (sym e) ∙ (here ∙ (nets kind n x (parts_total (λ (a : GaugePart). net k a.steps) s.views) v' fits ∙ ap (λ (z : ℕ). z % 2 ^ 64) (sym sums))))
+            (λ ne. let z = when-other i k (counts kind n x) ne in
+            let sums : parts_total (λ (a : GaugePart). net k a.steps) views ≡ parts_total (λ (a : GaugePart). net k a.steps) s.views = omega arith in
+            there k ne ∙ (v ∙ ap (λ (z : ℕ). z % 2 ^ 64) (sym sums))));
+        alone = step-beside (Alone s.words writes_of) (Alone words after) s.views id p q at
+            (λ z f beside k only. dite (ℕ_discrete i k)
+            (λ e. absurd (let b = beside (λ a. written k a.steps) in let w = when-same i k (writes kind) e in omega arith))
+            (λ ne. there k ne ∙ f k (sym (same-writes k ne) ∙ only)))
+            r.alone
+            (λ k only. let t = writes-step k in dite (ℕ_discrete i k)
+            (λ e. let before : x ≡ fold_of k p.steps = ap (λ j. get_or s.words j 0) e ∙ own k (omega arith) in
+            ap (λ j. get_or words j 0) (sym e) ∙ (here ∙ (ap (λ z. left_by kind n z) before ∙ sym (ap (λ b. choose b (left_by kind n (fold_of k p.steps)) (fold_of k p.steps)) (eq-eqb i k e)))))
+            (λ ne. let z = when-other i k (writes kind) ne in let w = same-writes k ne in
+            there k ne ∙ (own k (omega arith) ∙ sym (ap (λ b. choose b (left_by kind n (fold_of k p.steps)) (fold_of k p.steps)) (ne_eqb i k ne)))));
+        last = λ k. dite (ℕ_discrete i k)
+            (λ e. inr (own-any (WroteLast k (get_or words k 0)) s.views id p q at (
+              (let w = when-same i k (writes kind) e in omega arith),
+              subst (λ b. if_same b (set_or kind n (get_or words k 0) (LastSet k p.steps (get_or words k 0))) (LastSet k p.steps (get_or words k 0))) (sym (eq-eqb i k e))
+                  (last-of kind n x (get_or words k 0) (LastSet k p.steps (get_or words k 0)) one (ap (λ j. get_or words j 0) (sym e) ∙ here)),
+            )))
+            (λ ne. let same = there k ne in ⊎_elim
+            (λ z. inl (same-writes k ne ∙ z))
+            (λ a. inr (step-any (WroteLast k (get_or s.words k 0)) (WroteLast k (get_or words k 0)) s.views id p q at
+            (λ f. (
+              (let z = when-other i k (writes kind) ne in let f0 = f.0 in omega arith),
+              subst (λ b. if_same b (set_or kind n (get_or words k 0) (LastSet k p.steps (get_or words k 0))) (LastSet k p.steps (get_or words k 0))) (sym (ne_eqb i k ne)) (subst (λ w. LastSet k p.steps w) (sym same) f.1),
+            ))
+            (λ z f. (f.0, subst (λ w. LastSet k z.steps w) (sym same) f.1)) a))
+            (r.last k));
+      }
+
+  load-placed : (i id : ℕ) (p : GaugePart) → get_elem? s.views id ≡ some (led_by p []) → i < key.size
+      → Gauged key (stepped s i (get_or s.words i 0) id [] (led_by (longer_gauge (gauge_step Load i 0 (get_or s.words i 0)) p) []) keeps)
+  load-placed i id p at small =
+      let x : ℕ = get_or s.words i 0 in let q : GaugePart = longer_gauge (gauge_step Load i 0 x) p in
+      let words : List ℕ = set s.words i x in let views : List View = set s.views id (led_by q []) in let wide = r.wide in
+      let same : (k : ℕ) → get_or words k 0 ≡ get_or s.words k 0 =
+      λ k. dite (ℕ_discrete k i) (λ e. ap (λ j. get_or words j 0) e ∙ (get_or-set_same s.words i x 0 (omega arith) ∙ ap (λ j. get_or s.words j 0) (sym e))) (λ ne. get_or-set_other s.words i k x 0 ne) in
+      let after : ℕ → ℕ = λ k. parts_total (λ (a : GaugePart). written k a.steps) views in
+      let same-writes : (k : ℕ) → after k ≡ writes_of k = λ k. let t = step-total (λ (a : GaugePart). written k a.steps) s.views id p q [] at in let z = when-zero (eqb i k) in omega arith in
+      let own : Alone s.words writes_of p = own-fits (Alone s.words writes_of) s.views id p [] at r.alone in
+      record {
+        wide = length-set s.words i x ∙ r.wide;
+        seats = (let t = step-total (λ (_ : GaugePart). 1) s.views id p q [] at in let c = r.seats in omega arith);
+        value = λ k. (let t = step-total (λ (a : GaugePart). net k a.steps) s.views id p q [] at in let z = when-zero (eqb i k) in
+            let sums : parts_total (λ (a : GaugePart). net k a.steps) views ≡ parts_total (λ (a : GaugePart). net k a.steps) s.views = omega arith in
+            same k ∙ (r.value k ∙ ap (λ (z : ℕ). z % 2 ^ 64) (sym sums)));
+        alone = step-all (Alone s.words writes_of) (Alone words after) (λ z f k only. same k ∙ f k (sym (same-writes k) ∙ only)) s.views id p q [] at r.alone
+            (λ k only. let z = when-zero (eqb i k) in let w = same-writes k in same k ∙ (own k (omega arith) ∙ sym (choose-one (eqb i k) (fold_of k p.steps))));
+        last = λ k. ⊎_elim
+            (λ z. inl (same-writes k ∙ z))
+            (λ a. inr (step-any (WroteLast k (get_or s.words k 0)) (WroteLast k (get_or words k 0)) s.views id p q at
+            (λ f. (
+              (let z = when-zero (eqb i k) in let f0 = f.0 in omega arith),
+              either-way (eqb i k) (LastSet k p.steps (get_or words k 0)) (subst (λ w. LastSet k p.steps w) (sym (same k)) f.1),
+            ))
+            (λ z f. (f.0, subst (λ w. LastSet k z.steps w) (sym (same k)) f.1)) a))
+            (r.last k);
+      }
+
+abbrev Sat : Type 0
+Sat = Me (Unit {0}) View
+
+-- What the table asks of each step, of a seat that has one part.
+module _ (key : GaugeKey) (slots id i : ℕ) where
+  abbrev Leaves : GaugeKind → ℕ → Sat → ℕ → Sat → Type 0
+  Leaves kind n m found m' = m' ≡ (with_gauge_step (gauge_step kind i n found) m.0, m.1)
+
+  pub write-allowed : (kind : GaugeKind) (m : Sat) (n : ℕ) → writes kind ≡ 1 → length m.0.parts ≡ 1 → length m.1 ≡ 0 → i < key.size → n < 2 ^ 64
+      → Allows (Gauged key) slots id m i (left_by kind n) (Leaves kind n m)
+  write-allowed kind m n one a b small fits = let t = led-alone m a b in let p = t.0 in
+      subst (λ (z : Sat). Allows (Gauged key) slots id z i (left_by kind n) (Leaves kind n z)) (sym t.1)
+      (λ s r _ at _. (
+        led_by (longer_gauge (gauge_step kind i n (get_or s.words i 0)) p) [],
+        keeps,
+        tt,
+        write-placed key s r kind i n id p at one small fits,
+        refl,
+      ))
+
+  pub load-allowed : (m : Sat) → length m.0.parts ≡ 1 → length m.1 ≡ 0 → i < key.size
+      → Allows (Gauged key) slots id m i (λ x. x) (Leaves Load 0 m)
+  load-allowed m a b small = let t = led-alone m a b in let p = t.0 in
+      subst (λ (z : Sat). Allows (Gauged key) slots id z i (λ x. x) (Leaves Load 0 z)) (sym t.1)
+      (λ s r _ at _. (
+        led_by (longer_gauge (gauge_step Load i 0 (get_or s.words i 0)) p) [],
+        keeps,
+        tt,
+        load-placed key s r i id p at small,
+        refl,
+      ))
