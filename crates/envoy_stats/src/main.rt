@@ -1,6 +1,8 @@
 //! The statistics store as a program: `envoy_stats replay - FILE` applies an event file and writes one flush.
 #![tactic(auto)]
 
+ghost use Rattle.std.specs.Prelude.{◌≡◌, ◌⊎◌};
+
 mod command;
 mod counters;
 mod reading;
@@ -11,19 +13,40 @@ mod tests;
 mod writing;
 
 pub use replay::{Outcome, quiet_stats};
-use stats_io::{FolderShelf, StdSink};
+use stats_io::{FolderShelf, Sink, StdSink};
 use std::io;
 use std::process::ExitCode;
+use std::rt::Env;
+use telling::{OUT_OF_MEMORY, USAGE, say};
 
-fn main(rt: HostRuntime) -> io::Result<ExitCode> {
-    let alloc = rt.alloc();
-    let mut words = Vec::new(alloc);
-    for word in std::env::args(&rt)?.skip(1) {
+// The words of the command line without the program's name.
+fn words_of<R: Env + AllocGlobal>(rt: &R) -> io::Result<Vec<String>> {
+    let mut words = Vec::new(rt.alloc());
+    for word in std::env::args(rt)?.skip(1) {
         words.push(word)?;
     }
+    Ok(words)
+}
+
+// Says why the words could not be read, and gives the status: want of memory, or a word that is no text.
+fn refuse<E: Sink>(err: &mut E, fault: io::Error) -> u8
+    ensures { (result ≡ 1) ⊎ (result ≡ 6) }
+{
+    if fault.kind() == io::ErrorKind::OutOfMemory {
+        say(err, OUT_OF_MEMORY);
+        return 6;
+    }
+    say(err, USAGE);
+    1
+}
+
+fn main(rt: HostRuntime) -> ExitCode {
     let mut shelf = FolderShelf::new(&rt);
     let mut out = StdSink::new(rt.stdout());
     let mut err = StdSink::new(rt.stderr());
-    let outcome = quiet_stats(alloc, &words, &mut shelf, &mut out, &mut err);
-    Ok(ExitCode::from(outcome.status))
+    let status = match words_of(&rt) {
+        Ok(words) => quiet_stats(rt.alloc(), &words, &mut shelf, &mut out, &mut err).status,
+        Err(fault) => refuse(&mut err, fault),
+    };
+    ExitCode::from(status)
 }

@@ -8,7 +8,7 @@ ghost use Rattle.envoy_stats.specs.Readiness.{IsReady, Finishes, said_of};
 
 use crate::command::file_of;
 use crate::reading::read_file;
-use crate::telling::{USAGE, fault_line, say};
+use crate::telling::{OUT_OF_MEMORY, USAGE, fault_line, say};
 use crate::writing::{report_of, view_of, worker_line, write_output};
 use stat_defs::{FileEnd, FlushView, NoMemory, Report, Txt};
 use stats_io::{Shelf, Sink};
@@ -71,7 +71,7 @@ fn give_up<E: Sink>(err: &mut E) -> Outcome
     ensures outcome { result ≡ record { status = 6; report = None } }
     ensures said { ¬ Rose (E.faults err.old) (E.faults err.new) → Appends (E.written err.old) (E.written err.new) (refusals 6 None) }
 {
-    say(err, b"out of memory\n");
+    say(err, OUT_OF_MEMORY);
     Outcome {
         status: 6,
         report: None,

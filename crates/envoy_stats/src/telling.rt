@@ -12,6 +12,9 @@ use std::alloc::Global;
 pub const USAGE: &[u8] =
     b"usage: envoy_stats run|replay [--symbols] [--format statsd|prom|admin] BOOT FILE.. | check BOOT | bins V..\n";
 
+/// What is said where memory was wanting.
+pub const OUT_OF_MEMORY: &[u8] = b"out of memory\n";
+
 /// Says a text. A fault of the sink changes nothing else.
 pub fn say<E: Sink>(err: &mut E, text: &[u8])
     ensures said { ¬ Rose (E.faults err.old) (E.faults err.new) → Appends (E.written err.old) (E.written err.new) text.now }
