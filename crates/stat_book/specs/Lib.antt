@@ -1,0 +1,7 @@
+pub mod State
+pub mod Finding
+pub mod Step
+pub mod Log
+pub mod Safe
+pub mod Follows
+pub mod Worked

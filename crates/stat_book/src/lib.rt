@@ -1,0 +1,8 @@
+//! The scopes and metrics of a store: what its book may reply to each call, and what the log of these replies comes to.
+#![tactic(auto)]
+
+mod limits;
+mod worked;
+
+pub use limits::{MAX_HISTOGRAMS, MAX_METRICS};
+pub use worked::{gone_in_the_last_sweep, retired_and_found_again, shared_symbols, sweep_waits};
