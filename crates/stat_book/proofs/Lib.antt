@@ -1,2 +1,3 @@
 mod Computed
 mod Waiting
+pub mod Growing

@@ -4,4 +4,5 @@ pub mod Step
 pub mod Log
 pub mod Safe
 pub mod Follows
+pub mod Laws
 pub mod Worked
