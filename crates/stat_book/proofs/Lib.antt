@@ -1,0 +1,3 @@
+mod Computed
+mod Waiting
+pub mod Growing
