@@ -6,7 +6,7 @@ use Rattle.regex_syntax.specs.Grammar.{read, Names, group_count}
 use Rattle.regex.specs.Patterns.{Re, Match, SameCaptures, find_str, slot_of, default_config, Reads}
 use Rattle.regex.specs.Writes.{group_of, both}
 use Rattle.regex.specs.Search.{Answers}
-use Rattle.regex.specs.Strings.{regex_pattern, regex_source, regex_config, IsReadFromSource, IsCapturesOf, captures_span}
+use Rattle.regex.specs.Strings.{regex_pattern, regex_source, regex_config, IsReadFromSource, IsCapturesOf}
 use Rattle.regex.specs.declared.string.captures.Captures.{Captures}
 use Rattle.regex.specs.declared.string.regex.Regex.{Regex}
 use Rattle.regex.proofs.ForCallers.{is_match_alike, found_alike}

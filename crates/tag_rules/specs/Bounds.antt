@@ -1,5 +1,5 @@
 -- The bounds of a histogram's buckets (Envoy's configuration reference, histogram bucket settings).
-use Rattle.std.specs.Prelude.{ℕ, ◌*◌, List, [], ◌∷◌, ◌++◌, map, if◌then◌else◌}
+use Rattle.std.specs.Prelude.{ℕ, List, [], ◌∷◌, map, if◌then◌else◌}
 use Rattle.stat_defs.specs.declared.bins.Bound.{Bound}
 use Rattle.stat_defs.specs.declared.configs.BucketSpec.{BucketSpec}
 use Rattle.tag_rules.specs.Admission.{matches}

@@ -1,5 +1,5 @@
 -- What a build answers, and which member of a list is at fault. This project's own.
-use Rattle.std.specs.Prelude.{◌≡◌, ◌⊎◌, ℕ, List, Result, Ok, Err, slice_get}
+use Rattle.std.specs.Prelude.{◌≡◌, ◌⊎◌, List, Result, Ok, Err, slice_get}
 use Rattle.std.specs.Option.{IsSomeAnd}
 use Rattle.stat_defs.specs.declared.configs.Pattern.{Pattern}
 use Rattle.stat_defs.specs.declared.configs.Pattern.TheVariants as pattern

@@ -7,7 +7,6 @@ use lib.Pointwise.{pointwise}
 use Rattle.stat_defs.specs.declared.configs.Rule.{Rule}
 use Rattle.stat_defs.specs.declared.configs.Rule.TheVariants.{Regex, Fixed}
 use Rattle.stat_defs.specs.declared.configs.TagSpec.{TagSpec}
-use Rattle.stat_defs.specs.declared.metrics.Tag.{Tag}
 use Rattle.stat_defs.specs.declared.metrics.Tagged.{Tagged}
 use Rattle.tag_rules.specs.declared.given.Given.{Given}
 use Rattle.tag_rules.specs.Patterns.{Place, captured}

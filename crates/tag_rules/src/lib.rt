@@ -4,6 +4,7 @@
 mod buckets;
 mod fault;
 mod given;
+mod laws;
 mod maker;
 mod matcher;
 mod name_test;
@@ -15,6 +16,7 @@ mod text;
 
 pub use buckets::Buckets;
 pub use fault::{MakeFault, TagFault};
+pub use laws::{config_law, name_law};
 pub use maker::PatternMaker;
 pub use matcher::Matcher;
 pub use pat::Pat;

@@ -1,4 +1,4 @@
-use Rattle.std.proofs.Common.{List, ℕ, ◌++◌, ◌<◌, All, rules, codes, IsUtf8}
+use Rattle.std.proofs.Common.{List, ℕ, ◌<◌, All, rules, codes, IsUtf8}
 use Rattle.std.proofs.lemmas.Str.{IsUtf8-append, IsUtf8-from_ascii}
 use Rattle.std.proofs.lemmas.Str.Ascii.{IsAscii-from_all}
 use Rattle.tag_rules.specs.Admission.{whole}

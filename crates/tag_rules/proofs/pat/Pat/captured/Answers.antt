@@ -1,4 +1,4 @@
-use Rattle.std.proofs.Common.{Some, None, sym}
+use Rattle.std.proofs.Common.{Some, None}
 use Rattle.tag_rules.proofs.Meanings.{captured-regex}
 use Rattle.tag_rules.proofs.pat.Pat.captured.Goals as goal
 
