@@ -1,5 +1,8 @@
 //! Compiled regular expressions.
-ghost use Rattle.std.specs.Prelude.{◌≡◌, ◌≤◌, IfOk, IfSome};
+ghost use Rattle.std.specs.Prelude.{◌≡◌, ◌≤◌, IfOk, IfErr, IfSome};
+ghost use Rattle.regex.specs.Failures.{IsRightKind};
+ghost use Rattle.regex.specs.Patterns.{default_config};
+ghost use Rattle.regex.specs.Sources.{IsTextRefusal};
 ghost use Rattle.regex.specs.Strings.{captures_span, captures_haystack};
 ghost use Rattle.tag_rules.specs.Captures.{places_in};
 ghost use Rattle.tag_rules.specs.Patterns.{is_found, captured, IsPlaceIn};
@@ -28,10 +31,12 @@ impl Model for Pat {
 }
 
 impl Pat {
-    /// Compiles the text. `Error::OutOfMemory` alone stands for want of memory. Which texts are refused for their size is
-    /// left to `regex`.
+    /// Compiles the text. `Error::OutOfMemory` alone stands for want of memory. A text is refused for its syntax or, where
+    /// it is a regular expression, for its size; which sizes are too great is left to `regex`.
     pub fn new(alloc: Global, text: &str) -> Result<Pat, Error>
-        ensures { IfOk result (λ pattern. pattern ≡ text.now) }
+        ensures text { IfOk result (λ pattern. pattern ≡ text.now) }
+        ensures refused { IfErr result (IsTextRefusal default_config text.now) }
+        ensures kind { IfErr result (IsRightKind default_config text.now) }
     {
         let regex = Regex::new(alloc, text)?;
         Ok(Pat { regex })
