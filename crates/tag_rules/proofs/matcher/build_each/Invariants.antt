@@ -1,0 +1,8 @@
+use Rattle.std.proofs.Common.{◌≡◌, map, take}
+use Rattle.tag_rules.specs.NameTests.{pattern_of}
+use Rattle.tag_rules.proofs.matcher.build_each.Given as goal
+
+abbrev pub invariant-loop-i : goal.invariant-loop-i
+invariant-loop-i g l =
+    (map pattern_of l.tests.items ≡ take l.i l.patterns)
+    × (g.K.PatternMaker.memory l.maker ≡ g.K.PatternMaker.memory l.fn.maker)

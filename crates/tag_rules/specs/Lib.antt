@@ -1,0 +1,10 @@
+pub mod Patterns
+pub mod Admission
+pub mod Tagging
+pub mod Bounds
+pub mod Making
+pub mod Building
+pub mod Captures
+pub mod NameTests
+pub mod Rules
+pub mod Settings

@@ -1,0 +1,130 @@
+//! Which bounds the buckets of a histogram have.
+ghost use Rattle.std.specs.Prelude.{◌≡◌, ◌<◌, ◌^◌, IfOk, IsUtf8, All, length, map};
+ghost use Rattle.tag_rules.specs.Admission.{IsReadable};
+ghost use Rattle.tag_rules.specs.Bounds.{bounds_for};
+ghost use Rattle.tag_rules.specs.Building.{BuildsOne, Builds, IsSettingRefused};
+ghost use Rattle.tag_rules.specs.NameTests.{with_ok};
+ghost use Rattle.tag_rules.specs.Settings.{bucket_of};
+
+use crate::fault::{MakeFault, TagFault};
+use crate::maker::PatternMaker;
+use crate::name_test::NameTest;
+use crate::text::as_text;
+use stat_defs::{Bound, BucketSpec, List, NoMemory};
+use std::alloc::Global;
+use std::marker::Model;
+
+const DEFAULT_BOUNDS: [Bound; 19] = [
+    Bound { halves: 1 },
+    Bound { halves: 2 },
+    Bound { halves: 10 },
+    Bound { halves: 20 },
+    Bound { halves: 50 },
+    Bound { halves: 100 },
+    Bound { halves: 200 },
+    Bound { halves: 500 },
+    Bound { halves: 1000 },
+    Bound { halves: 2000 },
+    Bound { halves: 5000 },
+    Bound { halves: 10_000 },
+    Bound { halves: 20_000 },
+    Bound { halves: 60_000 },
+    Bound { halves: 120_000 },
+    Bound { halves: 600_000 },
+    Bound { halves: 1_200_000 },
+    Bound { halves: 3_600_000 },
+    Bound { halves: 7_200_000 },
+];
+
+/// A bucket setting that was built.
+#[derive(Drop)]
+pub struct BuiltSetting {
+    test: NameTest,
+    bounds: List<Bound>,
+}
+
+/// Which bounds the buckets of a histogram have. Contracts see it as the settings that it was built from.
+#[derive(Drop)]
+pub struct Buckets {
+    settings: Vec<BuiltSetting>,
+}
+
+impl Model for Buckets {
+    ghost use Rattle.std.specs.Prelude.{List, map};
+    ghost use Rattle.stat_defs.specs.declared.configs.BucketSpec.{BucketSpec};
+    ghost use Rattle.tag_rules.specs.Settings.{bucket_of};
+
+    ghost Value = { List BucketSpec };
+
+    ghost view = { λ b. map bucket_of b.settings.items };
+}
+
+impl Buckets {
+    /// Builds the patterns of the settings in order, up to the first that is refused.
+    pub fn build<K: PatternMaker>(
+        alloc: Global,
+        maker: &mut K,
+        specs: &[BucketSpec],
+    ) -> Result<Buckets, TagFault>
+        requires readable { All (λ spec. IsReadable spec.pattern) specs.now }
+        requires few { length specs.now < 2 ^ 32 }
+        ensures { Builds IsSettingRefused specs.now specs.now (K.memory maker.old) (K.memory maker.new) result }
+    {
+        let mut settings = Vec::new(alloc);
+        for (i, spec) in specs.iter().enumerate() {
+            match BuiltSetting::build(alloc, maker, spec) {
+                Ok(setting) => settings.push(setting)?,
+                Err(MakeFault::Refused) => return Err(TagFault::BadPattern(i as u32)),
+                Err(MakeFault::NoMemory) => return Err(TagFault::NoMemory),
+            }
+        }
+        Ok(Buckets { settings })
+    }
+
+    /// The bounds of a histogram of this full name, rising.
+    pub fn bounds_for(&self, alloc: Global, name: &[u8]) -> Result<&[Bound], NoMemory>
+        requires { IsUtf8 name.now }
+        ensures { IfOk result (λ bounds. bounds.now ≡ bounds_for self.now name.now) }
+    {
+        bounds_in(alloc, &self.settings, as_text(name))
+    }
+}
+
+// The bounds of the first setting whose pattern matches, else the default ones.
+fn bounds_in<'a>(
+    alloc: Global,
+    settings: &'a [BuiltSetting],
+    name: &str,
+) -> Result<&'a [Bound], NoMemory>
+    ensures { IfOk result (λ bounds. bounds.now ≡ bounds_for (map bucket_of settings.now) name.now) }
+{
+    for setting in settings {
+        if setting.test.matches(alloc, name)? {
+            return Ok(setting.bounds.items());
+        }
+    }
+    Ok(&DEFAULT_BOUNDS)
+}
+
+impl BuiltSetting {
+    /// Builds one setting.
+    fn build<K: PatternMaker>(
+        alloc: Global,
+        maker: &mut K,
+        spec: &BucketSpec,
+    ) -> Result<BuiltSetting, MakeFault>
+        requires { IsReadable spec.now.pattern }
+        ensures { BuildsOne IsSettingRefused spec.now (K.memory maker.old) (K.memory maker.new) (with_ok bucket_of result) }
+    {
+        let bounds = copied(alloc, &spec.bounds)?;
+        let test = NameTest::build(alloc, maker, &spec.pattern)?;
+        Ok(BuiltSetting { test, bounds })
+    }
+}
+
+// A copy of the bounds.
+fn copied(alloc: Global, bounds: &List<Bound>) -> Result<List<Bound>, NoMemory>
+    ensures { IfOk result (λ copy. copy ≡ bounds.now) }
+{
+    Ok(List::of(Vec::from_slice(alloc, bounds.items())?))
+}

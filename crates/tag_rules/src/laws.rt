@@ -1,0 +1,22 @@
+//! What the calls of this crate ask for holds of lawful configurations and of full names.
+ghost use Rattle.std.specs.Prelude.{◌<◌, ◌^◌, ℕ, List, IsUtf8, All, length};
+ghost use Rattle.stat_defs.specs.declared.configs.Config.{Config};
+ghost use Rattle.stat_defs.specs.Configs.{IsConfig};
+ghost use Rattle.stat_defs.specs.Names.{IsFullName};
+ghost use Rattle.tag_rules.specs.Admission.{patterns_of, IsReadable};
+ghost use Rattle.tag_rules.specs.Tagging.{IsReadableRule};
+
+/// The rules, the matcher and the bucket settings of a lawful configuration can be built: the texts of their regular
+/// expressions are UTF-8, and the lists are short.
+pub fn config_law()
+    ensures tags { (config : Config) → IsConfig config → All IsReadableRule config.tags × (length config.tags < 2 ^ 32) }
+    ensures matcher { (config : Config) → IsConfig config
+        → All IsReadable (patterns_of config.matcher) × (length (patterns_of config.matcher) < 2 ^ 32) }
+    ensures buckets { (config : Config) → IsConfig config
+        → All (λ setting. IsReadable setting.pattern) config.buckets × (length config.buckets < 2 ^ 32) }
+{}
+
+/// A full name is a text.
+pub fn name_law()
+    ensures { (name : List ℕ) → IsFullName name → IsUtf8 name }
+{}

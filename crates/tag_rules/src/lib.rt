@@ -1,0 +1,26 @@
+//! Which names are admitted, which tags are drawn out of a name, and which bounds a histogram has.
+#![tactic(auto)]
+
+mod buckets;
+mod fault;
+mod given;
+mod laws;
+mod maker;
+mod matcher;
+mod name_test;
+mod pat;
+mod regex_maker;
+mod safe_regex;
+mod tag_rules;
+#[cfg(test)]
+mod tests;
+mod text;
+
+pub use buckets::Buckets;
+pub use fault::{MakeFault, TagFault};
+pub use laws::{config_law, name_law};
+pub use maker::PatternMaker;
+pub use matcher::Matcher;
+pub use pat::Pat;
+pub use regex_maker::RegexMaker;
+pub use tag_rules::TagRules;

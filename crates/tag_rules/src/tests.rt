@@ -1,0 +1,315 @@
+ghost use Rattle.std.specs.Prelude.{IfOk};
+ghost use Rattle.tag_rules.specs.Admission.{IsReadable};
+ghost use Rattle.tag_rules.specs.Tagging.{IsReadableRule};
+
+use super::*;
+use stat_defs::{Bound, BucketSpec, List, MatchSpec, Pattern, Rule, TagSpec, Txt};
+use std::alloc::Global;
+use std::test::Fail;
+
+/// Full names, each with what the default rules make of it: what is left, and then the tags.
+const SPLITS: [(&str, &str); 34] = [
+    // A cluster's name, a code, a class of codes, a listener's prefix, and two of them.
+    (
+        "cluster.foo_cluster.upstream_rq_timeout",
+        "cluster.upstream_rq_timeout envoy.cluster_name=foo_cluster",
+    ),
+    (
+        "cluster.c.upstream_rq_2xx",
+        "cluster.upstream_rq_xx envoy.response_code_class=2 envoy.cluster_name=c",
+    ),
+    (
+        "cluster.c.upstream_rq_200",
+        "cluster.upstream_rq envoy.response_code=200 envoy.cluster_name=c",
+    ),
+    (
+        "http.admin.downstream_rq_5xx",
+        "http.downstream_rq_xx envoy.response_code_class=5 envoy.http_conn_manager_prefix=admin",
+    ),
+    (
+        "http.admin.downstream_rq_503",
+        "http.downstream_rq envoy.response_code=503 envoy.http_conn_manager_prefix=admin",
+    ),
+    // No tag: the beginning or the dot after the name is missing.
+    ("server.uptime", "server.uptime"),
+    ("x", "x"),
+    ("cluster", "cluster"),
+    ("cluster.", "cluster."),
+    ("cluster.c", "cluster.c"),
+    ("http.h", "http.h"),
+    ("Cluster.c.x", "Cluster.c.x"),
+    ("a.cluster.c.x", "a.cluster.c.x"),
+    ("xcluster.c.x", "xcluster.c.x"),
+    // The shortest text up to a dot, which may be empty.
+    ("cluster.c.", "cluster. envoy.cluster_name=c"),
+    ("cluster..x", "cluster.x envoy.cluster_name="),
+    ("cluster...", "cluster.. envoy.cluster_name="),
+    ("cluster.a.b.c", "cluster.b.c envoy.cluster_name=a"),
+    ("cluster.~!:|.x", "cluster.x envoy.cluster_name=~!:|"),
+    ("http.a.b.c", "http.b.c envoy.http_conn_manager_prefix=a"),
+    ("http..", "http. envoy.http_conn_manager_prefix="),
+    // Every rule looks at the name as it was, so what one removes makes no match for another.
+    (
+        "http.cluster.c.x",
+        "http.c.x envoy.http_conn_manager_prefix=cluster",
+    ),
+    ("cluster.http.h.x", "cluster.h.x envoy.cluster_name=http"),
+    (
+        "cluster.c._rq_200",
+        "cluster._rq envoy.response_code=200 envoy.cluster_name=c",
+    ),
+    // A code has three digits and ends the name.
+    ("a_rq_200", "a_rq envoy.response_code=200"),
+    ("_rq_007", "_rq envoy.response_code=007"),
+    ("a_rq_100_rq_200", "a_rq_100_rq envoy.response_code=200"),
+    ("a_rq_20", "a_rq_20"),
+    ("a_rq_2000", "a_rq_2000"),
+    ("a_rq_200.b", "a_rq_200.b"),
+    ("rq_200", "rq_200"),
+    // A class has one digit before `xx`, which ends the name.
+    ("a_rq_4xx", "a_rq_xx envoy.response_code_class=4"),
+    ("a_rq_44xx", "a_rq_44xx"),
+    ("a_rq_4xxx", "a_rq_4xxx"),
+];
+
+/// How a rule of a test gives its tag.
+#[derive(Clone, Copy)]
+enum Way {
+    Regex,
+    Fixed,
+}
+
+/// What a pattern of a test looks at.
+#[derive(Clone, Copy)]
+enum Part {
+    All,
+    Start,
+    End,
+    Any,
+    Regex,
+}
+
+fn rule(alloc: Global, way: Way, tag_name: &str, text: &str) -> Result<TagSpec, Fail>
+    ensures { IfOk result IsReadableRule }
+{
+    let tag_name = Txt::of(alloc, tag_name.as_bytes())?;
+    let text = Txt::of(alloc, text.as_bytes())?;
+    let rule = match way {
+        Way::Regex => Rule::Regex(text),
+        Way::Fixed => Rule::Fixed(text),
+    };
+    Ok(TagSpec { tag_name, rule })
+}
+
+fn pattern(alloc: Global, part: Part, text: &str) -> Result<Pattern, Fail>
+    ensures { IfOk result IsReadable }
+{
+    let text = Txt::of(alloc, text.as_bytes())?;
+    Ok(match part {
+        Part::All => Pattern::Exact(text),
+        Part::Start => Pattern::Prefix(text),
+        Part::End => Pattern::Suffix(text),
+        Part::Any => Pattern::Contains(text),
+        Part::Regex => Pattern::SafeRegex(text),
+    })
+}
+
+// What the rules make of a name: what is left of it, and after it each tag.
+fn shown(alloc: Global, rules: &TagRules, name: &str) -> Result<Vec<u8>, Fail> {
+    let tagged = rules.split(alloc, name.as_bytes())?;
+    let mut text = tagged.extracted.bytes().to_vec(alloc)?;
+    for tag in tagged.tags.items() {
+        text.extend_from_slice(b" ")?;
+        text.extend_from_slice(tag.name.bytes())?;
+        text.extend_from_slice(b"=")?;
+        text.extend_from_slice(tag.value.bytes())?;
+    }
+    Ok(text)
+}
+
+// What two rules make of a name.
+fn split_by(alloc: Global, one: TagSpec, other: TagSpec, name: &str) -> Result<Vec<u8>, Fail>
+    requires one { IsReadableRule one }
+    requires other { IsReadableRule other }
+{
+    let mut maker = RegexMaker::new(Vec::new(alloc));
+    let rules = TagRules::build(alloc, &mut maker, &[one, other])?;
+    shown(alloc, &rules, name)
+}
+
+// Whether a list of this pattern alone, read as an inclusion and as an exclusion list, admits the name.
+fn admitted(alloc: Global, part: Part, text: &str, name: &str) -> Result<(bool, bool), Fail> {
+    let mut maker = RegexMaker::new(Vec::new(alloc));
+    let include = MatchSpec::Include(List::of(vec![in alloc; pattern(alloc, part, text)?]?));
+    let exclude = MatchSpec::Exclude(List::of(vec![in alloc; pattern(alloc, part, text)?]?));
+    let included = Matcher::build(alloc, &mut maker, &include)?.admits(alloc, name.as_bytes())?;
+    let excluded = Matcher::build(alloc, &mut maker, &exclude)?.admits(alloc, name.as_bytes())?;
+    Ok((included, excluded))
+}
+
+fn setting(alloc: Global, part: Part, text: &str, halves: u64) -> Result<BucketSpec, Fail>
+    ensures { IfOk result (λ spec. IsReadable spec.pattern) }
+{
+    Ok(BucketSpec {
+        pattern: pattern(alloc, part, text)?,
+        bounds: List::of(vec![in alloc; Bound { halves }]?),
+    })
+}
+
+// The number of bounds, and twice the first.
+fn bounds_of(alloc: Global, buckets: &Buckets, name: &str) -> Result<(usize, u64), Fail> {
+    let bounds = buckets.bounds_for(alloc, name.as_bytes())?;
+    Ok((bounds.len(), bounds.first().map_or(0, |bound| bound.halves)))
+}
+
+#[test]
+fn default_rules(rt: HostRuntime) -> Result<(), Fail> {
+    let alloc = rt.alloc();
+    let specs = [
+        rule(alloc, Way::Regex, "envoy.response_code", r"_rq(_(\d{3}))$")?,
+        rule(
+            alloc,
+            Way::Regex,
+            "envoy.response_code_class",
+            r"_rq_(\d)xx$",
+        )?,
+        rule(
+            alloc,
+            Way::Regex,
+            "envoy.cluster_name",
+            r"^cluster\.((.*?)\.)",
+        )?,
+        rule(
+            alloc,
+            Way::Regex,
+            "envoy.http_conn_manager_prefix",
+            r"^http\.((.*?)\.)",
+        )?,
+    ];
+    let mut maker = RegexMaker::new(Vec::new(alloc));
+    let rules = TagRules::build(alloc, &mut maker, &specs)?;
+    for (name, wanted) in SPLITS {
+        let text = shown(alloc, &rules, name)?;
+        assert_eq!(rt; text.as_slice(), wanted.as_bytes(), "of {name}");
+    }
+    Ok(())
+}
+
+#[test]
+fn two_rules(rt: HostRuntime) -> Result<(), Fail> {
+    let alloc = rt.alloc();
+    for (one, other, name, wanted) in [
+        // Both rules look at the whole name, and the union of their first groups is taken out.
+        (
+            (Way::Regex, "a", r"^x\.((\w+)\.)"),
+            (Way::Regex, "b", r"^(x\.y)"),
+            "x.y.z",
+            "z a=y b=x.y",
+        ),
+        // The second rule is passed over.
+        (
+            (Way::Fixed, "a", "1"),
+            (Way::Regex, "a", "(z)"),
+            "x.z",
+            "x.z a=1",
+        ),
+        // A match without a first group gives nothing, and does not stand in the way of a later rule of its name.
+        (
+            (Way::Regex, "a", "(q)?z"),
+            (Way::Fixed, "b", ""),
+            "x.z",
+            "x.z b=",
+        ),
+        (
+            (Way::Regex, "a", "(q)?z"),
+            (Way::Regex, "a", r"\.(z)"),
+            "x.z",
+            "x. a=z",
+        ),
+        // Not the longest text up to a dot.
+        (
+            (Way::Regex, "envoy.cluster_name", r"^cluster\.((.+?)\.)"),
+            (Way::Fixed, "f", "v v"),
+            "cluster.foo_cluster.upstream_rq_timeout",
+            "cluster.upstream_rq_timeout envoy.cluster_name=foo_cluster f=v v",
+        ),
+    ] {
+        let one = rule(alloc, one.0, one.1, one.2)?;
+        let other = rule(alloc, other.0, other.1, other.2)?;
+        let text = split_by(alloc, one, other, name)?;
+        assert_eq!(rt; text.as_slice(), wanted.as_bytes(), "of {name}");
+    }
+    Ok(())
+}
+
+#[test]
+fn patterns_of_each_kind(rt: HostRuntime) -> Result<(), Fail> {
+    let alloc = rt.alloc();
+    for (part, text, name, wanted) in [
+        (Part::Start, "cluster.", "cluster.x", true),
+        (Part::Start, "cluster.", "server.y", false),
+        (Part::Start, "cluster.", "a.cluster.x", false),
+        (Part::All, "a.b", "a.b", true),
+        (Part::All, "a.b", "a.bc", false),
+        (Part::End, ".b", "a.b", true),
+        (Part::End, ".b", ".b.a", false),
+        (Part::Any, "b.c", "a.b.c.d", true),
+        (Part::Any, "b.c", "a.b.d.c", false),
+        // A regular expression matches whole names, also where it has alternatives or begins with a flag.
+        (Part::Regex, "a.c", "abc", true),
+        (Part::Regex, "b", "abc", false),
+        (Part::Regex, "a|bc", "abc", false),
+        (Part::Regex, "(?i)ab", "AB", true),
+    ] {
+        assert_eq!(rt;
+            admitted(alloc, part, text, name)?,
+            (wanted, !wanted),
+            "of {text} and {name}"
+        );
+    }
+    Ok(())
+}
+
+#[test]
+fn bounds(rt: HostRuntime) -> Result<(), Fail> {
+    let alloc = rt.alloc();
+    let mut maker = RegexMaker::new(Vec::new(alloc));
+    let specs = [
+        setting(alloc, Part::Start, "a", 4)?,
+        setting(alloc, Part::Regex, ".*b", 6)?,
+    ];
+    let buckets = Buckets::build(alloc, &mut maker, &specs)?;
+    for (name, wanted) in [("ab", (1, 4)), ("cb", (1, 6)), ("c", (19, 1))] {
+        assert_eq!(rt; bounds_of(alloc, &buckets, name)?, wanted, "of {name}");
+    }
+    Ok(())
+}
+
+#[test]
+fn refusals(rt: HostRuntime) -> Result<(), Fail> {
+    let alloc = rt.alloc();
+    let rules = [
+        rule(alloc, Way::Regex, "a", "a")?,
+        rule(alloc, Way::Fixed, "b", "b")?,
+        rule(alloc, Way::Regex, "c", "c")?,
+    ];
+    // Calls 0, 2 and 4 are refused: the first rule's, the third rule's, and the second call for the second
+    // setting.
+    let mut maker = RegexMaker::new(vec![in alloc; 0, 2, 4]?);
+    let first = TagRules::build(alloc, &mut maker, &rules).err();
+    assert_eq!(rt; first, Some(TagFault::BadPattern(0)));
+    let third = TagRules::build(alloc, &mut maker, &rules).err();
+    assert_eq!(rt; third, Some(TagFault::BadPattern(2)));
+    let settings = [
+        setting(alloc, Part::Start, "a", 4)?,
+        setting(alloc, Part::Regex, "b", 6)?,
+    ];
+    let second = Buckets::build(alloc, &mut maker, &settings).err();
+    assert_eq!(rt; second, Some(TagFault::BadPattern(1)));
+    // This text is no regular expression, though it is one inside a group.
+    let spec = MatchSpec::Include(List::of(vec![in alloc; pattern(alloc, Part::Regex, "a)(b")?]?));
+    let alone = Matcher::build(alloc, &mut maker, &spec).err();
+    assert_eq!(rt; alone, Some(TagFault::BadPattern(0)));
+    assert_eq!(rt; maker.refusals(), 4);
+    Ok(())
+}
