@@ -1,0 +1,5 @@
+pub mod Facts
+pub mod Bounds
+pub mod Labels
+pub mod Placed
+pub mod Empty
