@@ -1,7 +1,12 @@
 //! The statistics store as a program: `envoy_stats replay - FILE` applies an event file and writes one flush.
 #![tactic(auto)]
 
-ghost use Rattle.std.specs.Prelude.{◌≡◌, ◌⊎◌};
+ghost use Rattle.std.specs.Prelude.{◌≡◌, ◌≢◌, ◌⊎◌, None};
+ghost use Rattle.std.specs.Io.KnownBytes.{Appends};
+ghost use Rattle.std.specs.IoError.{error_kind};
+ghost use Rattle.std.specs.declared.io.ErrorKind.TheVariants.{OutOfMemory};
+ghost use Rattle.stat_defs.specs.Faults.{Rose};
+ghost use Rattle.envoy_stats.specs.Outcomes.{refusals};
 
 mod command;
 mod counters;
@@ -30,7 +35,8 @@ fn words_of<R: Env + AllocGlobal>(rt: &R) -> io::Result<Vec<String>> {
 
 // Says why the words could not be read, and gives the status: want of memory, or a word that is no text.
 fn refuse<E: Sink>(err: &mut E, fault: io::Error) -> u8
-    ensures { (result ≡ 1) ⊎ (result ≡ 6) }
+    ensures status { ((error_kind fault ≡ OutOfMemory) × (result ≡ 6)) ⊎ ((error_kind fault ≢ OutOfMemory) × (result ≡ 1)) }
+    ensures said { ¬ Rose (E.faults err.old) (E.faults err.new) → Appends (E.written err.old) (E.written err.new) (refusals result None) }
 {
     if fault.kind() == io::ErrorKind::OutOfMemory {
         say(err, OUT_OF_MEMORY);
