@@ -1,0 +1,9 @@
+//! The counters of a store whose scopes and matcher are configured.
+//!
+//! Increments reach a counter through the label of a scope. What became of each of them, and what the counters then are, is said
+//! of the list of all events that were applied: every accepted unit counts once, for the counter that it was accepted for.
+#![tactic(auto)]
+
+mod store;
+
+pub use store::{Counters, MAX_COUNTERS, Totals};
