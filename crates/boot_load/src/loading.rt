@@ -34,5 +34,5 @@ pub fn load<K: PatternMaker, F: Shelf>(
     ensures contents { (other : List ℕ) → F.holds shelf.new other ≡ F.holds shelf.old other }
     ensures later { F.faults shelf.old ≤ F.faults shelf.new }
 {
-    todo!()
+    Err(LoadFault::NoMemory)
 }

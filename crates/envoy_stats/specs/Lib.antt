@@ -1,9 +1,9 @@
 pub mod Command
-pub mod Counting
-pub mod Held
+pub mod Causes
+pub mod Files
 pub mod Reporting
 pub mod Output
-pub mod Causes
+pub mod Telling
 pub mod Reading
 pub mod Outcomes
 pub mod Readiness

@@ -1,15 +1,18 @@
 -- The output of a replay. The form of its lines beginning with `#` is this project's own.
-use Rattle.std.specs.Prelude.{◌≡◌, ℕ, Bool, true, false, not, List, [], ◌++◌, map, count_by, codes, IsSorted, IsPermutation}
+use Rattle.std.specs.Prelude.{◌≡◌, ℕ, ◌+◌, Bool, true, false, not, List, [], ◌++◌, map, count_by, codes, IsSorted, IsPermutation}
+use Rattle.std.specs.List.{enumerate_from, flat_map}
 use Rattle.std.specs.Fmt.{decimal}
 use Rattle.std.specs.Cmp.Lexicographic.{slice_cmp}
 use Rattle.std.specs.Ordering.{nat_cmp}
-use Rattle.stat_defs.specs.declared.events.Event.{Event}
+use Rattle.stat_defs.specs.declared.configs.Config.{Config}
 use Rattle.stat_defs.specs.declared.history.Verdict.{Verdict}
 use Rattle.stat_defs.specs.declared.history.Verdict.TheVariants.{Accepted, Opened, Released, LabelTaken, NoScope, Rejected, OverLimit, NoRoom}
 use Rattle.stat_defs.specs.declared.views.CounterRow.{CounterRow}
 use Rattle.stat_defs.specs.declared.views.FlushView.{FlushView}
 use Rattle.statsd_text.specs.Statsd.{statsd_text}
-use Rattle.envoy_stats.specs.Counting.{verdicts, tally}
+use Rattle.counter_store.specs.Counting.{tally}
+use Rattle.envoy_stats.specs.Files.{FileRead, all_events}
+use Rattle.envoy_stats.specs.Reporting.{rules_of, verdicts_behind}
 
 -- the row of a counter in the one flush: its full name without tags, and its units twice, as the delta and as the total
 abbrev pub row_of : List ℕ × ℕ → CounterRow
@@ -34,18 +37,22 @@ took_effect Rejected = false
 took_effect OverLimit = false
 took_effect NoRoom = false
 
--- `# worker 1: A accepted, D dropped`
-abbrev pub worker_line : List Verdict → List ℕ
-worker_line verdicts =
-    codes "# worker 1: " ++ (decimal (count_by took_effect verdicts) ++ (codes " accepted, "
-    ++ (decimal (count_by (λ v. not (took_effect v)) verdicts) ++ codes " dropped\n")))
+-- `# worker W: A accepted, D dropped`
+abbrev pub worker_line : ℕ → List Verdict → List ℕ
+worker_line number verdicts =
+    codes "# worker " ++ (decimal number ++ (codes ": " ++ (decimal (count_by took_effect verdicts) ++ (codes " accepted, "
+    ++ (decimal (count_by (λ v. not (took_effect v)) verdicts) ++ codes " dropped\n")))))
 
--- `# last`, the StatsD text of the flush with the prefix `envoy`, and the worker's line
-abbrev pub text_of : FlushView → List Verdict → List ℕ
-text_of view verdicts = codes "# last\n" ++ (statsd_text (codes "envoy") view ++ worker_line verdicts)
+-- a line for each file, numbered from 1
+abbrev pub worker_lines : List (List Verdict) → List ℕ
+worker_lines lists = flat_map (λ place. worker_line (place.0 + 1) place.1) (enumerate_from 0 lists)
 
--- the output of a file of these events
-pub record IsOutput (events : List Event) (bytes : List ℕ) : Type 0 where
+-- `# last`, the StatsD text of the flush with that prefix, and the workers' lines
+abbrev pub text_of : List ℕ → FlushView → List (List Verdict) → List ℕ
+text_of prefix view lists = codes "# last\n" ++ (statsd_text prefix view ++ worker_lines lists)
+
+-- the output of files of these events under the configuration
+pub record IsOutput (config : Config) (files : List FileRead) (bytes : List ℕ) : Type 0 where
   pub view : FlushView
-  pub shows : Shows (tally events) view
-  pub bytes_are : bytes ≡ text_of view (verdicts events)
+  pub shows : Shows (tally (rules_of config) (all_events files)) view
+  pub bytes_are : bytes ≡ text_of config.statsd_prefix view (verdicts_behind (rules_of config) [] files)

@@ -1,42 +1,49 @@
--- A file of which all that is to be written is made.
-use Rattle.std.specs.Prelude.{◌≡◌, ◌==◌, ◌++◌, ℕ, if◌then◌else◌, Option, Some, None, List, [], codes}
+-- Files of which all that is to be written and said is made.
+use Rattle.std.specs.Prelude.{◌≡◌, ◌==◌, ◌++◌, ◌⊎◌, ℕ, if◌then◌else◌, Option, Some, None, List, [], map, codes}
+use Rattle.stat_defs.specs.Faults.{Rose}
+use Rattle.std.specs.Io.KnownBytes.{Appends}
 use Rattle.stats_io.specs.Pushes.{AppendsFront}
 use Rattle.statsd_text.specs.Statsd.{statsd_text}
-use Rattle.stat_defs.specs.declared.events.Event.{Event}
-use Rattle.stat_defs.specs.declared.reports.WorkerEnd.{WorkerEnd}
+use Rattle.stat_defs.specs.declared.configs.Config.{Config}
 use Rattle.stat_defs.specs.declared.reports.Report.{Report}
-use Rattle.event_script.specs.Run.{IsRun}
-use Rattle.envoy_stats.specs.Counting.{verdicts, tally}
-use Rattle.envoy_stats.specs.Reporting.{report_of}
-use Rattle.envoy_stats.specs.Output.{Shows, worker_line}
-use Rattle.envoy_stats.specs.Causes.{ShelfState, HasCause}
-use Rattle.envoy_stats.specs.Outcomes.{SinkState, IsWritten, fault_line}
+use Rattle.counter_store.specs.Counting.{tally}
+use Rattle.boot_load.specs.Loading.{ShelfMemory}
+use Rattle.envoy_stats.specs.Files.{FileRead, AreFiles, all_events}
+use Rattle.envoy_stats.specs.Reporting.{rules_of, report_of, verdicts_behind}
+use Rattle.envoy_stats.specs.Output.{Shows, worker_lines}
+use Rattle.envoy_stats.specs.Telling.{fault_lines, out_of_memory}
+use Rattle.envoy_stats.specs.Outcomes.{SinkState, status_of_all}
 use Rattle.envoy_stats.specs.declared.replay.Outcome.{Outcome}
 use Rattle.envoy_stats.specs.declared.replay.Ready.{Ready}
 
-pub record IsReady {S : Type 0} (left : S → Option (List ℕ)) (origin : S → List ℕ) (faults : S → ℕ) (name : List ℕ) (before after : ShelfState) (ready : Ready) : Type 0 where
-  pub events : List Event
-  pub end : WorkerEnd
-  pub run : IsRun before.content end.end end.taken events
-  pub cause : HasCause left origin faults name before after end end.end
-  pub report_is : ready.report ≡ report_of events end
-  pub shows : Shows (tally events) ready.view
-  pub prefix_is : ready.prefix ≡ codes "envoy"
-  pub line_is : ready.line.items ≡ worker_line (verdicts events)
-  pub end_is : ready.end ≡ end.end
-  pub fault_is : ready.fault.items ≡ fault_line 1 end.end
+pub record IsReady {S : Type 0} (left : S → Option (List ℕ)) (origin : S → List ℕ) (faults : S → ℕ) (holds : List ℕ → Option (List ℕ)) (names : List (List ℕ))
+    (before after : ShelfMemory) (config : Config) (ready : Ready) : Type 0 where
+  pub files : List FileRead
+  pub are_files : AreFiles left origin faults holds names before after files
+  pub report_is : ready.report ≡ report_of (rules_of config) files
+  pub shows : Shows (tally (rules_of config) (all_events files)) ready.view
+  pub prefix_is : ready.prefix ≡ config.statsd_prefix
+  pub lines_are : ready.lines.items ≡ worker_lines (verdicts_behind (rules_of config) [] files)
+  pub faults_are : ready.faults.items ≡ fault_lines (map (λ file. file.end.end) files)
+  pub status_is : ready.status ≡ status_of_all (map (λ file. file.end.end) files)
 
 abbrev pub ready_text : Ready → List ℕ
-ready_text ready = codes "# last\n" ++ (statsd_text ready.prefix ready.view ++ ready.line.items)
+ready_text ready = codes "# last\n" ++ (statsd_text ready.prefix ready.view ++ ready.lines.items)
+
+-- all was written with the status of the files, or a push failed
+abbrev pub IsReadyWritten : Ready → SinkState → SinkState → ℕ → Type 0
+IsReadyWritten ready before after status =
+    ((status ≡ ready.status) × Appends before.written after.written (ready_text ready) × (after.faults ≡ before.faults))
+    ⊎ ((status ≡ 5) × AppendsFront before.written after.written (ready_text ready) × Rose before.faults after.faults)
 
 -- a report comes with the output written or cut off, and none with a front of it
 abbrev pub FinishesWith : Ready → SinkState → SinkState → ℕ → Option Report → Type 0
 FinishesWith ready before after status None = (status ≡ 6) × AppendsFront before.written after.written (ready_text ready)
-FinishesWith ready before after status (Some report) = (report ≡ ready.report) × IsWritten before after (ready_text ready) status ready.end
+FinishesWith ready before after status (Some report) = (report ≡ ready.report) × IsReadyWritten ready before after status
 
 abbrev pub Finishes : Ready → SinkState → SinkState → Outcome → Type 0
 Finishes ready before after outcome = FinishesWith ready before after outcome.status outcome.report
 
--- what is said of a file whose line is this
-abbrev pub said_of : List ℕ → ℕ → List ℕ
-said_of fault status = if status == 6 then codes "out of memory\n" else (fault ++ (if status == 5 then codes "write failed\n" else []))
+-- what is said with that status of files whose lines are these, where a report comes
+abbrev pub said_with : List ℕ → ℕ → List ℕ
+said_with faults status = if status == 6 then out_of_memory else (faults ++ (if status == 5 then codes "write failed\n" else []))

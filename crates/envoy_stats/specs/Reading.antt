@@ -1,26 +1,28 @@
--- What came of a file that was read.
-use Rattle.std.specs.Prelude.{◌≡◌, ◌<◌, ◌^◌, ℕ, Option, List, length}
+-- What came of files that were read and applied.
+use Rattle.std.specs.Prelude.{◌≡◌, ◌≤◌, ◌*◌, ◌+◌, ℕ, Option, List, [], ◌++◌, length, map}
 use Rattle.std.specs.Io.KnownBytes.{Consumes}
 use Rattle.stat_defs.specs.Faults.{Rose}
 use Rattle.stat_defs.specs.declared.events.Event.{Event}
 use Rattle.stat_defs.specs.declared.reports.FileEnd.TheVariants.{ReadFault, NotOpened}
 use Rattle.event_script.specs.Run.{IsRun}
-use Rattle.envoy_stats.specs.Counting.{verdicts, tally}
-use Rattle.envoy_stats.specs.Reporting.{taken_at}
-use Rattle.envoy_stats.specs.Causes.{ShelfState, HasCause}
+use Rattle.event_script.specs.declared.pulling.TheConstants.{MAX_FILE_BYTES}
+use Rattle.boot_load.specs.Loading.{ShelfMemory}
+use Rattle.counter_store.specs.Counting.{History, verdicts}
+use Rattle.envoy_stats.specs.Files.{FileRead, IsFile, AreFiles, all_events}
+use Rattle.envoy_stats.specs.Reporting.{taken_at, verdicts_behind}
 use Rattle.envoy_stats.specs.declared.reading.FileRun.{FileRun}
 
--- these are the events of a file of that content
-pub record Reads (content : Option (List ℕ)) (run : FileRun) : Type 0 where
-  pub events : List Event
-  pub is_run : IsRun content run.end.end run.end.taken events
-  pub verdicts_are : run.verdicts.items ≡ verdicts events
-  pub counters_are : run.counters.entries ≡ tally events
-  pub few : length run.counters.entries < 2 ^ 32
+-- the events were applied behind the earlier ones, and these are their verdicts
+pub record Applies (earlier later : History) (run : FileRun) (events : List Event) : Type 0 where
+  pub applied : later ≡ record earlier { events = earlier.events ++ events }
+  pub verdicts_are : run.verdicts.items ≡ verdicts earlier.rules earlier.events events
+  pub few : length events ≤ MAX_FILE_BYTES
 
 -- a source was read to its end
-pub record ReadsSource {S : Type 0} (left : S → Option (List ℕ)) (origin : S → List ℕ) (faults : S → ℕ) (source : S) (run : FileRun) : Type 0 where
-  pub reads : Reads (left source) run
+pub record ReadsSource {S : Type 0} (left : S → Option (List ℕ)) (origin : S → List ℕ) (faults : S → ℕ) (source : S) (earlier after : History) (run : FileRun) : Type 0 where
+  pub events : List Event
+  pub is_run : IsRun (left source) run.end.end run.end.taken events
+  pub applies : Applies earlier after run events
   pub opened : run.end.end ≡ NotOpened → ⊥
   pub later : S
   pub same_origin : origin later ≡ origin source
@@ -31,7 +33,18 @@ pub record ReadsSource {S : Type 0} (left : S → Option (List ℕ)) (origin : S
   pub count_after : run.end.faults_after ≡ faults later
   pub rose : run.end.end ≡ ReadFault → Rose run.end.faults_before run.end.faults_after
 
--- a file of a shelf was read to its end
-pub record ReadsFile {S : Type 0} (left : S → Option (List ℕ)) (origin : S → List ℕ) (faults : S → ℕ) (name : List ℕ) (before after : ShelfState) (run : FileRun) : Type 0 where
-  pub reads : Reads before.content run
-  pub cause : HasCause left origin faults name before after run.end run.end.end
+module _ {S : Type 0} (left : S → Option (List ℕ)) (origin : S → List ℕ) (faults : S → ℕ) (holds : List ℕ → Option (List ℕ)) where
+  -- a file of a shelf was read to its end
+  pub record ReadsFile (name : List ℕ) (before after : ShelfMemory) (earlier later : History) (run : FileRun) : Type 0 where
+    pub events : List Event
+    pub file : IsFile left origin faults holds name before after (record { events = events; end = run.end })
+    pub applies : Applies earlier later run events
+
+  -- files of a shelf were read one after another
+  pub record ReadsFiles (names : List (List ℕ)) (before after : ShelfMemory) (earlier later : History) (runs : List FileRun) : Type 0 where
+    pub files : List FileRead
+    pub are_files : AreFiles left origin faults holds names before after files
+    pub applied : later ≡ record earlier { events = earlier.events ++ all_events files }
+    pub verdicts_are : map (λ run. run.verdicts.items) runs ≡ verdicts_behind earlier.rules earlier.events files
+    pub ends_are : map (λ run. run.end) runs ≡ map (λ file. file.end) files
+    pub few : length (all_events files) ≤ length names * MAX_FILE_BYTES

@@ -1,13 +1,24 @@
--- What a replay of one file reports.
-use Rattle.std.specs.Prelude.{ℕ, List, [], ◌∷◌, map}
+-- What a replay reports.
+use Rattle.std.specs.Prelude.{ℕ, List, [], ◌∷◌, ◌++◌, map}
 use Rattle.std.specs.List.{enumerate_from}
 use Rattle.stat_defs.specs.declared.events.Event.{Event}
+use Rattle.stat_defs.specs.declared.configs.Config.{Config}
+use Rattle.stat_defs.specs.declared.history.Verdict.{Verdict}
 use Rattle.stat_defs.specs.declared.reports.Delta.{Delta}
 use Rattle.stat_defs.specs.declared.reports.FileEnd.{FileEnd}
 use Rattle.stat_defs.specs.declared.reports.FileEnd.TheVariants.{Whole, BadLine, LineTooLong, TooBig, TooMany, ReadFault, NotOpened}
-use Rattle.stat_defs.specs.declared.reports.WorkerEnd.{WorkerEnd}
 use Rattle.stat_defs.specs.declared.reports.Report.{Report}
-use Rattle.envoy_stats.specs.Counting.{verdicts, tally}
+use Rattle.counter_store.specs.Counting.{Rules, verdicts, tally}
+use Rattle.envoy_stats.specs.Files.{FileRead, all_events}
+
+-- the configured scopes are live, and the configured matcher decides which names are admitted
+abbrev pub rules_of : Config → Rules
+rules_of config = record { scopes = config.scopes; matcher = config.matcher }
+
+-- a list of verdicts for each file, which is applied behind the earlier ones
+abbrev pub verdicts_behind : Rules → List Event → List FileRead → List (List Verdict)
+verdicts_behind rules earlier [] = []
+verdicts_behind rules earlier (file ∷ files) = verdicts rules earlier file.events ∷ verdicts_behind rules (earlier ++ file.events) files
 
 -- a counter's units under its number
 abbrev pub delta_of : ℕ × (List ℕ × ℕ) → Delta
@@ -16,14 +27,14 @@ delta_of place = record { id = record { 0 = place.0 }; n = place.1.1 }
 abbrev pub deltas : List (List ℕ × ℕ) → List Delta
 deltas entries = map delta_of (enumerate_from 0 entries)
 
--- one file, one flush, and no log yet
-abbrev pub report_of : List Event → WorkerEnd → Report
-report_of events end = record {
-  verdicts = verdicts events ∷ [];
-  flushes = (record { at = 0; deltas = deltas (tally events); gauges = []; parts = [] }) ∷ [];
+-- one flush of all that was counted, and no log yet
+abbrev pub report_of : Rules → List FileRead → Report
+report_of rules files = record {
+  verdicts = verdicts_behind rules [] files;
+  flushes = (record { at = 0; deltas = deltas (tally rules (all_events files)); gauges = []; parts = [] }) ∷ [];
   log = [];
   reads = [];
-  ends = end ∷ [];
+  ends = map (λ file. file.end) files;
 }
 
 -- the bytes that were taken are told where the source failed

@@ -1,22 +1,72 @@
 //! The words of a command.
-ghost use Rattle.std.specs.Prelude.{ℕ, List, map, string_bytes, MatchOption};
-ghost use Rattle.envoy_stats.specs.Command.{IsReplay};
+ghost use Rattle.std.specs.Prelude.{◌≡◌, map, string_bytes, MatchOption, All};
+ghost use Rattle.envoy_stats.specs.Command.{IsFileWord, IsBootWord, IsReplay, IsCommand};
 
-/// The file that `replay - FILE` names, where the words are that command.
-pub fn file_of(words: &[String]) -> Option<&str>
-    ensures { MatchOption result ((file : List ℕ) → ¬ IsReplay (map string_bytes words.now) file)
-        (λ file. IsReplay (map string_bytes words.now) file.now) }
+/// So many files at most are replayed in one call.
+pub const MAX_FILES: usize = 32;
+
+/// The bootstrap and the files that a command names.
+#[derive(Clone, Copy)]
+pub struct Replay<'a> {
+    pub boot: &'a str,
+    pub files: &'a [String],
+}
+
+// Whether the word is a file name.
+fn is_file_word(word: &str) -> bool
+    ensures yes { result ≡ true → IsFileWord word.now }
+    ensures no { result ≡ false → ¬ IsFileWord word.now }
+{
+    match word.as_bytes() {
+        [] => false,
+        [first, ..] => *first != b'-',
+    }
+}
+
+// Whether the word stands for a bootstrap.
+fn is_boot_word(word: &str) -> bool
+    ensures yes { result ≡ true → IsBootWord word.now }
+    ensures no { result ≡ false → ¬ IsBootWord word.now }
+{
+    if word == "-" {
+        return true;
+    }
+    is_file_word(word)
+}
+
+// Whether all words are file names.
+fn are_file_words(words: &[String]) -> bool
+    ensures yes { result ≡ true → All IsFileWord (map string_bytes words.now) }
+    ensures no { result ≡ false → ¬ All IsFileWord (map string_bytes words.now) }
+{
+    for word in words {
+        if !is_file_word(word.as_str()) {
+            return false;
+        }
+    }
+    true
+}
+
+/// What `replay BOOT FILE..` names, where the words are that command.
+pub fn replay_of(words: &[String]) -> Option<Replay<'_>>
+    ensures { MatchOption result (¬ IsCommand (map string_bytes words.now))
+        (λ replay. IsReplay (map string_bytes words.now) replay.boot.now (map string_bytes replay.files.now)) }
 {
     match words {
-        [command, boot, file] => {
-            let file = file.as_str();
-            if command.as_str() != "replay" || boot.as_str() != "-" || file.is_empty() {
+        [command, boot, files @ ..] => {
+            if command.as_str() != "replay" || !is_boot_word(boot.as_str()) {
                 return None;
             }
-            if file.as_bytes()[0] == b'-' {
+            if files.is_empty() || MAX_FILES < files.len() {
                 return None;
             }
-            Some(file)
+            if !are_file_words(files) {
+                return None;
+            }
+            Some(Replay {
+                boot: boot.as_str(),
+                files,
+            })
         }
         _ => None,
     }

@@ -1,20 +1,17 @@
-//! The statistics store as a program: `envoy_stats replay - FILE` applies an event file and writes one flush.
+//! The statistics store as a program: `envoy_stats replay BOOT FILE..` applies event files and writes one flush.
 #![tactic(auto)]
 
-ghost use Rattle.std.specs.Prelude.{◌≡◌, ◌≢◌, ◌⊎◌, None};
-ghost use Rattle.std.specs.Io.KnownBytes.{Appends};
+ghost use Rattle.std.specs.Prelude.{◌≡◌, ◌≢◌};
 ghost use Rattle.std.specs.IoError.{error_kind};
 ghost use Rattle.std.specs.declared.io.ErrorKind.TheVariants.{OutOfMemory};
-ghost use Rattle.stat_defs.specs.Faults.{Rose};
-ghost use Rattle.envoy_stats.specs.Outcomes.{refusals};
+ghost use Rattle.envoy_stats.specs.Outcomes.{Says};
+ghost use Rattle.envoy_stats.specs.Telling.{usage, out_of_memory};
 
 mod command;
-mod counters;
 mod reading;
 mod replay;
+mod reporting;
 mod telling;
-#[cfg(test)]
-mod tests;
 mod writing;
 
 pub use replay::{Outcome, quiet_stats};
@@ -22,6 +19,7 @@ use stats_io::{FolderShelf, Sink, StdSink};
 use std::io;
 use std::process::ExitCode;
 use std::rt::Env;
+use tag_rules::RegexMaker;
 use telling::{OUT_OF_MEMORY, USAGE, say};
 
 // The words of the command line without the program's name.
@@ -35,8 +33,10 @@ fn words_of<R: Env + AllocGlobal>(rt: &R) -> io::Result<Vec<String>> {
 
 // Says why the words could not be read, and gives the status: want of memory, or a word that is no text.
 fn refuse<E: Sink>(err: &mut E, fault: io::Error) -> u8
-    ensures status { ((error_kind fault ≡ OutOfMemory) × (result ≡ 6)) ⊎ ((error_kind fault ≢ OutOfMemory) × (result ≡ 1)) }
-    ensures said { ¬ Rose (E.faults err.old) (E.faults err.new) → Appends (E.written err.old) (E.written err.new) (refusals result None) }
+    ensures memory { error_kind fault ≡ OutOfMemory → (result ≡ 6)
+        × Says (record { written = E.written err.old; faults = E.faults err.old }) (record { written = E.written err.new; faults = E.faults err.new }) out_of_memory }
+    ensures word { error_kind fault ≢ OutOfMemory → (result ≡ 1)
+        × Says (record { written = E.written err.old; faults = E.faults err.old }) (record { written = E.written err.new; faults = E.faults err.new }) usage }
 {
     if fault.kind() == io::ErrorKind::OutOfMemory {
         say(err, OUT_OF_MEMORY);
@@ -47,11 +47,12 @@ fn refuse<E: Sink>(err: &mut E, fault: io::Error) -> u8
 }
 
 fn main(rt: HostRuntime) -> ExitCode {
+    let mut maker = RegexMaker::new(Vec::new(rt.alloc()));
     let mut shelf = FolderShelf::new(&rt);
     let mut out = StdSink::new(rt.stdout());
     let mut err = StdSink::new(rt.stderr());
     let status = match words_of(&rt) {
-        Ok(words) => quiet_stats(rt.alloc(), &words, &mut shelf, &mut out, &mut err).status,
+        Ok(words) => quiet_stats(rt.alloc(), &words, &mut maker, &mut shelf, &mut out, &mut err).status,
         Err(fault) => refuse(&mut err, fault),
     };
     ExitCode::from(status)

@@ -1,24 +1,20 @@
-//! A file that is read and applied to its end.
-ghost use Rattle.std.specs.Prelude.{◌≡◌, ◌≤◌, ℕ, List, Ok, IfOk, MatchResult, length};
-ghost use Rattle.std.specs.Io.KnownBytes.{Consumes};
-ghost use Rattle.stat_defs.specs.Faults.{Rose};
-ghost use Rattle.stat_defs.specs.declared.reports.FileEnd.{FileEnd};
+//! Files that are read and applied, one after another.
+ghost use Rattle.std.specs.Prelude.{◌≡◌, ◌≤◌, ◌<◌, ◌+◌, ◌*◌, ◌^◌, ℕ, List, Ok, IfOk, MatchResult, length, map, string_bytes};
 ghost use Rattle.event_script.specs.Steps.{Answers};
+ghost use Rattle.event_script.specs.declared.pulling.TheConstants as limits;
 ghost use Rattle.envoy_stats.specs.Reporting.{taken_at};
-ghost use Rattle.envoy_stats.specs.Reading.{ReadsSource, ReadsFile};
+ghost use Rattle.envoy_stats.specs.Reading.{ReadsSource, ReadsFile, ReadsFiles};
 
-use crate::counters::{Counters, apply};
+use counter_store::Counters;
 use event_script::{Lines, Step};
-use indexmap::IndexMap;
 use stat_defs::{Event, FileEnd, NoMemory, Verdict, WorkerEnd};
 use stats_io::{OpenFault, Shelf, Source};
 use std::alloc::Global;
 
-/// What came of a file: its events' verdicts, the counters that they made, and its end.
+/// What came of a file: its events' verdicts, and its end.
 #[derive(Drop)]
 pub struct FileRun {
     pub verdicts: Vec<Verdict>,
-    pub counters: Counters,
     pub end: WorkerEnd,
 }
 
@@ -46,18 +42,22 @@ fn taken_at(end: FileEnd, taken: u64) -> u64
 }
 
 // Reads a source to its end and applies its events.
-fn read_source<S: Source + Drop>(alloc: Global, source: S) -> Result<FileRun, NoMemory>
-    ensures { IfOk result (λ run. ReadsSource S.left S.origin S.faults source run) }
+fn read_source<S: Source + Drop>(
+    alloc: Global,
+    source: S,
+    counters: &mut Counters,
+) -> Result<FileRun, NoMemory>
+    requires { length counters.old.events + limits.MAX_FILE_BYTES < 2 ^ 31 }
+    ensures { IfOk result (λ run. ReadsSource S.left S.origin S.faults source counters.old counters.new run) }
 {
     let faults_before = source.fault_count();
     let mut verdicts = Vec::new(alloc);
-    let mut counters = IndexMap::new(alloc);
     let mut lines = Lines::new(alloc, source)?;
     loop {
         let step = lines.next(alloc)?;
         match event_or_end(step) {
             Ok(event) => {
-                let verdict = apply(&mut counters, event)?;
+                let verdict = counters.apply(alloc, event)?;
                 verdicts.push(verdict)?;
             }
             Err(end) => {
@@ -69,28 +69,31 @@ fn read_source<S: Source + Drop>(alloc: Global, source: S) -> Result<FileRun, No
                     faults_before,
                     faults_after: source.fault_count(),
                 };
-                return Ok(FileRun {
-                    verdicts,
-                    counters,
-                    end,
-                });
+                return Ok(FileRun { verdicts, end });
             }
         }
     }
 }
 
-/// Opens a file of a shelf, reads it to its end and applies its events.
-pub fn read_file<F: Shelf>(alloc: Global, shelf: &mut F, name: &str) -> Result<FileRun, NoMemory>
-    ensures { IfOk result (λ run. ReadsFile F.S.left F.S.origin F.S.faults name.now
-        (record { content = F.holds shelf.old name.now; faults = F.faults shelf.old; failed = F.failed shelf.old })
-        (record { content = F.holds shelf.new name.now; faults = F.faults shelf.new; failed = F.failed shelf.new }) run) }
+// Opens a file of a shelf, reads it to its end and applies its events.
+fn read_file<F: Shelf>(
+    alloc: Global,
+    shelf: &mut F,
+    name: &str,
+    counters: &mut Counters,
+) -> Result<FileRun, NoMemory>
+    requires { length counters.old.events + limits.MAX_FILE_BYTES < 2 ^ 31 }
+    ensures read { IfOk result (λ run. ReadsFile F.S.left F.S.origin F.S.faults (F.holds shelf.old) name.now
+        (record { faults = F.faults shelf.old; failed = F.failed shelf.old }) (record { faults = F.faults shelf.new; failed = F.failed shelf.new })
+        counters.old counters.new run) }
+    ensures contents { (other : List ℕ) → F.holds shelf.new other ≡ F.holds shelf.old other }
+    ensures later { F.faults shelf.old ≤ F.faults shelf.new }
 {
     let faults_before = shelf.fault_count();
     match shelf.open(alloc, name) {
-        Ok(source) => read_source(alloc, source),
+        Ok(source) => read_source(alloc, source, counters),
         Err(OpenFault::Failed) => Ok(FileRun {
             verdicts: Vec::new(alloc),
-            counters: IndexMap::new(alloc),
             end: WorkerEnd {
                 end: FileEnd::NotOpened,
                 taken: 0,
@@ -100,4 +103,25 @@ pub fn read_file<F: Shelf>(alloc: Global, shelf: &mut F, name: &str) -> Result<F
         }),
         Err(OpenFault::NoMemory) => Err(NoMemory),
     }
+}
+
+/// Opens the files of a shelf one after another, reads each to its end and applies its events. A file that cannot be opened has
+/// none.
+pub fn read_files<F: Shelf>(
+    alloc: Global,
+    shelf: &mut F,
+    names: &[String],
+    counters: &mut Counters,
+) -> Result<Vec<FileRun>, NoMemory>
+    requires { length counters.old.events + length names.now * limits.MAX_FILE_BYTES < 2 ^ 31 }
+    ensures { IfOk result (λ runs. ReadsFiles F.S.left F.S.origin F.S.faults (F.holds shelf.old) (map string_bytes names.now)
+        (record { faults = F.faults shelf.old; failed = F.failed shelf.old }) (record { faults = F.faults shelf.new; failed = F.failed shelf.new })
+        counters.old counters.new runs.items) }
+{
+    let mut runs = Vec::new(alloc);
+    for name in names {
+        let run = read_file(alloc, shelf, name.as_str(), counters)?;
+        runs.push(run)?;
+    }
+    Ok(runs)
 }

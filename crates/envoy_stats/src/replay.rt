@@ -1,19 +1,27 @@
-//! `replay - FILE`.
-ghost use Rattle.std.specs.Prelude.{◌≡◌, ◌↔◌, ℕ, List, None, IfOk, map, string_bytes};
-ghost use Rattle.std.specs.Io.KnownBytes.{Appends};
+//! `replay BOOT FILE..`.
+ghost use Rattle.std.specs.Prelude.{◌≡◌, ◌≢◌, ◌≤◌, ◌↔◌, ℕ, List, None, IfOk, length, map, string_bytes, codes};
 ghost use Rattle.stat_defs.specs.Faults.{Rose};
+ghost use Rattle.stat_defs.specs.Configs.{IsConfig};
+ghost use Rattle.boot_load.specs.declared.fault.LoadFault.TheVariants as fault;
+ghost use Rattle.boot_load.specs.Telling.{boot_line};
 ghost use Rattle.envoy_stats.specs.Command.{IsReplay, IsCommand};
-ghost use Rattle.envoy_stats.specs.Outcomes.{status_of, Replays, refusals};
-ghost use Rattle.envoy_stats.specs.Readiness.{IsReady, Finishes, said_of};
+ghost use Rattle.envoy_stats.specs.declared.command.TheConstants as limits;
+ghost use Rattle.envoy_stats.specs.Outcomes.{Says, status_of, status_of_all, status_of_boot, Replays};
+ghost use Rattle.envoy_stats.specs.Telling.{usage, out_of_memory};
+ghost use Rattle.envoy_stats.specs.Readiness.{IsReady, Finishes, said_with};
 
-use crate::command::file_of;
-use crate::reading::read_file;
-use crate::telling::{OUT_OF_MEMORY, USAGE, fault_line, say};
-use crate::writing::{report_of, view_of, worker_line, write_output};
+use crate::command::{Replay, replay_of};
+use crate::reading::read_files;
+use crate::reporting::{ends_of, report_of, view_of};
+use crate::telling::{OUT_OF_MEMORY, USAGE, fault_lines, say};
+use crate::writing::{worker_lines, write_output};
+use boot_load::{Boot, LoadFault, boot_line, load};
+use counter_store::Counters;
 use stat_defs::{FileEnd, FlushView, NoMemory, Report, Txt};
 use stats_io::{Shelf, Sink};
 use statsd_text::TextFault;
 use std::alloc::Global;
+use tag_rules::PatternMaker;
 
 /// How a call ended: its status, and what it recorded where it got so far.
 #[derive(Drop, Debug)]
@@ -22,15 +30,15 @@ pub struct Outcome {
     pub report: Option<Report>,
 }
 
-/// All that is to be written and said of a file, before the first byte is.
+/// All that is to be written and said of files, before the first byte is.
 #[derive(Drop)]
 pub struct Ready {
     pub report: Report,
     pub view: FlushView,
     pub prefix: Txt,
-    pub line: Vec<u8>,
-    pub end: FileEnd,
-    pub fault: Vec<u8>,
+    pub lines: Vec<u8>,
+    pub faults: Vec<u8>,
+    pub status: u8,
 }
 
 fn status_of(end: FileEnd) -> u8
@@ -43,33 +51,70 @@ fn status_of(end: FileEnd) -> u8
     }
 }
 
-// Reads the file, and makes what is to be written and said of it.
-fn prepare<F: Shelf>(alloc: Global, name: &str, shelf: &mut F) -> Result<Ready, NoMemory>
-    ensures { IfOk result (λ ready. IsReady F.S.left F.S.origin F.S.faults name.now
-        (record { content = F.holds shelf.old name.now; faults = F.faults shelf.old; failed = F.failed shelf.old })
-        (record { content = F.holds shelf.new name.now; faults = F.faults shelf.new; failed = F.failed shelf.new }) ready) }
+// The status of the first file that was not read whole.
+fn status_of_all(ends: &[FileEnd]) -> u8
+    ensures { result ≡ status_of_all ends.now }
 {
-    let run = read_file(alloc, shelf, name)?;
-    let end = run.end.end;
-    let fault = fault_line(alloc, 1, end)?;
-    let line = worker_line(alloc, &run.verdicts)?;
-    let prefix = Txt::of(alloc, b"envoy")?;
-    let report = report_of(alloc, run.verdicts, &run.counters, run.end)?;
-    let view = view_of(alloc, run.counters)?;
+    for end in ends {
+        let status = status_of(*end);
+        if status != 0 {
+            return status;
+        }
+    }
+    0
+}
+
+fn status_of_boot(fault: &LoadFault) -> u8
+    ensures { result ≡ status_of_boot fault.now }
+{
+    match fault {
+        LoadFault::TooBig | LoadFault::Faulty(_) | LoadFault::BadPattern(_) => 2,
+        LoadFault::ReadFailed => 4,
+        LoadFault::NoMemory => 6,
+    }
+}
+
+// Reads the files, and makes what is to be written and said of them.
+fn prepare<F: Shelf>(
+    alloc: Global,
+    boot: Boot,
+    names: &[String],
+    shelf: &mut F,
+) -> Result<Ready, NoMemory>
+    requires lawful { IsConfig boot.config }
+    requires matcher { boot.matcher ≡ boot.config.matcher }
+    requires few { length names.now ≤ limits.MAX_FILES }
+    ensures { IfOk result (λ ready. IsReady F.S.left F.S.origin F.S.faults (F.holds shelf.old) (map string_bytes names.now)
+        (record { faults = F.faults shelf.old; failed = F.failed shelf.old }) (record { faults = F.faults shelf.new; failed = F.failed shelf.new })
+        boot.config ready) }
+{
+    let Boot {
+        config,
+        rules: _,
+        matcher,
+        buckets: _,
+    } = boot;
+    let mut counters = Counters::new(alloc, config.scopes.items(), matcher)?;
+    let runs = read_files(alloc, shelf, names, &mut counters)?;
+    let ends = ends_of(alloc, &runs)?;
+    let faults = fault_lines(alloc, &ends)?;
+    let lines = worker_lines(alloc, &runs)?;
+    let report = report_of(alloc, runs, counters.totals())?;
+    let view = view_of(alloc, counters.into_totals())?;
     Ok(Ready {
         report,
         view,
-        prefix,
-        line,
-        end,
-        fault,
+        prefix: config.statsd_prefix,
+        lines,
+        faults,
+        status: status_of_all(&ends),
     })
 }
 
 // Says that memory was wanting.
 fn give_up<E: Sink>(err: &mut E) -> Outcome
     ensures outcome { result ≡ record { status = 6; report = None } }
-    ensures said { ¬ Rose (E.faults err.old) (E.faults err.new) → Appends (E.written err.old) (E.written err.new) (refusals 6 None) }
+    ensures said { Says (record { written = E.written err.old; faults = E.faults err.old }) (record { written = E.written err.new; faults = E.faults err.new }) out_of_memory }
 {
     say(err, OUT_OF_MEMORY);
     Outcome {
@@ -78,31 +123,52 @@ fn give_up<E: Sink>(err: &mut E) -> Outcome
     }
 }
 
-// Writes what is ready, and says how the file ended, and then that a push failed.
+// Says why the bootstrap was not loaded.
+fn refuse_boot<E: Sink>(alloc: Global, fault: &LoadFault, err: &mut E) -> Outcome
+    requires { fault.now ≢ fault.NoMemory }
+    ensures outcome { (result ≡ record { status = status_of_boot fault.now; report = None }) ⊎ (result ≡ record { status = 6; report = None }) }
+    ensures said { result.status ≢ 6 → Says (record { written = E.written err.old; faults = E.faults err.old }) (record { written = E.written err.new; faults = E.faults err.new }) (boot_line fault.now) }
+    ensures gave_up { result.status ≡ 6 → Says (record { written = E.written err.old; faults = E.faults err.old }) (record { written = E.written err.new; faults = E.faults err.new }) out_of_memory }
+{
+    match boot_line(alloc, fault) {
+        Ok(line) => {
+            say(err, &line);
+            Outcome {
+                status: status_of_boot(fault),
+                report: None,
+            }
+        }
+        Err(NoMemory) => give_up(err),
+    }
+}
+
+// Writes what is ready, and says how the files ended, and then that a push failed.
 fn finish<O: Sink, E: Sink>(alloc: Global, ready: Ready, out: &mut O, err: &mut E) -> Outcome
+    requires { ready.status < 5 }
     ensures written { Finishes ready
         (record { written = O.written out.old; faults = O.faults out.old })
         (record { written = O.written out.new; faults = O.faults out.new }) result }
-    ensures said { ¬ Rose (E.faults err.old) (E.faults err.new) → Appends (E.written err.old) (E.written err.new) (said_of ready.fault.items result.status) }
+    ensures said { Says (record { written = E.written err.old; faults = E.faults err.old }) (record { written = E.written err.new; faults = E.faults err.new })
+        (said_with ready.faults.items result.status) }
 {
     let Ready {
         report,
         view,
         prefix,
-        line,
-        end,
-        fault,
+        lines,
+        faults,
+        status,
     } = ready;
-    match write_output(alloc, &view, &prefix, &line, out) {
+    match write_output(alloc, &view, &prefix, &lines, out) {
         Ok(()) => {
-            say(err, &fault);
+            say(err, &faults);
             Outcome {
-                status: status_of(end),
+                status,
                 report: Some(report),
             }
         }
         Err(TextFault::WriteFault) => {
-            say(err, &fault);
+            say(err, &faults);
             say(err, b"write failed\n");
             Outcome {
                 status: 5,
@@ -113,59 +179,77 @@ fn finish<O: Sink, E: Sink>(alloc: Global, ready: Ready, out: &mut O, err: &mut 
     }
 }
 
-// `replay - FILE` of that file.
-fn replay<F: Shelf, O: Sink, E: Sink>(
+// `replay BOOT FILE..` of that bootstrap and those files.
+fn replay<K: PatternMaker, F: Shelf, O: Sink, E: Sink>(
     alloc: Global,
-    name: &str,
+    command: Replay<'_>,
+    maker: &mut K,
     shelf: &mut F,
     out: &mut O,
     err: &mut E,
 ) -> Outcome
-    ensures replayed { Replays F.S.left F.S.origin F.S.faults name.now
-        (record { content = F.holds shelf.old name.now; faults = F.faults shelf.old; failed = F.failed shelf.old })
-        (record { content = F.holds shelf.new name.now; faults = F.faults shelf.new; failed = F.failed shelf.new })
-        (record { written = O.written out.old; faults = O.faults out.old })
-        (record { written = O.written out.new; faults = O.faults out.new }) result.status result.report }
-    ensures said { ¬ Rose (E.faults err.old) (E.faults err.new) → Appends (E.written err.old) (E.written err.new) (refusals result.status result.report) }
+    requires few { length command.files.now ≤ limits.MAX_FILES }
+    ensures replayed { Replays F.S.left F.S.origin F.S.faults (F.holds shelf.old) command.boot.now (map string_bytes command.files.now)
+        (record { faults = F.faults shelf.old; failed = F.failed shelf.old }) (record { faults = F.faults shelf.new; failed = F.failed shelf.new })
+        (K.memory maker.old) (K.memory maker.new)
+        (record { written = O.written out.old; faults = O.faults out.old }) (record { written = O.written out.new; faults = O.faults out.new })
+        (record { written = E.written err.old; faults = E.faults err.old }) (record { written = E.written err.new; faults = E.faults err.new })
+        result.status result.report }
+    ensures unwritten { result.report ≡ None → result.status ≢ 6 → out.new ≡ out.old }
+    ensures usual { command.boot.now ≡ codes "-" → result.status ≡ 2 → shelf.new ≡ shelf.old }
+    ensures status { result.status ≢ 1 }
 {
-    match prepare(alloc, name, shelf) {
-        Ok(ready) => finish(alloc, ready, out, err),
-        Err(NoMemory) => give_up(err),
+    match load(alloc, command.boot, maker, shelf) {
+        Ok(boot) => match prepare(alloc, boot, command.files, shelf) {
+            Ok(ready) => finish(alloc, ready, out, err),
+            Err(NoMemory) => give_up(err),
+        },
+        Err(LoadFault::NoMemory) => give_up(err),
+        Err(fault) => refuse_boot(alloc, &fault, err),
     }
 }
 
-/// The commands that start no thread. This one is served: `replay - FILE` applies the events of a file and writes one flush.
+/// The commands that start no thread. This one is served: `replay BOOT FILE..` loads a bootstrap, applies the events of 1 to 32
+/// files one after another, and writes one flush.
 ///
-/// - Status 0: the file was read to its end and all was written.
+/// - Status 0: every file was read to its end and all was written.
 /// - Status 1: the words are no command. Nothing was opened or written.
-/// - Status 3: the file has a line of no meaning, or too many bytes. What stands before is applied and written.
-/// - Status 4: the file could not be opened or read on. The whole lines before that are applied and written.
+/// - Status 2: the bootstrap was read, or is `-`, and is at fault, or one of its patterns was refused. Nothing was written.
+/// - Status 3: the first file that was not read whole has a line of no meaning or past a limit. What stands before is applied.
+/// - Status 4: that file could not be opened or read on; the whole lines before that are applied. Or the bootstrap could not be
+///   read, and nothing was written.
 /// - Status 5: a push on `out` failed. A front of the output was written.
 /// - Status 6: memory was wanting.
 ///
-/// `err` is told each of these but 0, in a line. A fault of `err` changes nothing else.
-pub fn quiet_stats<F: Shelf, O: Sink, E: Sink>(
+/// `err` is told each of these but 0, in a line, and every file that was not read whole has its line. A fault of `err` changes
+/// nothing else.
+pub fn quiet_stats<K: PatternMaker, F: Shelf, O: Sink, E: Sink>(
     alloc: Global,
     words: &[String],
+    maker: &mut K,
     shelf: &mut F,
     out: &mut O,
     err: &mut E,
 ) -> Outcome
     ensures usage { (result.status ≡ 1) ↔ ¬ IsCommand (map string_bytes words.now) }
-    ensures silent { result.status ≡ 1 → (result.report ≡ None) × (shelf.new ≡ shelf.old) × (out.new ≡ out.old) }
-    ensures replayed { (file : List ℕ) → IsReplay (map string_bytes words.now) file → Replays F.S.left F.S.origin F.S.faults file
-        (record { content = F.holds shelf.old file; faults = F.faults shelf.old; failed = F.failed shelf.old })
-        (record { content = F.holds shelf.new file; faults = F.faults shelf.new; failed = F.failed shelf.new })
-        (record { written = O.written out.old; faults = O.faults out.old })
-        (record { written = O.written out.new; faults = O.faults out.new }) result.status result.report }
-    ensures refusals { ¬ Rose (E.faults err.old) (E.faults err.new) → Appends (E.written err.old) (E.written err.new) (refusals result.status result.report) }
+    ensures refused { result.status ≡ 1 → (maker.new ≡ maker.old) × (shelf.new ≡ shelf.old) × (result.report ≡ None)
+        × Says (record { written = E.written err.old; faults = E.faults err.old }) (record { written = E.written err.new; faults = E.faults err.new }) usage }
+    ensures replayed { (boot : List ℕ) → (files : List (List ℕ)) → IsReplay (map string_bytes words.now) boot files
+        → Replays F.S.left F.S.origin F.S.faults (F.holds shelf.old) boot files
+            (record { faults = F.faults shelf.old; failed = F.failed shelf.old }) (record { faults = F.faults shelf.new; failed = F.failed shelf.new })
+            (K.memory maker.old) (K.memory maker.new)
+            (record { written = O.written out.old; faults = O.faults out.old }) (record { written = O.written out.new; faults = O.faults out.new })
+            (record { written = E.written err.old; faults = E.faults err.old }) (record { written = E.written err.new; faults = E.faults err.new })
+            result.status result.report }
+    ensures unwritten { result.report ≡ None → result.status ≢ 6 → out.new ≡ out.old }
+    ensures usual { (files : List (List ℕ)) → IsReplay (map string_bytes words.now) (codes "-") files → result.status ≡ 2 → shelf.new ≡ shelf.old }
 {
-    let Some(name) = file_of(words) else {
+    let Some(command) = replay_of(words) else {
         say(err, USAGE);
         return Outcome {
             status: 1,
             report: None,
         };
     };
-    replay(alloc, name, shelf, out, err)
+    replay(alloc, command, maker, shelf, out, err)
 }

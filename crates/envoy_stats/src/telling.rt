@@ -1,8 +1,8 @@
-//! What is said on the second sink.
-ghost use Rattle.std.specs.Prelude.{◌≡◌, ◌≤◌, IfOk, string_bytes};
+//! What is said on `err`.
+ghost use Rattle.std.specs.Prelude.{◌≡◌, ◌≤◌, ◌+◌, ◌^◌, ◌<◌, IfOk, length, string_bytes};
 ghost use Rattle.std.specs.Io.KnownBytes.{Appends};
 ghost use Rattle.stat_defs.specs.Faults.{Rose};
-ghost use Rattle.envoy_stats.specs.Outcomes.{fault_line};
+ghost use Rattle.envoy_stats.specs.Telling.{fault_line, fault_lines};
 
 use stat_defs::{FileEnd, NoMemory};
 use stats_io::{Sink, push_all};
@@ -24,7 +24,7 @@ pub fn say<E: Sink>(err: &mut E, text: &[u8])
 }
 
 // The line as text.
-fn fault_text(alloc: Global, number: u32, end: FileEnd) -> Result<String, NoMemory>
+fn fault_line(alloc: Global, number: usize, end: FileEnd) -> Result<String, NoMemory>
     ensures { IfOk result (λ text. string_bytes text ≡ fault_line number end) }
 {
     match end {
@@ -40,9 +40,15 @@ fn fault_text(alloc: Global, number: u32, end: FileEnd) -> Result<String, NoMemo
     }
 }
 
-/// The line on the file of that number, from 1, which ended so; nothing where it was read whole.
-pub fn fault_line(alloc: Global, number: u32, end: FileEnd) -> Result<Vec<u8>, NoMemory>
-    ensures { IfOk result (λ text. text.items ≡ fault_line number end) }
+/// The lines on files that ended so, numbered from 1; none on a file that was read whole.
+pub fn fault_lines(alloc: Global, ends: &[FileEnd]) -> Result<Vec<u8>, NoMemory>
+    requires { length ends.now < 2 ^ 32 }
+    ensures { IfOk result (λ text. text.items ≡ fault_lines ends.now) }
 {
-    Ok(fault_text(alloc, number, end)?.into_bytes())
+    let mut text = Vec::new(alloc);
+    for (i, end) in ends.iter().enumerate() {
+        let line = fault_line(alloc, i + 1, *end)?;
+        text.extend_from_slice(line.as_bytes())?;
+    }
+    Ok(text)
 }

@@ -1,0 +1,30 @@
+-- What is said on `err`. This project's own.
+use Rattle.std.specs.Prelude.{ℕ, ◌+◌, ◌==◌, if◌then◌else◌, List, [], ◌++◌, codes}
+use Rattle.std.specs.List.{enumerate_from, flat_map}
+use Rattle.std.specs.Fmt.{decimal}
+use Rattle.stat_defs.specs.declared.reports.FileEnd.{FileEnd}
+use Rattle.stat_defs.specs.declared.reports.FileEnd.TheVariants.{Whole, BadLine, LineTooLong, TooBig, TooMany, ReadFault, NotOpened}
+
+abbrev pub usage : List ℕ
+usage = codes "usage: envoy_stats run|replay [--symbols] [--format statsd|prom|admin] BOOT FILE.. | check BOOT | bins V..\n"
+
+abbrev pub out_of_memory : List ℕ
+out_of_memory = codes "out of memory\n"
+
+-- the line on a file that ended so
+abbrev pub fault_line : ℕ → FileEnd → List ℕ
+fault_line number Whole = []
+fault_line number (BadLine n) = codes "file " ++ (decimal number ++ (codes " line " ++ (decimal n ++ codes ": no event\n")))
+fault_line number (LineTooLong n) = codes "file " ++ (decimal number ++ (codes " line " ++ (decimal n ++ codes ": line too long\n")))
+fault_line number TooBig = codes "file " ++ (decimal number ++ codes ": too big\n")
+fault_line number TooMany = codes "file " ++ (decimal number ++ codes ": too many events\n")
+fault_line number ReadFault = codes "file " ++ (decimal number ++ codes ": read failed\n")
+fault_line number NotOpened = codes "file " ++ (decimal number ++ codes ": not opened\n")
+
+-- the lines on the files, numbered from 1, in order
+abbrev pub fault_lines : List FileEnd → List ℕ
+fault_lines ends = flat_map (λ place. fault_line (place.0 + 1) place.1) (enumerate_from 0 ends)
+
+-- what is said of files that ended so, and then of the output
+abbrev pub said_of : List FileEnd → ℕ → List ℕ
+said_of ends status = fault_lines ends ++ (if status == 5 then codes "write failed\n" else [])
