@@ -34,7 +34,6 @@ pub record IsPatternRefused (all : List Asked) (path : List ℕ) (old new : Memo
   pub text : List ℕ
   pub rest : List Asked
   pub order : all ≡ done ++ (record { path = path; text = text }) ∷ rest
-  pub made : new.made ≡ old.made ++ map (λ a. a.text) done
   pub refused : Refuses text old new
 
 module _ {S : Type 0} (origin : S → List ℕ) (faults : S → ℕ) (content : Option (List ℕ)) (name : List ℕ) (shelf_before shelf_after : ShelfMemory) (old new : Memory) where
@@ -52,7 +51,7 @@ module _ {S : Type 0} (origin : S → List ℕ) (faults : S → ℕ) (content : 
     pub rules : loaded.rules ≡ loaded.config.tags
     pub matcher : loaded.matcher ≡ loaded.config.matcher
     pub buckets : loaded.buckets ≡ loaded.config.buckets
-    pub maker : new ≡ record old { made = old.made ++ map (λ a. a.text) (asked loaded.config) }
+    pub maker : new ≡ old
 
   pub record IsTooBig : Type 0 where
     pub bytes : List ℕ

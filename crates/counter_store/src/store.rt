@@ -23,12 +23,14 @@ pub struct Counters {
 }
 
 impl Model for Counters {
-    ghost use Rattle.std.specs.Prelude.{[]};
+    ghost use Rattle.std.specs.Prelude.{[], ◌≡◌};
     ghost use Rattle.counter_store.specs.Counting.{History};
 
     ghost Value = { History };
 
     ghost view = { λ c. record { rules = record { scopes = []; matcher = c.matcher }; events = [] } };
+
+    ghost invariant = { λ c. c.totals.entries ≡ [] };
 }
 
 impl Counters {

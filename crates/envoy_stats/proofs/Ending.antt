@@ -1,5 +1,5 @@
 -- A file that was read to its end.
-use Rattle.std.proofs.Common.{◌≡◌, ℕ, Option, None, Some, IfSome, Result, List, [], ◌++◌, length, sym, ap, ◌∙◌, subst, zero-add}
+use Rattle.std.proofs.Common.{◌≡◌, ℕ, Option, None, Some, IfSome, Result, List, [], ◌++◌, length, sym, ap, arith, ◌∙◌, subst, zero-add}
 use Rattle.std.proofs.lemmas.List.{append-nil}
 use Rattle.std.specs.Io.KnownBytes.{IsAtEnd}
 use Rattle.stat_defs.specs.declared.events.Event.{Event}
@@ -17,7 +17,8 @@ use Rattle.event_script.proofs.Filling.{moves_trans}
 use Rattle.envoy_stats.specs.declared.reading.FileRun.{FileRun}
 use Rattle.envoy_stats.specs.Reading.{ReadsSource}
 use Rattle.envoy_stats.specs.Reporting.{taken_at}
-use Rattle.envoy_stats.proofs.Following.{SoFar, few_so_far}
+use Rattle.envoy_stats.proofs.Following.{SoFar}
+use Rattle.counter_store.specs.Counting.{History}
 
 -- what holds of the end that was answered
 pub at_end_of : (answer : Result Step NoMemory) (end : FileEnd) (fact : FileEnd → Type 0) → Answers answer end → IfEnded answer fact → fact end
@@ -38,16 +39,16 @@ was_opened None end by e = by
 was_opened (Some stop) end by e = subst (λ (x : FileEnd). StoppedBy (Some stop) x) e by
 
 module _ {S : Type 0} (left : S → Option (List ℕ)) (origin : S → List ℕ) (faults : S → ℕ) where
-  pub read_all : (source : S) (init old new : Reading S) (run : FileRun)
-      → SoFar left origin init old run.verdicts.items run.counters.entries
+  pub read_all : (source : S) (init old new : Reading S) (earlier later : History) (run : FileRun)
+      → SoFar left origin init old earlier later run.verdicts.items
       → init ≡ record { source = source; number = 1; offset = 0; pending = []; taken = 0; first_faults = faults source; stopped = None; ended = None }
       → (answer : Result Step NoMemory) → Answers answer run.end.end → (got : List ℕ) → Moves left old new got (events_of answer)
       → IfEnded answer (λ end. new.ended ≡ Some end) → IfEnded answer (λ end. StoppedBy new.stopped end)
       → IfEnded answer (λ end. Explains (left new.source) new.first_faults (faults new.source) end)
       → (new.stopped ≡ Some stop.Whole → IsAtEnd (left new.source)) → new.first_faults ≡ old.first_faults → origin new.source ≡ origin old.source
       → run.end.taken ≡ taken_at run.end.end new.taken → run.end.faults_before ≡ faults source → run.end.faults_after ≡ faults new.source
-      → ReadsSource left origin faults source run
-  read_all source init old new run so is answer answers got moves ended by explained at_end first same_origin taken_is before_is after_is =
+      → ReadsSource left origin faults source earlier later run
+  read_all source init old new earlier later run so is answer answers got moves ended by explained at_end first same_origin taken_is before_is after_is =
       let end = run.end.end in
       let last : Moves left old new got [] = subst (λ (es : List Event). Moves left old new got es) answers.0 moves in
       let all = moves_trans left init old new so.got got so.events [] so.moves last in
@@ -56,14 +57,14 @@ module _ {S : Type 0} (left : S → Option (List ℕ)) (origin : S → List ℕ)
       let why : Explains (left new.source) new.first_faults (faults new.source) end = at_end_of answer end (λ e. Explains (left new.source) new.first_faults (faults new.source) e) answers explained in
       let faults_first : new.first_faults ≡ faults source = first ∙ so.first ∙ ap (λ r. r.first_faults) is in
       record {
-        reads = record {
-          events = so.events;
-          is_run = subst (λ (n : ℕ). IsRun (left source) end n so.events) (sym taken_is)
-              (run_taken (left source) end new.taken so.events
-              (run_of left source new (faults source) (so.got ++ got) so.events end from_start (at_end_of answer end (λ e. new.ended ≡ Some e) answers ended) stopped at_end));
+        events = so.events;
+        is_run = subst (λ (n : ℕ). IsRun (left source) end n so.events) (sym taken_is)
+            (run_taken (left source) end new.taken so.events
+            (run_of left source new (faults source) (so.got ++ got) so.events end from_start (at_end_of answer end (λ e. new.ended ≡ Some e) answers ended) stopped at_end));
+        applies = record {
+          applied = so.applied;
           verdicts_are = so.verdicts_are;
-          counters_are = so.counters_are;
-          few = few_so_far left origin init old run.verdicts.items run.counters.entries so;
+          few = omega (arith, so.few, so.bound);
         };
         opened = was_opened new.stopped end stopped;
         later = new.source;

@@ -1,49 +1,85 @@
 -- A file that is being read and applied.
-use Rattle.std.proofs.Common.{◌≡◌, ◌<◌, ◌≤◌, ◌*◌, ◌+◌, ◌^◌, ℕ, Bool, true, false, cond, Option, List, [], ◌∷◌, ◌++◌, length, map, get_or, refl, sym, ap, ◌∙◌, subst, arith, add-zero, codes}
-use Rattle.std.proofs.lemmas.List.Sums.{sum_by_push, fold_push}
-use Rattle.std.proofs.lemmas.List.{get_or-map}
+use Rattle.std.proofs.Common.{◌≡◌, ◌<◌, ◌≤◌, ◌+◌, ◌^◌, ◌==◌, ℕ, Bool, true, false, not, cond, ◌||◌, nat_lt, Option, None, Some, List, [], ◌∷◌, ◌++◌, length, map, fold, refl, sym, ap, ◌∙◌, subst, arith, add-zero, length-append}
+use Rattle.std.proofs.lemmas.List.Sums.{fold-append}
+use Rattle.std.proofs.lemmas.List.{append-nil, append_assoc, map-append, length-map}
+use Rattle.std.proofs.lemmas.List.FromFn.{length-enumerate_from}
 use Rattle.std.proofs.KnownBytes.{Consumes-nil}
-use Rattle.std.proofs.Common.{length-append}
-use Rattle.std.proofs.lemmas.List.{length-map}
-use Rattle.std.specs.Prelude.{All}
-use Rattle.std.specs.List.{list_any}
-use Rattle.std.specs.Map.{keys_of}
+use Rattle.std.specs.List.{list_any, enumerate_from}
 use Rattle.std.specs.Str.{bytes_eq}
 use Rattle.stat_defs.specs.declared.events.Event.{Event}
 use Rattle.stat_defs.specs.declared.events.Event.TheVariants.{Inc, Gauge, Rec, SetText, OpenScope, Release}
 use Rattle.stat_defs.specs.declared.history.Verdict.{Verdict}
+use Rattle.stat_defs.specs.declared.history.Verdict.TheVariants.{Accepted, Opened, Released, LabelTaken, NoScope, Rejected, OverLimit, NoRoom}
+use Rattle.event_script.specs.Grammar.{IsLawful}
 use Rattle.event_script.specs.Reading.{Reading, Moves}
 use Rattle.event_script.proofs.Filling.{moves_trans}
-use Rattle.envoy_stats.specs.Counting.{units_in, units, names_after, counters, verdict_of, verdicts, tally}
-use Rattle.envoy_stats.specs.Held.{held_after}
-use Rattle.envoy_stats.proofs.Tallies.{verdicts_push, keys_of_pairs, tally_push}
+use Rattle.counter_store.specs.Counting.{Rules, History, IsNamed, meant, judge, with_counter, names_with, names_after, counters, verdict_of, judged, verdicts, units, tally}
 
--- the events so far, with their verdicts and counters, between the reader as it was made and as it is now
-pub record SoFar {S : Type 0} (left : S → Option (List ℕ)) (origin : S → List ℕ) (init now : Reading S) (given_verdicts : List Verdict) (entries : List (List ℕ × ℕ)) : Type 0 where
+-- a lawful increment has a local name
+pub named : (event : Event) → IsLawful event → IsNamed event
+named (Inc label name n) lawful = lawful.1
+named (Gauge label name mode op n) lawful = tt
+named (Rec label name v) lawful = tt
+named (SetText label name text) lawful = tt
+named (OpenScope label prefix) lawful = tt
+named (Release label) lawful = tt
+
+-- one event more has one verdict more
+judged_push : (rules : Rules) (names : List (List ℕ)) (events : List Event) (event : Event)
+    → judged rules names (events ++ event ∷ []) ≡ judged rules names events ++ (event, verdict_of rules (fold (names_after rules) names events) event) ∷ []
+judged_push rules names [] event = refl
+judged_push rules names (e ∷ es) event = ap (λ js. (e, verdict_of rules names e) ∷ js) (judged_push rules (names_after rules names e) es event)
+
+pub verdicts_push : (rules : Rules) (earlier events : List Event) (event : Event)
+    → verdicts rules earlier (events ++ event ∷ []) ≡ verdicts rules earlier events ++ verdict_of rules (counters rules (earlier ++ events)) event ∷ []
+verdicts_push rules earlier events event =
+    ap (map (λ pair. pair.1)) (judged_push rules (counters rules earlier) events event)
+    ∙ map-append (λ pair. pair.1) (judged rules (counters rules earlier) events) ((event, verdict_of rules (fold (names_after rules) (counters rules earlier) events) event) ∷ [])
+    ∙ ap (λ names. verdicts rules earlier events ++ verdict_of rules names event ∷ []) (sym (fold-append (names_after rules) [] earlier events))
+
+-- an event makes one counter at most
+one_more : (rules : Rules) (names : List (List ℕ)) (event : Event) → length (names_after rules names event) ≤ length names + 1
+one_more rules names event = on (meant rules event)
+  where
+    given : (name : List ℕ) (verdict : Verdict) → length (with_counter names name verdict) ≤ length names + 1
+    given name (Accepted id) = by (id.0 == length names)
+      where
+        by : (b : Bool) → length (cond b (names ++ name ∷ []) names) ≤ length names + 1
+        by true = omega (arith, length-append names (name ∷ []))
+        by false = omega arith
+    given name (Opened id) = omega arith
+    given name (Released id) = omega arith
+    given name LabelTaken = omega arith
+    given name NoScope = omega arith
+    given name Rejected = omega arith
+    given name OverLimit = omega arith
+    given name NoRoom = omega arith
+
+    on : (found : Option (List ℕ)) → length (names_with rules names found) ≤ length names + 1
+    on None = omega arith
+    on (Some name) = given name (judge rules names name)
+
+few_names : (rules : Rules) (names : List (List ℕ)) (events : List Event) → length (fold (names_after rules) names events) ≤ length names + length events
+few_names rules names [] = omega arith
+few_names rules names (e ∷ es) = omega (arith, few_names rules (names_after rules names e) es, one_more rules names e)
+
+-- there are no more counters than events
+pub few_counters : (rules : Rules) (events : List Event) → length (tally rules events) ≤ length events
+few_counters rules events = omega (arith, few_names rules [] events,
+    length-map {B = List ℕ × ℕ} (enumerate_from 0 (counters rules events)) (λ (place : ℕ × List ℕ). (place.1, units rules events place.0)),
+    length-enumerate_from 0 (counters rules events))
+
+-- the events so far, applied behind the earlier ones, between the reader as it was made and as it is now
+pub record SoFar {S : Type 0} (left : S → Option (List ℕ)) (origin : S → List ℕ) (init now : Reading S) (earlier later : History) (given : List Verdict) : Type 0 where
   pub got : List ℕ
   pub events : List Event
   pub moves : Moves left init now got events
-  pub verdicts_are : given_verdicts ≡ verdicts events
-  pub counters_are : entries ≡ tally events
-  pub small : (q : List ℕ) → units q events ≤ now.number * 2 ^ 32
-  pub few : length (counters events) ≤ now.number
+  pub applied : later ≡ record earlier { events = earlier.events ++ events }
+  pub verdicts_are : given ≡ verdicts earlier.rules earlier.events events
+  pub few : length events + 1 ≤ now.number
   pub bound : now.number ≤ 8388609
   pub first : now.first_faults ≡ init.first_faults
   pub same_origin : origin now.source ≡ origin init.source
-
--- an event adds at most one name
-one_more_name : (names : List (List ℕ)) (event : Event) → length (names_after names event) ≤ length names + 1
-one_more_name names (Inc label name n) = by (bytes_eq label (codes "root")) (list_any (bytes_eq name) names)
-  where
-    by : (b c : Bool) → length (cond b (cond c names (names ++ name ∷ [])) names) ≤ length names + 1
-    by true true = omega arith
-    by true false = omega (arith, length-append names (name ∷ []))
-    by false c = omega arith
-one_more_name names (Gauge label name mode op n) = omega arith
-one_more_name names (Rec label name v) = omega arith
-one_more_name names (SetText label name text) = omega arith
-one_more_name names (OpenScope label prefix) = omega arith
-one_more_name names (Release label) = omega arith
 
 module _ {S : Type 0} (left : S → Option (List ℕ)) (origin : S → List ℕ) where
   moves_none : (r : Reading S) → Moves left r r [] []
@@ -54,50 +90,40 @@ module _ {S : Type 0} (left : S → Option (List ℕ)) (origin : S → List ℕ)
     answers = λ more last others end may comes. comes;
   }
 
-  pub so_far_none : (init : Reading S) (given_verdicts : List Verdict) (entries : List (List ℕ × ℕ)) → init.number ≡ 1 → given_verdicts ≡ [] → entries ≡ [] → SoFar left origin init init given_verdicts entries
-  so_far_none init given_verdicts entries one none_given none_held = record {
+  pub so_far_none : (init : Reading S) (earlier : History) (given : List Verdict) → init.number ≡ 1 → given ≡ [] → SoFar left origin init init earlier earlier given
+  so_far_none init earlier given one none_given = record {
     got = [];
     events = [];
     moves = moves_none init;
+    applied = λ i. record earlier { events = sym (append-nil earlier.events) i };
     verdicts_are = none_given;
-    counters_are = none_held;
-    small = λ q. omega arith;
-    few = omega arith;
+    few = omega (arith, one);
     bound = omega (arith, one);
     first = refl;
     same_origin = refl;
   }
 
   -- one event more
-  pub so_far_more : (init old new : Reading S) (given_verdicts : List Verdict) (entries new_entries : List (List ℕ × ℕ)) (verdict : Verdict) → SoFar left origin init old given_verdicts entries
+  pub so_far_more : (init old new : Reading S) (earlier later latest : History) (given : List Verdict) (verdict : Verdict) → SoFar left origin init old earlier later given
       → (event : Event) (got : List ℕ) → Moves left old new got (event ∷ []) → old.number < new.number → new.number ≤ 8388609 → new.first_faults ≡ old.first_faults → origin new.source ≡ origin old.source
-      → verdict ≡ verdict_of (keys_of entries) event → new_entries ≡ held_after entries event → ((q : List ℕ) → units_in q event < 2 ^ 32)
-      → SoFar left origin init new (given_verdicts ++ verdict ∷ []) new_entries
-  so_far_more init old new given_verdicts entries new_entries verdict so event got step on bound first same_origin is_verdict is_held small = record {
+      → verdict ≡ verdict_of later.rules (counters later.rules later.events) event → latest ≡ record later { events = later.events ++ event ∷ [] }
+      → SoFar left origin init new earlier latest (given ++ verdict ∷ [])
+  so_far_more init old new earlier later latest given verdict so event got step on bound first same_origin is_verdict is_applied = record {
     got = so.got ++ got;
     events = so.events ++ (event ∷ []);
     moves = moves_trans left init old new so.got got so.events (event ∷ []) so.moves step;
+    applied = is_applied ∙ ap {A = History} {B = History} (λ h. record h { events = h.events ++ event ∷ [] }) so.applied
+        ∙ ap {B = History} (λ es. record earlier { events = es }) (append_assoc earlier.events so.events (event ∷ []));
     verdicts_are =
-        let names : keys_of entries ≡ counters so.events = ap keys_of so.counters_are ∙ keys_of_pairs (λ q. units q so.events) (counters so.events) in
-        (λ i. so.verdicts_are i ++ (is_verdict ∙ ap (λ ns. verdict_of ns event) names) i ∷ []) ∙ sym (verdicts_push [] so.events event);
-    counters_are = is_held ∙ ap (λ es. held_after es event) so.counters_are ∙ tally_push so.events event;
-    small = λ q. omega (arith, so.small q, small q, sum_by_push (units_in q) so.events event);
-    few = omega (arith, so.few, one_more_name (counters so.events) event, ap length (fold_push names_after [] so.events event));
+        (λ i. so.verdicts_are i ++ (is_verdict ∙ ap (λ h. verdict_of h.rules (counters h.rules h.events) event) so.applied) i ∷ [])
+        ∙ sym (verdicts_push earlier.rules earlier.events so.events event);
+    few = omega (arith, so.few, on, length-append so.events (event ∷ []));
     bound = bound;
     first = first ∙ so.first;
     same_origin = same_origin ∙ so.same_origin;
   }
 
-  -- no counter is full, and there are fewer than 2^32
-  pub room_so_far : (init now : Reading S) (given_verdicts : List Verdict) (entries : List (List ℕ × ℕ)) → SoFar left origin init now given_verdicts entries
-      → All (λ entry. entry.1 + 2 ^ 32 ≤ 2 ^ 64) entries
-  room_so_far init now given_verdicts entries so = subst (λ (es : List (List ℕ × ℕ)). All (λ entry. entry.1 + 2 ^ 32 ≤ 2 ^ 64) es) (sym so.counters_are)
-      (all_room (counters so.events) (λ q. units q so.events) (λ q. omega (arith, so.small q, so.bound)))
-    where
-      all_room : (names : List (List ℕ)) (f : List ℕ → ℕ) → ((q : List ℕ) → f q + 2 ^ 32 ≤ 2 ^ 64) → All (λ entry. entry.1 + 2 ^ 32 ≤ 2 ^ 64) (map {B = List ℕ × ℕ} (λ q. (q, f q)) names)
-      all_room names f room k d within =
-          subst (λ (entry : List ℕ × ℕ). entry.1 + 2 ^ 32 ≤ 2 ^ 64) (sym (get_or-map (λ q. (q, f q)) names k d.0 d (omega (arith, length-map {B = List ℕ × ℕ} names (λ (q : List ℕ). (q, f q))))))
-          (room (get_or names k d.0))
-
-  pub few_so_far : (init now : Reading S) (given_verdicts : List Verdict) (entries : List (List ℕ × ℕ)) → SoFar left origin init now given_verdicts entries → length entries < 2 ^ 32
-  few_so_far init now given_verdicts entries so = omega (arith, so.few, so.bound, ap length so.counters_are, length-map {B = List ℕ × ℕ} (counters so.events) (λ (q : List ℕ). (q, units q so.events)))
+  -- the events behind the earlier ones are few
+  pub room_so_far : (init now : Reading S) (earlier later : History) (given : List Verdict) → SoFar left origin init now earlier later given
+      → length earlier.events + 8388608 < 2 ^ 31 → length later.events < 2 ^ 31
+  room_so_far init now earlier later given so room = omega (arith, so.few, so.bound, room, length-append earlier.events so.events, ap (λ h. length h.events) so.applied)

@@ -1,8 +1,9 @@
-pub mod Entries
 pub mod Words
-pub mod Tallies
 pub mod Following
 pub mod Ending
+pub mod Files
 pub mod Rows
+pub mod Lines
 pub mod Readying
 pub mod Finishing
+pub mod Refusing

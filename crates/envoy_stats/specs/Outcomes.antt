@@ -1,5 +1,5 @@
 -- How a call ends, and what it leaves. This project's own.
-use Rattle.std.specs.Prelude.{◌≡◌, ◌≢◌, ◌⊎◌, ℕ, Option, Some, None, Result, Ok, Err, List, [], ◌∷◌, map}
+use Rattle.std.specs.Prelude.{◌≡◌, ◌≢◌, ◌⊎◌, ◌==◌, if◌then◌else◌, ℕ, Option, Some, None, Result, Ok, Err, List, [], ◌∷◌, map}
 use Rattle.std.specs.Io.KnownBytes.{Appends, Keeps}
 use Rattle.stat_defs.specs.Faults.{Rose}
 use Rattle.stat_defs.specs.declared.reports.FileEnd.{FileEnd}
@@ -9,7 +9,7 @@ use Rattle.stats_io.specs.Pushes.{AppendsFront}
 use Rattle.tag_rules.specs.Making.{Memory}
 use Rattle.boot_load.specs.declared.loading.Boot.{Boot}
 use Rattle.boot_load.specs.declared.fault.LoadFault.{LoadFault}
-use Rattle.boot_load.specs.declared.fault.LoadFault.TheVariants as boot
+use Rattle.boot_load.specs.declared.fault.LoadFault.TheVariants as unloaded
 use Rattle.boot_load.specs.Loading.{ShelfMemory, Loads}
 use Rattle.boot_load.specs.Telling.{boot_line}
 use Rattle.envoy_stats.specs.Files.{FileRead, AreFiles}
@@ -39,16 +39,15 @@ status_of NotOpened = 4
 -- the status of the first file that was not read whole
 abbrev pub status_of_all : List FileEnd → ℕ
 status_of_all [] = 0
-status_of_all (Whole ∷ ends) = status_of_all ends
-status_of_all (end ∷ ends) = status_of end
+status_of_all (end ∷ ends) = if status_of end == 0 then status_of_all ends else status_of end
 
 -- the status of a bootstrap that was not loaded: 2 for one that breaks the rules, 4 for one that could not be read
 abbrev pub status_of_boot : LoadFault → ℕ
-status_of_boot boot.TooBig = 2
-status_of_boot (boot.Faulty fault) = 2
-status_of_boot (boot.BadPattern path) = 2
-status_of_boot boot.ReadFailed = 4
-status_of_boot boot.NoMemory = 6
+status_of_boot unloaded.TooBig = 2
+status_of_boot (unloaded.Faulty fault) = 2
+status_of_boot (unloaded.BadPattern path) = 2
+status_of_boot unloaded.ReadFailed = 4
+status_of_boot unloaded.NoMemory = 6
 
 -- All of the output was written, no push failed, and the status is that of the files' ends. Or the status is 5: a push failed,
 -- and what was written is a front of the output.
@@ -80,7 +79,7 @@ module _ {S : Type 0} (left : S → Option (List ℕ)) (origin : S → List ℕ)
   pub record IsBootFault (status : ℕ) : Type 0 where
     pub fault : LoadFault
     pub cause : Loads origin faults (holds boot) boot shelf_before shelf_after maker_before maker_after (Err fault)
-    pub no_want : fault ≢ boot.NoMemory
+    pub no_want : fault ≢ unloaded.NoMemory
     pub status_is : status ≡ status_of_boot fault
     pub unwritten : out_after ≡ out_before
     pub said : Says err_before err_after (boot_line fault)

@@ -1,6 +1,5 @@
 -- The output of a replay. The form of its lines beginning with `#` is this project's own.
-use Rattle.std.specs.Prelude.{◌≡◌, ℕ, ◌+◌, Bool, true, false, not, List, [], ◌++◌, map, count_by, codes, IsSorted, IsPermutation}
-use Rattle.std.specs.List.{enumerate_from, flat_map}
+use Rattle.std.specs.Prelude.{◌≡◌, ℕ, ◌+◌, Bool, true, false, not, List, [], ◌∷◌, ◌++◌, map, count_by, codes, IsSorted, IsPermutation}
 use Rattle.std.specs.Fmt.{decimal}
 use Rattle.std.specs.Cmp.Lexicographic.{slice_cmp}
 use Rattle.std.specs.Ordering.{nat_cmp}
@@ -38,18 +37,22 @@ took_effect OverLimit = false
 took_effect NoRoom = false
 
 -- `# worker W: A accepted, D dropped`
-abbrev pub worker_line : ℕ → List Verdict → List ℕ
-worker_line number verdicts =
-    codes "# worker " ++ (decimal number ++ (codes ": " ++ (decimal (count_by took_effect verdicts) ++ (codes " accepted, "
-    ++ (decimal (count_by (λ v. not (took_effect v)) verdicts) ++ codes " dropped\n")))))
+abbrev pub counts_line : ℕ → ℕ → ℕ → List ℕ
+counts_line number accepted dropped =
+    codes "# worker " ++ (decimal number ++ (codes ": " ++ (decimal accepted ++ (codes " accepted, " ++ (decimal dropped ++ codes " dropped\n")))))
 
--- a line for each file, numbered from 1
-abbrev pub worker_lines : List (List Verdict) → List ℕ
-worker_lines lists = flat_map (λ place. worker_line (place.0 + 1) place.1) (enumerate_from 0 lists)
+-- the line on the events with these verdicts, which were accepted or dropped
+abbrev pub worker_line : ℕ → List Verdict → List ℕ
+worker_line number verdicts = counts_line number (count_by took_effect verdicts) (count_by (λ v. not (took_effect v)) verdicts)
+
+-- a line for each file in order, the first of them having that number
+abbrev pub worker_lines : ℕ → List (List Verdict) → List ℕ
+worker_lines number [] = []
+worker_lines number (verdicts ∷ lists) = worker_line number verdicts ++ worker_lines (number + 1) lists
 
 -- `# last`, the StatsD text of the flush with that prefix, and the workers' lines
 abbrev pub text_of : List ℕ → FlushView → List (List Verdict) → List ℕ
-text_of prefix view lists = codes "# last\n" ++ (statsd_text prefix view ++ worker_lines lists)
+text_of prefix view lists = codes "# last\n" ++ (statsd_text prefix view ++ worker_lines 1 lists)
 
 -- the output of files of these events under the configuration
 pub record IsOutput (config : Config) (files : List FileRead) (bytes : List ℕ) : Type 0 where

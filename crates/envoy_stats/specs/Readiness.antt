@@ -23,8 +23,8 @@ pub record IsReady {S : Type 0} (left : S → Option (List ℕ)) (origin : S →
   pub report_is : ready.report ≡ report_of (rules_of config) files
   pub shows : Shows (tally (rules_of config) (all_events files)) ready.view
   pub prefix_is : ready.prefix ≡ config.statsd_prefix
-  pub lines_are : ready.lines.items ≡ worker_lines (verdicts_behind (rules_of config) [] files)
-  pub faults_are : ready.faults.items ≡ fault_lines (map (λ file. file.end.end) files)
+  pub lines_are : ready.lines.items ≡ worker_lines 1 (verdicts_behind (rules_of config) [] files)
+  pub faults_are : ready.faults.items ≡ fault_lines 1 (map (λ file. file.end.end) files)
   pub status_is : ready.status ≡ status_of_all (map (λ file. file.end.end) files)
 
 abbrev pub ready_text : Ready → List ℕ

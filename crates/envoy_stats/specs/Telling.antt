@@ -1,6 +1,5 @@
 -- What is said on `err`. This project's own.
-use Rattle.std.specs.Prelude.{ℕ, ◌+◌, ◌==◌, if◌then◌else◌, List, [], ◌++◌, codes}
-use Rattle.std.specs.List.{enumerate_from, flat_map}
+use Rattle.std.specs.Prelude.{ℕ, ◌+◌, ◌==◌, if◌then◌else◌, List, [], ◌∷◌, ◌++◌, codes}
 use Rattle.std.specs.Fmt.{decimal}
 use Rattle.stat_defs.specs.declared.reports.FileEnd.{FileEnd}
 use Rattle.stat_defs.specs.declared.reports.FileEnd.TheVariants.{Whole, BadLine, LineTooLong, TooBig, TooMany, ReadFault, NotOpened}
@@ -21,10 +20,11 @@ fault_line number TooMany = codes "file " ++ (decimal number ++ codes ": too man
 fault_line number ReadFault = codes "file " ++ (decimal number ++ codes ": read failed\n")
 fault_line number NotOpened = codes "file " ++ (decimal number ++ codes ": not opened\n")
 
--- the lines on the files, numbered from 1, in order
-abbrev pub fault_lines : List FileEnd → List ℕ
-fault_lines ends = flat_map (λ place. fault_line (place.0 + 1) place.1) (enumerate_from 0 ends)
+-- the lines on the files in order, the first of them having that number
+abbrev pub fault_lines : ℕ → List FileEnd → List ℕ
+fault_lines number [] = []
+fault_lines number (end ∷ ends) = fault_line number end ++ fault_lines (number + 1) ends
 
 -- what is said of files that ended so, and then of the output
 abbrev pub said_of : List FileEnd → ℕ → List ℕ
-said_of ends status = fault_lines ends ++ (if status == 5 then codes "write failed\n" else [])
+said_of ends status = fault_lines 1 ends ++ (if status == 5 then codes "write failed\n" else [])

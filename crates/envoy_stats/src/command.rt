@@ -1,6 +1,7 @@
 //! The words of a command.
-ghost use Rattle.std.specs.Prelude.{◌≡◌, map, string_bytes, MatchOption, All};
-ghost use Rattle.envoy_stats.specs.Command.{IsFileWord, IsBootWord, IsReplay, IsCommand};
+ghost use Rattle.std.specs.Prelude.{◌≡◌, map, string_bytes, MatchOption};
+ghost use Rattle.std.specs.List.{list_all};
+ghost use Rattle.envoy_stats.specs.Command.{is_file_word, is_boot_word, IsReplay, IsCommand};
 
 /// So many files at most are replayed in one call.
 pub const MAX_FILES: usize = 32;
@@ -14,8 +15,7 @@ pub struct Replay<'a> {
 
 // Whether the word is a file name.
 fn is_file_word(word: &str) -> bool
-    ensures yes { result ≡ true → IsFileWord word.now }
-    ensures no { result ≡ false → ¬ IsFileWord word.now }
+    ensures { result ≡ is_file_word word.now }
 {
     match word.as_bytes() {
         [] => false,
@@ -25,26 +25,16 @@ fn is_file_word(word: &str) -> bool
 
 // Whether the word stands for a bootstrap.
 fn is_boot_word(word: &str) -> bool
-    ensures yes { result ≡ true → IsBootWord word.now }
-    ensures no { result ≡ false → ¬ IsBootWord word.now }
+    ensures { result ≡ is_boot_word word.now }
 {
-    if word == "-" {
-        return true;
-    }
-    is_file_word(word)
+    word == "-" || is_file_word(word)
 }
 
 // Whether all words are file names.
 fn are_file_words(words: &[String]) -> bool
-    ensures yes { result ≡ true → All IsFileWord (map string_bytes words.now) }
-    ensures no { result ≡ false → ¬ All IsFileWord (map string_bytes words.now) }
+    ensures { result ≡ list_all (λ word. is_file_word (string_bytes word)) words.now }
 {
-    for word in words {
-        if !is_file_word(word.as_str()) {
-            return false;
-        }
-    }
-    true
+    words.iter().all(|word| is_file_word(word.as_str()))
 }
 
 /// What `replay BOOT FILE..` names, where the words are that command.

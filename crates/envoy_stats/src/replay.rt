@@ -1,8 +1,8 @@
 //! `replay BOOT FILE..`.
-ghost use Rattle.std.specs.Prelude.{◌≡◌, ◌≢◌, ◌≤◌, ◌↔◌, ℕ, List, None, IfOk, length, map, string_bytes, codes};
+ghost use Rattle.std.specs.Prelude.{◌≡◌, ◌≢◌, ◌≤◌, ◌<◌, ◌⊎◌, ◌↔◌, ℕ, List, None, IfOk, length, map, string_bytes, codes};
 ghost use Rattle.stat_defs.specs.Faults.{Rose};
 ghost use Rattle.stat_defs.specs.Configs.{IsConfig};
-ghost use Rattle.boot_load.specs.declared.fault.LoadFault.TheVariants as fault;
+ghost use Rattle.boot_load.specs.declared.fault.LoadFault.TheVariants as unloaded;
 ghost use Rattle.boot_load.specs.Telling.{boot_line};
 ghost use Rattle.envoy_stats.specs.Command.{IsReplay, IsCommand};
 ghost use Rattle.envoy_stats.specs.declared.command.TheConstants as limits;
@@ -10,9 +10,9 @@ ghost use Rattle.envoy_stats.specs.Outcomes.{Says, status_of, status_of_all, sta
 ghost use Rattle.envoy_stats.specs.Telling.{usage, out_of_memory};
 ghost use Rattle.envoy_stats.specs.Readiness.{IsReady, Finishes, said_with};
 
-use crate::command::{Replay, replay_of};
+use crate::command::replay_of;
 use crate::reading::read_files;
-use crate::reporting::{ends_of, report_of, view_of};
+use crate::reporting::{ends_of, part, report_of, view_of};
 use crate::telling::{OUT_OF_MEMORY, USAGE, fault_lines, say};
 use crate::writing::{worker_lines, write_output};
 use boot_load::{Boot, LoadFault, boot_line, load};
@@ -96,10 +96,11 @@ fn prepare<F: Shelf>(
     } = boot;
     let mut counters = Counters::new(alloc, config.scopes.items(), matcher)?;
     let runs = read_files(alloc, shelf, names, &mut counters)?;
-    let ends = ends_of(alloc, &runs)?;
+    let parted = part(alloc, runs)?;
+    let ends = ends_of(alloc, &parted.ends)?;
     let faults = fault_lines(alloc, &ends)?;
-    let lines = worker_lines(alloc, &runs)?;
-    let report = report_of(alloc, runs, counters.totals())?;
+    let lines = worker_lines(alloc, &parted.verdicts)?;
+    let report = report_of(alloc, parted, counters.totals())?;
     let view = view_of(alloc, counters.into_totals())?;
     Ok(Ready {
         report,
@@ -125,7 +126,7 @@ fn give_up<E: Sink>(err: &mut E) -> Outcome
 
 // Says why the bootstrap was not loaded.
 fn refuse_boot<E: Sink>(alloc: Global, fault: &LoadFault, err: &mut E) -> Outcome
-    requires { fault.now ≢ fault.NoMemory }
+    requires { fault.now ≢ unloaded.NoMemory }
     ensures outcome { (result ≡ record { status = status_of_boot fault.now; report = None }) ⊎ (result ≡ record { status = 6; report = None }) }
     ensures said { result.status ≢ 6 → Says (record { written = E.written err.old; faults = E.faults err.old }) (record { written = E.written err.new; faults = E.faults err.new }) (boot_line fault.now) }
     ensures gave_up { result.status ≡ 6 → Says (record { written = E.written err.old; faults = E.faults err.old }) (record { written = E.written err.new; faults = E.faults err.new }) out_of_memory }
@@ -182,25 +183,26 @@ fn finish<O: Sink, E: Sink>(alloc: Global, ready: Ready, out: &mut O, err: &mut 
 // `replay BOOT FILE..` of that bootstrap and those files.
 fn replay<K: PatternMaker, F: Shelf, O: Sink, E: Sink>(
     alloc: Global,
-    command: Replay<'_>,
+    boot: &str,
+    files: &[String],
     maker: &mut K,
     shelf: &mut F,
     out: &mut O,
     err: &mut E,
 ) -> Outcome
-    requires few { length command.files.now ≤ limits.MAX_FILES }
-    ensures replayed { Replays F.S.left F.S.origin F.S.faults (F.holds shelf.old) command.boot.now (map string_bytes command.files.now)
+    requires few { length files.now ≤ limits.MAX_FILES }
+    ensures replayed { Replays F.S.left F.S.origin F.S.faults (F.holds shelf.old) boot.now (map string_bytes files.now)
         (record { faults = F.faults shelf.old; failed = F.failed shelf.old }) (record { faults = F.faults shelf.new; failed = F.failed shelf.new })
         (K.memory maker.old) (K.memory maker.new)
         (record { written = O.written out.old; faults = O.faults out.old }) (record { written = O.written out.new; faults = O.faults out.new })
         (record { written = E.written err.old; faults = E.faults err.old }) (record { written = E.written err.new; faults = E.faults err.new })
         result.status result.report }
     ensures unwritten { result.report ≡ None → result.status ≢ 6 → out.new ≡ out.old }
-    ensures usual { command.boot.now ≡ codes "-" → result.status ≡ 2 → shelf.new ≡ shelf.old }
+    ensures usual { boot.now ≡ codes "-" → result.status ≡ 2 → shelf.new ≡ shelf.old }
     ensures status { result.status ≢ 1 }
 {
-    match load(alloc, command.boot, maker, shelf) {
-        Ok(boot) => match prepare(alloc, boot, command.files, shelf) {
+    match load(alloc, boot, maker, shelf) {
+        Ok(boot) => match prepare(alloc, boot, files, shelf) {
             Ok(ready) => finish(alloc, ready, out, err),
             Err(NoMemory) => give_up(err),
         },
@@ -251,5 +253,5 @@ pub fn quiet_stats<K: PatternMaker, F: Shelf, O: Sink, E: Sink>(
             report: None,
         };
     };
-    replay(alloc, command, maker, shelf, out, err)
+    replay(alloc, command.boot, command.files, maker, shelf, out, err)
 }

@@ -13,14 +13,14 @@ use stat_defs::{
 use std::alloc::Global;
 
 /// How the files ended.
-pub fn ends_of(alloc: Global, runs: &[FileRun]) -> Result<Vec<FileEnd>, NoMemory>
-    ensures { IfOk result (λ ends. ends.items ≡ map (λ run. run.end.end) runs.now) }
+pub fn ends_of(alloc: Global, ends: &[WorkerEnd]) -> Result<Vec<FileEnd>, NoMemory>
+    ensures { IfOk result (λ made. made.items ≡ map (λ end. end.end) ends.now) }
 {
-    let mut ends = Vec::new(alloc);
-    for run in runs {
-        ends.push(run.end.end)?;
+    let mut made = Vec::new(alloc);
+    for end in ends {
+        made.push(end.end)?;
     }
-    Ok(ends)
+    Ok(made)
 }
 
 // Each counter's units under its number.
@@ -49,14 +49,15 @@ fn flush_of(alloc: Global, totals: &Totals) -> Result<FlushRecord, NoMemory>
     })
 }
 
-// The verdicts of each file, and the ends.
+/// The verdicts of each file, and how each ended.
 #[derive(Drop)]
-struct Parted {
-    verdicts: Vec<List<Verdict>>,
-    ends: Vec<WorkerEnd>,
+pub struct Parted {
+    pub verdicts: Vec<List<Verdict>>,
+    pub ends: Vec<WorkerEnd>,
 }
 
-fn part(alloc: Global, runs: Vec<FileRun>) -> Result<Parted, NoMemory>
+/// Parts what came of files.
+pub fn part(alloc: Global, runs: Vec<FileRun>) -> Result<Parted, NoMemory>
     ensures verdicts { IfOk result (λ p. p.verdicts.items ≡ map (λ run. run.verdicts.items) runs.items) }
     ensures ends { IfOk result (λ p. p.ends.items ≡ map (λ run. run.end) runs.items) }
 {
@@ -76,21 +77,20 @@ fn part(alloc: Global, runs: Vec<FileRun>) -> Result<Parted, NoMemory>
 /// The report of files, with one flush and no log.
 pub fn report_of(
     alloc: Global,
-    runs: Vec<FileRun>,
+    parted: Parted,
     totals: &Totals,
 ) -> Result<Report, NoMemory>
     requires few { index_map_len totals.now < 2 ^ 32 }
     ensures { IfOk result (λ report. report ≡ record {
-      verdicts = map (λ run. run.verdicts.items) runs.items;
+      verdicts = parted.verdicts.items;
       flushes = (record { at = 0; deltas = deltas totals.now.entries; gauges = []; parts = [] }) ∷ [];
       log = [];
       reads = [];
-      ends = map (λ run. run.end) runs.items;
+      ends = parted.ends.items;
     }) }
 {
     let mut flushes = Vec::new(alloc);
     flushes.push(flush_of(alloc, totals)?)?;
-    let parted = part(alloc, runs)?;
     Ok(Report {
         verdicts: List::of(parted.verdicts),
         flushes: List::of(flushes),

@@ -43,12 +43,14 @@ fn fault_line(alloc: Global, number: usize, end: FileEnd) -> Result<String, NoMe
 /// The lines on files that ended so, numbered from 1; none on a file that was read whole.
 pub fn fault_lines(alloc: Global, ends: &[FileEnd]) -> Result<Vec<u8>, NoMemory>
     requires { length ends.now < 2 ^ 32 }
-    ensures { IfOk result (λ text. text.items ≡ fault_lines ends.now) }
+    ensures { IfOk result (λ text. text.items ≡ fault_lines 1 ends.now) }
 {
     let mut text = Vec::new(alloc);
-    for (i, end) in ends.iter().enumerate() {
-        let line = fault_line(alloc, i + 1, *end)?;
+    let mut number = 1;
+    for end in ends {
+        let line = fault_line(alloc, number, *end)?;
         text.extend_from_slice(line.as_bytes())?;
+        number += 1;
     }
     Ok(text)
 }

@@ -1,13 +1,12 @@
 //! What is written of files.
-ghost use Rattle.std.specs.Prelude.{◌≡◌, ◌+◌, ◌<◌, ◌^◌, ◌++◌, OnOk, OnErr, IfOk, Err, length, map, count_by, string_bytes, codes};
+ghost use Rattle.std.specs.Prelude.{◌≡◌, ◌+◌, ◌<◌, ◌^◌, ◌++◌, OnOk, OnErr, IfOk, Err, not, length, count_by, string_bytes, codes};
 ghost use Rattle.std.specs.Io.KnownBytes.{Appends};
 ghost use Rattle.stat_defs.specs.Faults.{Rose};
 ghost use Rattle.stats_io.specs.Pushes.{AppendsFront};
 ghost use Rattle.statsd_text.specs.Statsd.{statsd_text};
-ghost use Rattle.envoy_stats.specs.Output.{took_effect, worker_line, worker_lines};
+ghost use Rattle.envoy_stats.specs.Output.{took_effect, counts_line, worker_line, worker_lines};
 
-use crate::reading::FileRun;
-use stat_defs::{FlushView, NoMemory, Txt, Verdict};
+use stat_defs::{FlushView, List, NoMemory, Txt, Verdict};
 use stats_io::{Sink, WriteFault, push_all};
 use statsd_text::{TextFault, write_statsd};
 use std::alloc::Global;
@@ -21,24 +20,48 @@ fn took_effect(verdict: &Verdict) -> bool
     )
 }
 
+fn accepted(verdicts: &[Verdict]) -> usize
+    ensures { result ≡ count_by took_effect verdicts.now }
+{
+    verdicts.iter().filter(|v| took_effect(v)).count()
+}
+
+fn dropped(verdicts: &[Verdict]) -> usize
+    ensures { result ≡ count_by (λ v. not (took_effect v)) verdicts.now }
+{
+    verdicts.iter().filter(|v| !took_effect(v)).count()
+}
+
+// The line with these numbers.
+fn line_of(
+    alloc: Global,
+    number: usize,
+    accepted: usize,
+    dropped: usize,
+) -> Result<String, NoMemory>
+    ensures { IfOk result (λ text. string_bytes text ≡ counts_line number accepted dropped) }
+{
+    Ok(format!(in alloc; "# worker {number}: {accepted} accepted, {dropped} dropped\n")?)
+}
+
 // The line of the worker of that number.
 fn worker_line(alloc: Global, number: usize, verdicts: &[Verdict]) -> Result<String, NoMemory>
     ensures { IfOk result (λ text. string_bytes text ≡ worker_line number verdicts.now) }
 {
-    let accepted = verdicts.iter().filter(|v| took_effect(v)).count();
-    let dropped = verdicts.iter().filter(|v| !took_effect(v)).count();
-    Ok(format!(in alloc; "# worker {number}: {accepted} accepted, {dropped} dropped\n")?)
+    line_of(alloc, number, accepted(verdicts), dropped(verdicts))
 }
 
-/// A line for each file, numbered from 1.
-pub fn worker_lines(alloc: Global, runs: &[FileRun]) -> Result<Vec<u8>, NoMemory>
-    requires { length runs.now < 2 ^ 32 }
-    ensures { IfOk result (λ text. text.items ≡ worker_lines (map (λ run. run.verdicts.items) runs.now)) }
+/// A line for each file, numbered from 1, of which these are the verdicts.
+pub fn worker_lines(alloc: Global, lists: &[List<Verdict>]) -> Result<Vec<u8>, NoMemory>
+    requires { length lists.now < 2 ^ 32 }
+    ensures { IfOk result (λ text. text.items ≡ worker_lines 1 lists.now) }
 {
     let mut text = Vec::new(alloc);
-    for (i, run) in runs.iter().enumerate() {
-        let line = worker_line(alloc, i + 1, &run.verdicts)?;
+    let mut number = 1;
+    for verdicts in lists {
+        let line = worker_line(alloc, number, verdicts.items())?;
         text.extend_from_slice(line.as_bytes())?;
+        number += 1;
     }
     Ok(text)
 }
