@@ -35,7 +35,12 @@ fn tell(alloc: Global, told: &mut Vec<u8>, step: &Step) -> Result<(), NoMemory> 
             told.extend_from_slice(b"bad ")?;
             told.extend_from_slice(number.to_string(alloc)?.as_bytes())?;
         }
+        Step::LineTooLong(number) => {
+            told.extend_from_slice(b"long ")?;
+            told.extend_from_slice(number.to_string(alloc)?.as_bytes())?;
+        }
         Step::TooBig => told.extend_from_slice(b"too big")?,
+        Step::TooMany => told.extend_from_slice(b"too many")?,
         Step::ReadFault => told.extend_from_slice(b"read fault")?,
     }
     Ok(())
