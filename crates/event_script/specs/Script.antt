@@ -34,18 +34,22 @@ end_by Whole = file.Whole
 end_by TooBig = file.TooBig
 end_by ReadFault = file.ReadFault
 
--- What the lines say, the first of them having that number, and so many events standing before it. A line is too long; or it
--- is passed over, or an event, which may be one too many, or of no meaning. The first that is a fault ends the file. Where none
--- is, the file ends as the bytes stopped.
+-- The event comes, and then what comes behind it; or it is one too many, since so many stand before it, and ends the file.
+abbrev pub Gives : Event → ℕ → (List Event → Type 0) → List Event → FileEnd → Type 0
+Gives e given Behind events end =
+    ((rest : List Event) × (given < MAX_EVENTS) × (events ≡ e ∷ rest) × Behind rest)
+    ⊎ ((MAX_EVENTS ≤ given) × (events ≡ []) × (end ≡ file.TooMany))
+
+-- What the lines say, the first of them having that number, and so many events standing before it. A line is too long, and ends
+-- the file; or it is no longer than a line may be, and passed over, or an event, or of no meaning, and ends the file. Where no
+-- line ends the file, it ends as the bytes stopped.
 abbrev pub Reads : ℕ → ℕ → List (List ℕ) → Stop → List Event → FileEnd → Type 0
 Reads number given [] stop events end = (events ≡ []) × (end ≡ end_by stop)
 Reads number given (line ∷ lines) stop events end =
     ((MAX_LINE_BYTES < length line) × (events ≡ []) × (end ≡ file.LineTooLong number))
     ⊎ ((length line ≤ MAX_LINE_BYTES) × (
     (IsPassedOver line × Reads (number + 1) given lines stop events end)
-    ⊎ (((e : Event) × IsLineOf line e × (
-    ((rest : List Event) × (given < MAX_EVENTS) × (events ≡ e ∷ rest) × Reads (number + 1) (given + 1) lines stop rest end)
-    ⊎ ((MAX_EVENTS ≤ given) × (events ≡ []) × (end ≡ file.TooMany))))
+    ⊎ (((e : Event) × IsLineOf line e × Gives e given (λ rest. Reads (number + 1) (given + 1) lines stop rest end) events end)
     ⊎ (IsNoLine line × (events ≡ []) × (end ≡ file.BadLine number)))))
 
 -- The same of the bytes of a file behind its first `offset` ones. Past the limit of a file only the bytes within it count, and
