@@ -1,4 +1,4 @@
-use Rattle.std.proofs.Common.{◌≡◌, ◌∙◌, Result, Ok, Err, IsOk, OnOk, sym, true≢false}
+use Rattle.std.proofs.Common.{◌∙◌, Result, Ok, Err, IsOk, OnOk, sym, true≢false}
 use Rattle.indexmap.proofs.CallerLemmas.{insert_entry-new}
 use Rattle.counter_store.proofs.seen.hold.Goals as goal
 

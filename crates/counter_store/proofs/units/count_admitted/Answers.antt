@@ -1,16 +1,13 @@
-use Rattle.std.proofs.Common.{◌≡◌, ◌<◌, ◌||◌, ◌++◌, ◌∷◌, [], ℕ, List, Bool, cond, ltb, length, is_some, not, ap, sym, ◌∙◌, arith}
+use Rattle.std.proofs.Common.{◌≡◌, ◌++◌, ◌∷◌, [], cond, length, is_some, ap, sym, ◌∙◌, arith}
 use Rattle.std.proofs.lemmas.Bool.{eq-eqb, lt-ltb, le-ltb}
 use Rattle.std.proofs.lemmas.List.{length-map}
 use Rattle.std.specs.Str.{bytes_eq}
-use Rattle.std.specs.List.{list_any}
 use Rattle.std.specs.Map.{keys_of}
 use Rattle.indexmap.specs.IndexMap.{insert_entry}
 use Rattle.indexmap.proofs.CallerLemmas.{insert_entry-new}
-use Rattle.stat_defs.specs.declared.history.Verdict.TheVariants.{Accepted, NoRoom}
+use Rattle.stat_defs.specs.declared.history.Verdict.TheVariants.{Accepted}
 use Rattle.counter_store.specs.declared.units.TheConstants.{MAX_COUNTERS}
-use Rattle.counter_store.specs.Counting.{place_of, admitted}
 use Rattle.counter_store.specs.Held.{raised}
-use Rattle.counter_store.proofs.Places.{new_at}
 use Rattle.counter_store.proofs.Raising.{found_place, not_found, none_found}
 use Rattle.counter_store.proofs.Settling.{admitted_known, admitted_new, admitted_full}
 use Rattle.counter_store.proofs.units.count_admitted.Goals as goal

@@ -1,4 +1,4 @@
-use Rattle.std.proofs.Common.{◌≡◌, ◌+◌, ◌^◌, ap, ◌∙◌, arith}
+use Rattle.std.proofs.Common.{◌+◌, ◌^◌, ap, ◌∙◌, arith}
 use Rattle.indexmap.specs.IndexMap.{set_value_at}
 use Rattle.counter_store.proofs.Raising.{raised_at, room_at}
 use Rattle.counter_store.proofs.units.raise.Goals as goal
