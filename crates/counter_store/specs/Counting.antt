@@ -1,17 +1,17 @@
 -- What increments come to, and what the counters then are (Envoy's design note on statistics, and its configuration reference
 -- on the statistics matcher; the numbers of counters and their limit are this project's own).
-use Rattle.std.specs.Prelude.{◌≡◌, ℕ, ◌+◌, ◌==◌, ◌||◌, nat_lt, not, if◌then◌else◌, Option, None, Some, option_map, List, [], ◌∷◌, ◌++◌, length, map, fold, sum_by}
+use Rattle.std.specs.Prelude.{ℕ, ◌==◌, ◌||◌, nat_lt, not, if◌then◌else◌, Option, None, Some, option_map, List, [], ◌∷◌, ◌++◌, length, map, find, fold, sum_by}
 use Rattle.std.specs.Str.{bytes_eq}
 use Rattle.std.specs.List.{list_any, position_or_len, enumerate_from}
 use Rattle.stat_defs.specs.Names.{IsLocalName, full}
 use Rattle.stat_defs.specs.declared.configs.ScopeSpec.{ScopeSpec}
 use Rattle.stat_defs.specs.declared.configs.MatchSpec.{MatchSpec}
 use Rattle.stat_defs.specs.declared.events.Event.{Event}
-use Rattle.stat_defs.specs.declared.events.Event.TheVariants.{Inc, Gauge, Rec, SetText, OpenScope, Release}
+use Rattle.stat_defs.specs.declared.events.Event.TheVariants.{Inc}
 use Rattle.stat_defs.specs.declared.history.Verdict.{Verdict}
 use Rattle.stat_defs.specs.declared.history.Verdict.TheVariants.{Accepted, NoScope, Rejected, NoRoom}
 use Rattle.tag_rules.specs.Admission.{admits}
-use Rattle.counter_store.specs.declared.store.TheConstants.{MAX_COUNTERS}
+use Rattle.counter_store.specs.declared.units.TheConstants.{MAX_COUNTERS}
 
 -- the scopes that are live, and which full names are admitted
 pub record Rules : Type 0 where
@@ -20,23 +20,29 @@ pub record Rules : Type 0 where
 
 -- the prefix of the scope of that label
 abbrev pub prefix_of : List ScopeSpec → List ℕ → Option (List ℕ)
-prefix_of [] label = None
-prefix_of (scope ∷ scopes) label = if bytes_eq scope.label label then Some scope.prefix else prefix_of scopes label
+prefix_of scopes label = option_map (λ scope. scope.prefix) (find (λ scope. bytes_eq scope.label label) scopes)
 
--- the full name that an event means, where a scope of its label is live; so far increments alone have lines
+-- the full name of a name in the scope of that label, where one is live
+abbrev pub full_in : List ScopeSpec → List ℕ → List ℕ → Option (List ℕ)
+full_in scopes label name = option_map (λ prefix. full prefix name) (prefix_of scopes label)
+
+-- the full name that an event means; so far increments alone have lines
 abbrev pub meant : Rules → Event → Option (List ℕ)
-meant rules (Inc label name n) = option_map (λ prefix. full prefix name) (prefix_of rules.scopes label)
+meant rules (Inc label name n) = full_in rules.scopes label name
 meant rules other = None
 
 -- a counter's number is its place in the order of first acceptance; a new one gets the next place
 abbrev pub place_of : List ℕ → List (List ℕ) → ℕ
 place_of name names = position_or_len (bytes_eq name) names
 
--- with these counters in use: a name that is not admitted is rejected, and a new one needs room
-abbrev pub judge : Rules → List (List ℕ) → List ℕ → Verdict
-judge rules names name =
-    if not (admits rules.matcher name) then Rejected else
+-- with these counters in use, an admitted name is accepted where it is one of them or there is room for a new one
+abbrev pub admitted : List (List ℕ) → List ℕ → Verdict
+admitted names name =
     if list_any (bytes_eq name) names || nat_lt (length names) MAX_COUNTERS then Accepted (record { 0 = place_of name names }) else NoRoom
+
+-- a name that is not admitted is rejected, also where there is no room
+abbrev pub judge : Rules → List (List ℕ) → List ℕ → Verdict
+judge rules names name = if not (admits rules.matcher name) then Rejected else admitted names name
 
 abbrev pub verdict_on : Rules → List (List ℕ) → Option (List ℕ) → Verdict
 verdict_on rules names None = NoScope

@@ -4,6 +4,11 @@
 //! of the list of all events that were applied: every accepted unit counts once, for the counter that it was accepted for.
 #![tactic(auto)]
 
+mod finding;
+mod past;
+mod seen;
 mod store;
+mod units;
 
-pub use store::{Counters, MAX_COUNTERS, Totals};
+pub use store::Counters;
+pub use units::{MAX_COUNTERS, Totals};

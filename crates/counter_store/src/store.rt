@@ -3,34 +3,36 @@ ghost use Rattle.std.specs.Prelude.{◌≡◌, ◌<◌, ◌^◌, ◌++◌, [], �
 ghost use Rattle.stat_defs.specs.Configs.{AreScopes};
 ghost use Rattle.counter_store.specs.Counting.{IsNamed, counters, verdict_of, tally};
 
+use crate::finding::count;
+use crate::past::Past;
+use crate::seen::{Seen, increment};
+use crate::units::Totals;
 use indexmap::IndexMap;
-use stat_defs::{Event, NoMemory, ScopeSpec, Txt, Verdict};
+use stat_defs::{Event, List, NoMemory, ScopeSpec, Verdict};
 use std::alloc::Global;
 use std::marker::Model;
 use tag_rules::Matcher;
-
-/// So many counters are made at most in one store's life.
-pub const MAX_COUNTERS: usize = 16_384;
-
-/// Units by full name, in the order of the counters' numbers.
-pub type Totals = IndexMap<Txt, u64>;
 
 /// Counters, reached through the scopes that were configured. Contracts see them as their rules and the list of all events that were applied.
 #[derive(Drop)]
 pub struct Counters {
     totals: Totals,
+    seen: Seen,
+    scopes: List<ScopeSpec>,
     matcher: Matcher,
+    past: Past,
 }
 
 impl Model for Counters {
-    ghost use Rattle.std.specs.Prelude.{[], ◌≡◌};
     ghost use Rattle.counter_store.specs.Counting.{History};
 
     ghost Value = { History };
 
-    ghost view = { λ c. record { rules = record { scopes = []; matcher = c.matcher }; events = [] } };
+    ghost use Rattle.counter_store.specs.Ledger.{history_of, IsLedger};
 
-    ghost invariant = { λ c. c.totals.entries ≡ [] };
+    ghost view = { history_of };
+
+    ghost invariant = { λ c. IsLedger (history_of c).rules c };
 }
 
 impl Counters {
@@ -39,7 +41,14 @@ impl Counters {
         requires { AreScopes scopes.now }
         ensures { IfOk result (λ c. c ≡ record { rules = record { scopes = scopes.now; matcher = matcher }; events = [] }) }
     {
-        Err(NoMemory)
+        let scopes = List::of(scopes.to_vec(alloc)?);
+        Ok(Counters {
+            totals: IndexMap::new(alloc),
+            seen: IndexMap::new(alloc),
+            scopes,
+            matcher,
+            past: Past::new(),
+        })
     }
 
     /// Applies an event. Each pair of label and name is matched once, whatever the answer was.
@@ -50,7 +59,22 @@ impl Counters {
         ensures applied { IfOk result (λ verdict. self.new ≡ record self.old { events = self.old.events ++ event ∷ [] }) }
         ensures kept { OnErr result (self.new ≡ self.old) }
     {
-        Err(NoMemory)
+        let past = self.past.and(&event);
+        let Some((pair, n)) = increment(event) else {
+            self.past = past;
+            return Ok(Verdict::NoScope);
+        };
+        let verdict = count(
+            &mut self.totals,
+            &mut self.seen,
+            alloc,
+            &self.scopes,
+            &self.matcher,
+            pair,
+            n,
+        )?;
+        self.past = past;
+        Ok(verdict)
     }
 
     /// Each counter's full name with its units, in the order of their numbers.
