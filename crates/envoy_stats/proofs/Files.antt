@@ -1,6 +1,6 @@
 -- Files that were read one after another.
-use Rattle.std.proofs.Common.{◌≡◌, ◌≤◌, ◌+◌, ◌*◌, ◌^◌, ◌<◌, ℕ, Option, List, [], ◌∷◌, ◌++◌, length, map, refl, sym, ap, ◌∙◌, subst, arith, length-append}
-use Rattle.std.proofs.lemmas.List.{append-nil, append_assoc, map-append}
+use Rattle.std.proofs.Common.{◌≡◌, ◌≤◌, ◌+◌, ◌*◌, ◌^◌, ◌<◌, ℕ, suc, Option, List, [], ◌∷◌, ◌++◌, length, map, refl, sym, ap, ◌∙◌, subst, arith, length-append}
+use Rattle.std.proofs.lemmas.List.{append-nil, append_assoc, map-append, length-map}
 use Rattle.std.proofs.lemmas.Grind.{flat_map-append}
 use Rattle.std.specs.Io.KnownBytes.{Consumes}
 use Rattle.stat_defs.specs.Faults.{Rose}
@@ -103,6 +103,19 @@ module _ {S : Type 0} (left : S → Option (List ℕ)) (origin : S → List ℕ)
         verdicts_behind_push rules before_these (f ∷ fs) file =
             ap (λ vs. verdicts rules before_these f.events ∷ vs) (verdicts_behind_push rules (before_these ++ f.events) fs file
             ∙ ap (λ es. verdicts_behind rules (before_these ++ f.events) fs ++ verdicts rules es file.events ∷ []) (append_assoc before_these f.events (all_events fs)))
+
+    as_many_files : (names : List (List ℕ)) (before after : ShelfMemory) (files : List FileRead) → AreFiles left origin faults holds names before after files → length files ≡ length names
+    as_many_files [] before after [] are = refl
+    as_many_files [] before after (f ∷ fs) are = absurd are
+    as_many_files (n ∷ ns) before after [] are = absurd are
+    as_many_files (n ∷ ns) before after (f ∷ fs) are = ap suc (as_many_files ns are.0 after fs are.1.1)
+
+    -- each name has one run
+    pub as_many_runs : (names : List (List ℕ)) (before after : ShelfMemory) (earlier later : History) (runs : List FileRun)
+        → ReadsFiles left origin faults holds names before after earlier later runs → length runs ≡ length names
+    as_many_runs names before after earlier later runs read =
+        sym (length-map runs (λ (run : FileRun). run.end)) ∙ ap length read.ends_are ∙ length-map read.files (λ (file : FileRead). file.end)
+        ∙ as_many_files names before after read.files read.are_files
 
     -- the files before leave room for one more
     pub room_for_file : (names rest : List (List ℕ)) (total : ℕ) (before between : ShelfMemory) (earlier later : History) (runs : List FileRun)

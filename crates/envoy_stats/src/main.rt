@@ -12,6 +12,8 @@ mod reading;
 mod replay;
 mod reporting;
 mod telling;
+#[cfg(test)]
+mod tests;
 mod writing;
 
 pub use replay::{Outcome, quiet_stats};

@@ -1,0 +1,402 @@
+use super::*;
+use stat_defs::{Delta, MetricId, Verdict};
+use stats_io::{MemFile, MemShelf, MemSink};
+use std::alloc::Global;
+use std::process::Abort;
+use std::test::Fail;
+use tag_rules::RegexMaker;
+
+// Bootstraps, files and what comes of them: rows parted by the byte 2, in each the bootstrap (`-` for the usual one), the files
+// parted by the byte 3, the number of the pull that fails in each, the status and the two outputs, parted by the byte 1.
+const ROWS: &[u8] = b"\
+-\x01\x019\x010\x01# last\n# worker 1: 0 accepted, 0 dropped\n\x01\x02\
+-\x01inc root a 0\n\x019\x010\x01# last\n# worker 1: 1 accepted, 0 dropped\n\x01\x02\
+{}\x01inc web a 1\ninc root a 2\n\x019\x010\x01# last\nenvoy.a:2|c\n# worker 1: 1 accepted, 1 dropped\n\x01\x02\
+-\x01# x\ninc root b 2\n\ninc root a:b 1\ninc root b 40\x019\x010\x01# last\nenvoy.a_b:1|c\nenvoy.b:42|c\n# worker 1: 3 accepted, 0 dropped\n\x01\x02\
+-\x01inc root a 1\ninc root a 01\ninc root a 1\n\x019\x013\x01# last\nenvoy.a:1|c\n# worker 1: 1 accepted, 0 dropped\n\x01file 1 line 2: no event\n\x02\
+-\x01inc root a 1\ninc root b 2\n\x011\x014\x01# last\nenvoy.a:1|c\n# worker 1: 1 accepted, 0 dropped\n\x01file 1: read failed\n\x02\
+-\x01inc root a 1\x03inc root b 2\n# x\nbogus\ninc root c 1\x019\x013\x01# last\nenvoy.a:1|c\nenvoy.b:2|c\n# worker 1: 1 accepted, 0 dropped\n# worker 2: 1 accepted, 0 dropped\n\x01file 2 line 3: no event\n\x02\
+-\x01inc root a 1\ninc root b 2\n\x03x\x03inc root a 4\x011\x014\x01# last\nenvoy.a:5|c\n# worker 1: 1 accepted, 0 dropped\n# worker 2: 0 accepted, 0 dropped\n# worker 3: 1 accepted, 0 dropped\n\x01file 1: read failed\nfile 2 line 1: no event\n\x02\
+{\"stats_config\":{\"stats_matcher\":{\"inclusion_list\":{\"patterns\":[{\"prefix\":\"cluster.\"}]}}}}\x01inc root cluster.x 1\ninc root server.y 1\x019\x010\x01# last\nenvoy.cluster.x:1|c\n# worker 1: 1 accepted, 1 dropped\n\x01\x02\
+{\"stats_run\":{\"flushes\":3,\"reads\":2,\"scopes\":[{\"label\":\"x\",\"prefix\":\"p\"},{\"label\":\"y\",\"prefix\":\"p.\"}]}}\x01inc x a 1\ninc y a 2\x019\x010\x01# last\nenvoy.p.a:3|c\n# worker 1: 2 accepted, 0 dropped\n\x01\x02\
+{\"stats_config\":{\"use_all_default_tags\":true,\"stats_tags\":[{\"tag_name\":\"region\",\"fixed_value\":\"eu-1\"}],\"stats_matcher\":{\"exclusion_list\":{\"patterns\":[{\"prefix\":\"cluster.api.internal.\"},{\"safe_regex\":{\"regex\":\".*\\\\.debug\"}}]}},\"histogram_bucket_settings\":[{\"match\":{\"suffix\":\"_ms\"},\"buckets\":[10,50,100,1000]}]},\"stats_sinks\":[{\"name\":\"envoy.stat_sinks.statsd\",\"typed_config\":{\"prefix\":\"edge\"}}],\"stats_run\":{\"scopes\":[{\"label\":\"web\",\"prefix\":\"http.web.\"},{\"label\":\"api\",\"prefix\":\"cluster.api\"}]}}\x01inc root a 1\ninc web rq 2\ninc api x 3\ninc api internal.y 4\ninc api z.debug 5\x019\x010\x01# last\nedge.a:1|c\nedge.cluster.api.x:3|c\nedge.http.web.rq:2|c\n# worker 1: 3 accepted, 2 dropped\n\x01\x02\
+[\x01inc root a 1\x019\x012\x01\x01boot: not json\n\x02\
+{\"stats_config\":{\"stats_tags\":[{\"tag_name\":\"x\",\"regex\":\"(\"}]}}\x01inc root a 1\x019\x012\x01\x01boot: bad pattern at stats_config.stats_tags[0].regex\n\x02\
+{\"stats_config\":{\"stats_matcher\":{\"exclusion_list\":{\"patterns\":[{\"exact\":\"(\"},{\"safe_regex\":{\"regex\":\"(\"}}]}}}}\x01\x019\x012\x01\x01boot: bad pattern at stats_config.stats_matcher.exclusion_list.patterns[1].safe_regex.regex\n\x02\
+{\"stats_run\":{\"scopes\":[{\"label\":\"root\"}]}}\x01\x019\x012\x01\x01boot: bad key at stats_run.scopes[0].label\n\x02\
+{\"stats_run\":{\"reads\":65}}\x01\x019\x012\x01\x01boot: out of range at stats_run.reads\n";
+
+// Words that are no command: a list a line, its words parted by spaces.
+const NO_COMMANDS: &str =
+    "\nreplay\nreplay -\nreplay - \nreplay - -f\nreplay -f f\nreplay f\nreplay - f -f\nrun --format x - f\nbins 01\nrun - f\ncheck -";
+
+const USAGE: &[u8] =
+    b"usage: envoy_stats run|replay [--symbols] [--format statsd|prom|admin] BOOT FILE.. | check BOOT | bins V..\n";
+
+const TWO_INCS: &[u8] = b"inc root a 3\ninc root a 4\n";
+
+const TWO_INCS_OUTPUT: &[u8] = b"# last\nenvoy.a:7|c\n# worker 1: 2 accepted, 0 dropped\n";
+
+// What a call left.
+#[derive(Drop)]
+struct Played {
+    outcome: Outcome,
+    out: MemSink,
+    err: MemSink,
+    shelf: MemShelf,
+}
+
+// Words parted by spaces; none where the text is empty.
+fn words_of(alloc: Global, text: &str) -> Result<Vec<String>, Fail> {
+    let mut words = Vec::new(alloc);
+    if !text.is_empty() {
+        for word in text.split(' ') {
+            words.push(String::from_str(alloc, word)?)?;
+        }
+    }
+    Ok(words)
+}
+
+// A file that is given in pieces of 16 bytes, whose pull of that number fails.
+fn file_of(alloc: Global, name: String, bytes: &[u8], failing_pull: u64) -> Result<MemFile, Fail> {
+    Ok(MemFile {
+        name,
+        bytes: bytes.to_vec(alloc)?,
+        piece: 16,
+        fails: vec![in alloc; failing_pull]?,
+    })
+}
+
+// A shelf with the file `f1`.
+fn shelf_of(alloc: Global, file: &[u8], failing_pull: u64) -> Result<MemShelf, Fail> {
+    let file = file_of(alloc, String::from_str(alloc, "f1")?, file, failing_pull)?;
+    Ok(MemShelf::new(vec![in alloc; file]?, Vec::new(alloc)))
+}
+
+// Calls the top call over that shelf and a maker whose call of that number fails, with an output sink of pieces of that length
+// whose push of that number fails.
+fn play(
+    alloc: Global,
+    words: &str,
+    shelf: MemShelf,
+    failing_pattern: u64,
+    piece: usize,
+    failing_push: u64,
+) -> Result<Played, Fail> {
+    let words = words_of(alloc, words)?;
+    let mut maker = RegexMaker::new(vec![in alloc; failing_pattern]?);
+    let mut shelf = shelf;
+    let mut out = MemSink::new(alloc, 1000, piece.max(1), vec![in alloc; failing_push]?)?;
+    let mut err = MemSink::new(alloc, 1000, 100, Vec::new(alloc))?;
+    let outcome = quiet_stats(
+        alloc, &words, &mut maker, &mut shelf, &mut out, &mut err,
+    );
+    Ok(Played {
+        outcome,
+        out,
+        err,
+        shelf,
+    })
+}
+
+// The same without a failing pattern.
+fn play_over(
+    alloc: Global,
+    words: &str,
+    shelf: MemShelf,
+    piece: usize,
+    failing_push: u64,
+) -> Result<Played, Fail> {
+    play(alloc, words, shelf, 999, piece, failing_push)
+}
+
+// The next part of a row, before the byte 1.
+fn part<'a>(row: &mut &'a [u8]) -> &'a [u8] {
+    let all = *row;
+    match all.iter().position(|b| *b == 1) {
+        Some(at) => {
+            *row = &all[at + 1..];
+            &all[..at]
+        }
+        None => {
+            *row = b"";
+            all
+        }
+    }
+}
+
+fn digit_of(text: &[u8]) -> u8 {
+    match text {
+        [digit] => digit.saturating_sub(b'0'),
+        _ => 255,
+    }
+}
+
+// Adds the files `f1`, `f2` and so on of a row, and their names to the words.
+fn add_files(
+    alloc: Global,
+    files: &mut Vec<MemFile>,
+    words: &mut String,
+    bytes: &[u8],
+    failing_pull: u64,
+) -> Result<(), Fail> {
+    for (i, file) in bytes.split(|b| *b == 3).enumerate() {
+        let name = format!(in alloc; "f{}", i.saturating_add(1))?;
+        words.push_str(" ")?;
+        words.push_str(name.as_str())?;
+        files.push(file_of(alloc, name, file, failing_pull)?)?;
+    }
+    Ok(())
+}
+
+fn assert_row(rt: &impl Abort, alloc: Global, row: &[u8]) -> Result<(), Fail> {
+    let mut rest = row;
+    let boot = part(&mut rest);
+    let bytes = part(&mut rest);
+    let failing_pull = u64::from(digit_of(part(&mut rest)));
+    let status = digit_of(part(&mut rest));
+    let out = part(&mut rest);
+    let mut files = Vec::new(alloc);
+    let usual = boot == b"-".as_slice();
+    files.push(file_of(alloc, String::from_str(alloc, "b")?, boot, 999)?)?;
+    let mut words = String::from_str(alloc, if usual { "replay -" } else { "replay b" })?;
+    add_files(alloc, &mut files, &mut words, bytes, failing_pull)?;
+    let shelf = MemShelf::new(files, Vec::new(alloc));
+    let played = play_over(alloc, words.as_str(), shelf, 7, 999)?;
+    assert_eq!(rt; played.outcome.status, status, "{row:?}");
+    assert!(rt; played.out.bytes() == out, "{row:?}");
+    assert!(rt; played.err.bytes() == rest, "{row:?}");
+    assert_eq!(rt; played.outcome.report.is_some(), status != 2, "{row:?}");
+    Ok(())
+}
+
+#[test]
+fn rows_and_what_is_written(rt: HostRuntime) -> Result<(), Fail> {
+    for row in ROWS.split(|b| *b == 2) {
+        assert_row(&rt, rt.alloc(), row)?;
+    }
+    Ok(())
+}
+
+#[test]
+fn missing_files_and_a_refused_pattern(rt: HostRuntime) -> Result<(), Fail> {
+    let alloc = rt.alloc();
+    let played = play_over(
+        alloc,
+        "replay - f1",
+        MemShelf::new(Vec::new(alloc), Vec::new(alloc)),
+        100,
+        999,
+    )?;
+    assert_eq!(rt; played.outcome.status, 4);
+    assert!(rt; played.out.bytes() == b"# last\n# worker 1: 0 accepted, 0 dropped\n".as_slice());
+    assert!(rt; played.err.bytes() == b"file 1: not opened\n".as_slice());
+    let played = play_over(
+        alloc,
+        "replay b f1",
+        shelf_of(alloc, TWO_INCS, 9)?,
+        100,
+        999,
+    )?;
+    assert_eq!(rt; played.outcome.status, 4);
+    assert!(rt; played.out.bytes().is_empty());
+    assert!(rt; played.err.bytes() == b"boot: read failed\n".as_slice());
+    let played = play(
+        alloc,
+        "replay - f1",
+        MemShelf::new(Vec::new(alloc), Vec::new(alloc)),
+        0,
+        100,
+        999,
+    )?;
+    assert_eq!(rt; played.outcome.status, 2);
+    assert!(rt; played.out.bytes().is_empty());
+    assert!(rt; played.err.bytes() == b"boot: bad pattern at default_tags[0]\n".as_slice());
+    assert_eq!(rt; played.shelf.fault_count(), 0);
+    Ok(())
+}
+
+#[test]
+fn words_that_are_no_command(rt: HostRuntime) -> Result<(), Fail> {
+    let alloc = rt.alloc();
+    for words in NO_COMMANDS.split('\n') {
+        let played = play_over(alloc, words, shelf_of(alloc, TWO_INCS, 9)?, 7, 999)?;
+        assert_eq!(rt; played.outcome.status, 1, "{words}");
+        assert!(rt; played.out.bytes().is_empty(), "{words}");
+        assert!(rt; played.err.bytes() == USAGE, "{words}");
+    }
+    Ok(())
+}
+
+// `replay -` with so many times the file `f1`.
+fn words_with_files(alloc: Global, files: u64) -> Result<String, Fail> {
+    let mut words = String::from_str(alloc, "replay -")?;
+    for _ in 0..files {
+        words.push_str(" f1")?;
+    }
+    Ok(words)
+}
+
+#[test]
+fn as_many_files_as_are_allowed(rt: HostRuntime) -> Result<(), Fail> {
+    let alloc = rt.alloc();
+    for (files, status) in [(32, 0), (33, 1)] {
+        let words = words_with_files(alloc, files)?;
+        let played = play_over(
+            alloc,
+            words.as_str(),
+            shelf_of(alloc, TWO_INCS, 9)?,
+            100,
+            999,
+        )?;
+        assert_eq!(rt; played.outcome.status, status);
+    }
+    Ok(())
+}
+
+#[test]
+fn each_push_failing(rt: HostRuntime) -> Result<(), Fail> {
+    let alloc = rt.alloc();
+    for k in 0..53u64 {
+        let played = play_over(alloc, "replay - f1", shelf_of(alloc, TWO_INCS, 9)?, 1, k)?;
+        assert_eq!(rt; played.outcome.status, 5, "{k}");
+        assert_eq!(rt; played.out.bytes().len() as u64, k);
+        assert!(rt; TWO_INCS_OUTPUT.starts_with(played.out.bytes()), "{k}");
+        assert!(rt; played.err.bytes() == b"write failed\n".as_slice(), "{k}");
+    }
+    let played = play_over(alloc, "replay - f1", shelf_of(alloc, TWO_INCS, 9)?, 1, 53)?;
+    assert_eq!(rt; played.outcome.status, 0);
+    assert!(rt; played.out.bytes() == TWO_INCS_OUTPUT);
+    Ok(())
+}
+
+#[test]
+fn a_report_has_numbers_in_order_of_first_use(rt: HostRuntime) -> Result<(), Fail> {
+    let alloc = rt.alloc();
+    let file = b"inc root z 5\ninc web z 1\ninc root a 2\ninc root z 6\n";
+    let played = play_over(alloc, "replay - f1", shelf_of(alloc, file, 9)?, 100, 999)?;
+    let report = played.outcome.report.ok_or("no report")?;
+    let verdicts = report.verdicts.items().first().ok_or("no file")?;
+    let wanted = [
+        Verdict::Accepted(MetricId(0)),
+        Verdict::NoScope,
+        Verdict::Accepted(MetricId(1)),
+        Verdict::Accepted(MetricId(0)),
+    ];
+    assert!(rt; verdicts.items() == wanted.as_slice());
+    let flush = report.flushes.items().first().ok_or("no flush")?;
+    let sums = [
+        Delta {
+            id: MetricId(0),
+            n: 11,
+        },
+        Delta {
+            id: MetricId(1),
+            n: 2,
+        },
+    ];
+    assert!(rt; flush.deltas.items() == sums.as_slice());
+    Ok(())
+}
+
+// The lines `inc root nK 1` for K from 1 to so many.
+fn new_names(alloc: Global, count: u64) -> Result<Vec<u8>, Fail> {
+    let mut bytes = Vec::new(alloc);
+    for k in 0..count {
+        let line = format!(in alloc; "inc root n{} 1\n", k.saturating_add(1))?;
+        bytes.extend_from_slice(line.as_bytes())?;
+    }
+    Ok(bytes)
+}
+
+#[test]
+fn one_counter_too_many(rt: HostRuntime) -> Result<(), Fail> {
+    let alloc = rt.alloc();
+    let words = words_of(alloc, "replay - f1")?;
+    let mut maker = RegexMaker::new(Vec::new(alloc));
+    let mut shelf = shelf_of(alloc, &new_names(alloc, 16_385)?, 999_999)?;
+    let mut out = MemSink::new(alloc, 300_000, 300_000, Vec::new(alloc))?;
+    let mut err = MemSink::new(alloc, 100, 100, Vec::new(alloc))?;
+    let outcome = quiet_stats(
+        alloc, &words, &mut maker, &mut shelf, &mut out, &mut err,
+    );
+    assert_eq!(rt; outcome.status, 0);
+    assert!(rt; out.bytes().ends_with(b"# worker 1: 16384 accepted, 1 dropped\n"));
+    let report = outcome.report.ok_or("no report")?;
+    let verdicts = report.verdicts.items().first().ok_or("no file")?;
+    assert!(rt; verdicts.items().last() == Some(&Verdict::NoRoom));
+    Ok(())
+}
+
+// So many times that byte.
+fn repeated(alloc: Global, byte: u8, count: u64) -> Result<Vec<u8>, Fail> {
+    let mut bytes = Vec::new(alloc);
+    for _ in 0..count {
+        bytes.push(byte)?;
+    }
+    Ok(bytes)
+}
+
+#[test]
+fn lines_at_the_greatest_length(rt: HostRuntime) -> Result<(), Fail> {
+    let alloc = rt.alloc();
+    for (count, status, told) in [(1_024, 0, ""), (1_025, 3, "file 1 line 1: line too long\n")] {
+        let file = repeated(alloc, b'#', count)?;
+        let played = play_over(alloc, "replay - f1", shelf_of(alloc, &file, 9_999)?, 100, 999)?;
+        assert_eq!(rt; played.outcome.status, status);
+        assert!(rt; played.err.bytes() == told.as_bytes());
+    }
+    Ok(())
+}
+
+#[test]
+fn the_deepest_bootstrap(rt: HostRuntime) -> Result<(), Fail> {
+    let alloc = rt.alloc();
+    for (depth, told) in [(127, "boot: bad key at top\n"), (128, "boot: not json\n")] {
+        let mut boot = repeated(alloc, b'[', depth)?;
+        boot.extend_from_slice(&repeated(alloc, b']', depth)?)?;
+        let played = play_over(alloc, "replay f1 f1", shelf_of(alloc, &boot, 999)?, 100, 999)?;
+        assert_eq!(rt; played.outcome.status, 2);
+        assert!(rt; played.err.bytes() == told.as_bytes());
+        assert!(rt; played.out.bytes().is_empty());
+    }
+    Ok(())
+}
+
+// So many comment lines of 1,024 bytes with their newlines, and some bytes more.
+fn comments(alloc: Global, lines: u64, more: &[u8]) -> Result<Vec<u8>, Fail> {
+    let mut bytes = Vec::new(alloc);
+    for _ in 0..lines {
+        for _ in 0..1_023u64 {
+            bytes.push(b'#')?;
+        }
+        bytes.push(b'\n')?;
+    }
+    bytes.extend_from_slice(more)?;
+    Ok(bytes)
+}
+
+#[test]
+fn files_at_the_greatest_size(rt: HostRuntime) -> Result<(), Fail> {
+    let alloc = rt.alloc();
+    let whole = comments(alloc, 8_192, b"")?;
+    let played = play_over(
+        alloc,
+        "replay - f1",
+        shelf_of(alloc, &whole, 999_999)?,
+        100,
+        999,
+    )?;
+    assert_eq!(rt; played.outcome.status, 0);
+    let longer = comments(alloc, 8_192, b"#")?;
+    let played = play_over(
+        alloc,
+        "replay - f1",
+        shelf_of(alloc, &longer, 999_999)?,
+        100,
+        999,
+    )?;
+    assert_eq!(rt; played.outcome.status, 3);
+    assert!(rt; played.err.bytes() == b"file 1: too big\n".as_slice());
+    Ok(())
+}
