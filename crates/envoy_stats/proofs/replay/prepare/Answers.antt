@@ -1,7 +1,9 @@
-use Rattle.std.proofs.Common.{◌≡◌, ◌∙◌, ℕ, List, [], ◌∷◌, length, map, string_bytes, ap, refl, subst, arith}
+use Rattle.std.proofs.Common.{◌≡◌, ◌∙◌, ℕ, List, [], ◌∷◌, length, length-append, map, string_bytes, ap, refl, subst, arith}
 use Rattle.std.proofs.lemmas.List.{length-map}
 use Rattle.stat_defs.specs.declared.reports.WorkerEnd.{WorkerEnd}
 use Rattle.counter_store.specs.Counting.{History}
+use Rattle.boot_load.specs.Loading.{ShelfMemory}
+use Rattle.envoy_stats.specs.Files.{all_events}
 use Rattle.envoy_stats.specs.Reporting.{rules_of, deltas}
 use Rattle.envoy_stats.specs.Output.{Shows, worker_lines}
 use Rattle.envoy_stats.specs.Telling.{fault_lines}
@@ -33,7 +35,7 @@ pub report_of-requires : goal.report_of-requires
 report_of-requires g c =
     let later = c.read_files.new.counters in
     record {
-      few = omega (arith, ap length c.totals.ensures, few_counters later.rules later.events, ap (λ (h : History). length h.events) c.in_ok-runs.ensures.applied,
+      few = omega (arith, length-append c.in_ok-counters.counters.events (all_events c.in_ok-runs.ensures.files), ap length c.totals.ensures, few_counters later.rules later.events, ap (λ (h : History). length h.events) c.in_ok-runs.ensures.applied,
           ap (λ (h : History). length h.events) c.in_ok-counters.ensures, c.in_ok-runs.ensures.few, length-map c.args.names.now string_bytes, c.requires.few);
     }
 
@@ -42,14 +44,16 @@ returns g c =
     let runs = c.in_ok-runs.runs.items in
     let config = c.args.boot.config in
     let held = g.F.Shelf.holds c.args.shelf.now in
+    let before : ShelfMemory = record { faults = g.F.Shelf.faults c.args.shelf.now; failed = g.F.Shelf.failed c.args.shelf.now } in
+    let after : ShelfMemory = record { faults = g.F.Shelf.faults c.read_files.new.shelf; failed = g.F.Shelf.failed c.read_files.new.shelf } in
     let first : c.in_ok-counters.counters ≡ record { rules = rules_of config; events = [] } =
         c.in_ok-counters.ensures ∙ (λ i. record { rules = record { scopes = c.items.ensures i; matcher = c.requires.matcher i }; events = [] }) in
     let ends : c.deref-2.result.now ≡ map (λ (end : WorkerEnd). end.end) (map (λ (run : FileRun). run.end) runs) =
         c.deref-2.ensures.value ∙ c.in_ok-ends.ensures ∙ ap (map (λ (end : WorkerEnd). end.end)) (c.deref.ensures.value ∙ c.in_ok-parted.ensures.ends) in
     let same_ends : c.deref-4.result.now ≡ map (λ (end : WorkerEnd). end.end) (map (λ (run : FileRun). run.end) runs) =
         c.deref-4.ensures.value ∙ c.in_ok-ends.ensures ∙ ap (map (λ (end : WorkerEnd). end.end)) (c.deref.ensures.value ∙ c.in_ok-parted.ensures.ends) in
-    ready_of g.F.S.Source.left g.F.S.Source.origin g.F.S.Source.faults held (map string_bytes c.args.names.now) _ _ config c.read_files.new.counters runs _
-    (subst (λ (h : History). ReadsFiles g.F.S.Source.left g.F.S.Source.origin g.F.S.Source.faults held (map string_bytes c.args.names.now) _ _ h c.read_files.new.counters runs) first c.in_ok-runs.ensures)
+    ready_of g.F.S.Source.left g.F.S.Source.origin g.F.S.Source.faults held (map string_bytes c.args.names.now) before after config c.read_files.new.counters runs _
+    (subst (λ (h : History). ReadsFiles g.F.S.Source.left g.F.S.Source.origin g.F.S.Source.faults held (map string_bytes c.args.names.now) before after h c.read_files.new.counters runs) first c.in_ok-runs.ensures)
     (c.in_ok-report.ensures ∙ (λ i. record {
       verdicts = c.in_ok-parted.ensures.verdicts i;
       flushes = (record { at = 0; deltas = deltas (c.totals.ensures i); gauges = []; parts = [] }) ∷ [];
