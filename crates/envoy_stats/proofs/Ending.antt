@@ -40,7 +40,7 @@ was_opened (Some stop) end by e = subst (λ (x : FileEnd). StoppedBy (Some stop)
 module _ {S : Type 0} (left : S → Option (List ℕ)) (origin : S → List ℕ) (faults : S → ℕ) where
   pub read_all : (source : S) (init old new : Reading S) (run : FileRun)
       → SoFar left origin init old run.verdicts.items run.counters.entries
-      → init ≡ record { source = source; number = 1; offset = 0; pending = []; taken = 0; first_faults = faults source; stopped = None; ended = None }
+      → init ≡ record { source = source; number = 1; given = 0; offset = 0; pending = []; taken = 0; first_faults = faults source; stopped = None; ended = None }
       → (answer : Result Step NoMemory) → Answers answer run.end.end → (got : List ℕ) → Moves left old new got (events_of answer)
       → IfEnded answer (λ end. new.ended ≡ Some end) → IfEnded answer (λ end. StoppedBy new.stopped end)
       → IfEnded answer (λ end. Explains (left new.source) new.first_faults (faults new.source) end)

@@ -50,6 +50,7 @@ module _ {S : Type 0} (left : S → Option (List ℕ)) (origin : S → List ℕ)
   moves_none r = record {
     consumed = Consumes-nil (left r.source);
     taken = sym (add-zero r.taken);
+    given = sym (add-zero r.given);
     follows = λ more last may. may;
     answers = λ more last others end may comes. comes;
   }

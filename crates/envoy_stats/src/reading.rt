@@ -30,7 +30,9 @@ fn event_or_end(step: Step) -> Result<Event, FileEnd>
         Step::Event(event) => Ok(event),
         Step::End => Err(FileEnd::Whole),
         Step::BadLine(number) => Err(FileEnd::BadLine(number)),
+        Step::LineTooLong(number) => Err(FileEnd::LineTooLong(number)),
         Step::TooBig => Err(FileEnd::TooBig),
+        Step::TooMany => Err(FileEnd::TooMany),
         Step::ReadFault => Err(FileEnd::ReadFault),
     }
 }

@@ -1,13 +1,16 @@
 -- Lines, cut from their bytes.
-use Rattle.std.proofs.Common.{◌≡◌, ◌≢◌, ◌<◌, ◌+◌, ◌-◌, ℕ, false, cond, eqb, List, [], ◌∷◌, ◌++◌, length, take, get_or, drop, refl, sym, ap, ◌∙◌, arith}
+use Rattle.std.proofs.Common.{◌≡◌, ◌<◌, ◌≤◌, ◌+◌, ◌-◌, ℕ, ◌==◌, Bool, true, false, cond, List, [], ◌∷◌, ◌++◌, length, take, get_or, drop, refl, sym, ap, ◌∙◌, arith}
+use Rattle.std.specs.List.{All, slice_split}
 use Rattle.memchr.specs.Find.{Nowhere, NoneBefore, Passes, is_byte}
 use Rattle.std.proofs.lemmas.List.{get_or-take, take-append-drop, drop_more, take_rest, length-take-le, drop_at, drop_all, append_assoc, length-append}
-use Rattle.std.proofs.lemmas.Bool.{ne_eqb, eq-eqb, eqb-true}
+use Rattle.std.proofs.lemmas.List.Splits.{slice_split_at, slice_split_none, length-slice_split}
+use Rattle.std.proofs.lemmas.Grind.{get_or_default_zero}
+use Rattle.std.proofs.lemmas.Bool.{ne_eqb, eq-eqb, eqb-true, ltb-true}
 use Rattle.event_script.specs.Grammar.{Lacks}
-use Rattle.event_script.specs.Script.{whole_lines, all_lines, onto_line, begin_line, lines_until}
-use Rattle.event_script.proofs.Parts.{lacks_rest, lacks_first}
+use Rattle.event_script.specs.Script.{is_line, lines_of, lines_until}
 use Rattle.event_script.specs.declared.step.Stop.{Stop}
 use Rattle.event_script.specs.declared.step.Stop.TheVariants.{Whole, TooBig, ReadFault}
+use Rattle.event_script.specs.declared.grammar.TheConstants.{MAX_LINE_BYTES}
 
 -- no newline was found
 pub none_found : (bytes : List ℕ) → Nowhere (Passes (is_byte 10) bytes) 0 (length bytes) → Lacks 10 bytes
@@ -23,54 +26,51 @@ found_at bytes at before here =
           ∙ ap (λ l. take at bytes ++ l) (drop_more bytes at 0 before.high ∙ ap (λ b. b ∷ drop (at + 1) bytes) (eqb-true (get_or bytes at 0) 10 here) ∙ ap (λ l. 10 ∷ l) (sym (take_rest bytes (at + 1)))),
     )
 
-not_newline : (c : ℕ) (cs : List ℕ) → Lacks 10 (c ∷ cs) → eqb c 10 ≡ false
-not_newline c cs lacks = ne_eqb c 10 (lacks_first 10 c cs lacks)
+abbrev pub is_newline : ℕ → Bool
+is_newline b = b == 10
 
-whole_cut : (line rest : List ℕ) → Lacks 10 line → whole_lines (line ++ 10 ∷ rest) ≡ line ∷ whole_lines rest
-whole_cut [] rest lacks = refl
-whole_cut (c ∷ line) rest lacks =
-    ap (λ b. cond b ([] ∷ whole_lines (line ++ 10 ∷ rest)) (onto_line c (whole_lines (line ++ 10 ∷ rest)))) (not_newline c line lacks)
-    ∙ ap (onto_line c) (whole_cut line rest (lacks_rest 10 c line lacks))
+-- no byte of it is a newline
+none_passes : (bytes : List ℕ) → Lacks 10 bytes → All (λ b. is_newline b ≡ false) bytes
+none_passes bytes lacks k d within = ne_eqb (get_or bytes k d) 10 (λ same. lacks k within (sym (get_or_default_zero bytes k d within) ∙ same))
 
-all_cut : (line rest : List ℕ) → Lacks 10 line → all_lines (line ++ 10 ∷ rest) ≡ line ∷ all_lines rest
-all_cut [] rest lacks = refl
-all_cut (c ∷ line) rest lacks =
-    ap (λ b. cond b ([] ∷ all_lines (line ++ 10 ∷ rest)) (begin_line c (all_lines (line ++ 10 ∷ rest)))) (not_newline c line lacks)
-    ∙ ap (begin_line c) (all_cut line rest (lacks_rest 10 c line lacks))
-
-whole_none : (bytes : List ℕ) → Lacks 10 bytes → whole_lines bytes ≡ []
-whole_none [] lacks = refl
-whole_none (c ∷ bytes) lacks =
-    ap (λ b. cond b ([] ∷ whole_lines bytes) (onto_line c (whole_lines bytes))) (not_newline c bytes lacks)
-    ∙ ap (onto_line c) (whole_none bytes (lacks_rest 10 c bytes lacks))
-
-all_one : (c : ℕ) (bytes : List ℕ) → Lacks 10 (c ∷ bytes) → all_lines (c ∷ bytes) ≡ (c ∷ bytes) ∷ []
-all_one c [] lacks = ap (λ b. cond b ([] ∷ []) ((c ∷ []) ∷ [])) (not_newline c [] lacks)
-all_one c (d ∷ bytes) lacks =
-    ap (λ b. cond b ([] ∷ all_lines (d ∷ bytes)) (begin_line c (all_lines (d ∷ bytes)))) (not_newline c (d ∷ bytes) lacks)
-    ∙ ap (begin_line c) (all_one d bytes (lacks_rest 10 c (d ∷ bytes) lacks))
+-- a piece before another is a line
+pub first_of : (stop : Stop) (piece : List ℕ) (pieces : List (List ℕ)) → 1 ≤ length pieces → lines_of stop (piece ∷ pieces) ≡ piece ∷ lines_of stop pieces
+first_of stop piece [] some = absurd (omega arith)
+first_of stop piece (next ∷ pieces) some = refl
 
 -- a line with its newline comes off
 pub cut_until : (stop : Stop) (bytes line rest : List ℕ) → Lacks 10 line → bytes ≡ line ++ 10 ∷ rest
     → lines_until stop bytes ≡ line ∷ lines_until stop (drop (length line + 1) bytes)
 cut_until stop bytes line rest lacks e =
     let after : drop (length line + 1) bytes ≡ rest = ap (drop (length line + 1)) e ∙ drop_at_newline line rest in
-    ap (lines_until stop) e ∙ cases stop line rest lacks ∙ ap (λ l. line ∷ lines_until stop l) (sym after)
+    ap (lines_until stop) e ∙ ap (lines_of stop) (slice_split_at is_newline line 10 rest (none_passes line lacks) refl)
+    ∙ first_of stop line (slice_split is_newline rest) (omega (arith, length-slice_split is_newline rest))
+    ∙ ap (λ l. line ∷ lines_until stop l) (sym after)
   where
     drop_at_newline : (line rest : List ℕ) → drop (length line + 1) (line ++ 10 ∷ rest) ≡ rest
     drop_at_newline line rest =
         ap (drop (length line + 1)) (sym (append_assoc line (10 ∷ []) rest)) ∙ drop_at (line ++ 10 ∷ []) rest (length line + 1) (length-append line (10 ∷ []))
 
-    cases : (stop : Stop) (line rest : List ℕ) → Lacks 10 line → lines_until stop (line ++ 10 ∷ rest) ≡ line ∷ lines_until stop rest
-    cases Whole = all_cut
-    cases TooBig = whole_cut
-    cases ReadFault = whole_cut
+-- the last piece alone
+last_piece : (stop : Stop) (bytes : List ℕ) → Lacks 10 bytes → lines_until stop bytes ≡ cond (is_line stop (length bytes)) (bytes ∷ []) []
+last_piece stop bytes lacks = ap (lines_of stop) (slice_split_none is_newline bytes (none_passes bytes lacks))
 
-pub last_line : (bytes : List ℕ) → Lacks 10 bytes → 0 < length bytes → all_lines bytes ≡ bytes ∷ all_lines (drop (length bytes) bytes)
-last_line [] lacks some = absurd (omega arith)
-last_line (c ∷ bytes) lacks some = all_one c bytes lacks ∙ ap (λ l. (c ∷ bytes) ∷ all_lines l) (sym (drop_all (length (c ∷ bytes)) (c ∷ bytes) (omega arith)))
+pub none_until : (stop : Stop) (bytes : List ℕ) → Lacks 10 bytes → is_line stop (length bytes) ≡ false → lines_until stop bytes ≡ []
+none_until stop bytes lacks none = last_piece stop bytes lacks ∙ ap (λ b. cond b (bytes ∷ []) []) none
 
-pub none_until : (stop : Stop) (bytes : List ℕ) → Lacks 10 bytes → stop ≢ Whole → lines_until stop bytes ≡ []
-none_until Whole bytes lacks not = absurd (not refl)
-none_until TooBig bytes lacks not = whole_none bytes lacks
-none_until ReadFault bytes lacks not = whole_none bytes lacks
+no_bytes : (stop : Stop) → lines_until stop [] ≡ []
+no_bytes Whole = refl
+no_bytes TooBig = refl
+no_bytes ReadFault = refl
+
+pub last_until : (stop : Stop) (bytes : List ℕ) → Lacks 10 bytes → is_line stop (length bytes) ≡ true
+    → lines_until stop bytes ≡ bytes ∷ lines_until stop (drop (length bytes) bytes)
+last_until stop bytes lacks is =
+    last_piece stop bytes lacks ∙ ap (λ b. cond b (bytes ∷ []) []) is
+    ∙ ap (λ l. bytes ∷ l) (sym (ap (lines_until stop) (drop_all (length bytes) bytes (omega arith)) ∙ no_bytes stop))
+
+-- a last piece that is a line has a byte
+pub line_has_bytes : (stop : Stop) (count : ℕ) → is_line stop count ≡ true → 0 < count
+line_has_bytes Whole count is = ltb-true 0 count is
+line_has_bytes TooBig count is = omega (arith, ltb-true MAX_LINE_BYTES count is)
+line_has_bytes ReadFault count is = omega (arith, ltb-true MAX_LINE_BYTES count is)

@@ -1,8 +1,10 @@
 -- From the answers of a reader to the run of its file.
-use Rattle.std.proofs.Common.{◌≡◌, ◌<◌, ◌≤◌, ◌+◌, ◌-◌, ℕ, Bool, true, false, cond, eqb, Option, Some, None, MatchOption, List, [], ◌∷◌, ◌++◌, inl, inr, ⊎_elim, length, take, refl, sym, ap, ◌∙◌, subst, arith, append-nil, zero-add}
+use Rattle.std.proofs.Common.{◌≡◌, ◌<◌, ◌≤◌, ◌+◌, ◌-◌, ℕ, Bool, true, false, cond, nat_lt, Option, Some, None, MatchOption, List, [], ◌∷◌, ◌++◌, inl, inr, ⊎_elim, length, take, refl, sym, ap, ◌∙◌, subst, arith, append-nil, zero-add}
 use Rattle.std.proofs.lemmas.List.{take-append-le, take_at, length-append}
 use Rattle.std.proofs.Math.Seq.{take-append-add}
-use Rattle.std.proofs.lemmas.Bool.{cases_lt}
+use Rattle.std.proofs.lemmas.Bool.{cases_lt, lt-ltb, ltb-true}
+use Rattle.std.specs.List.{slice_split, onto_first}
+use Rattle.std.proofs.lemmas.List.Splits.{length-slice_split}
 use Rattle.std.specs.Io.KnownBytes.{Consumes, IsAtEnd}
 use Rattle.stat_defs.specs.declared.events.Event.{Event}
 use Rattle.stat_defs.specs.declared.reports.FileEnd.{FileEnd}
@@ -10,79 +12,116 @@ use Rattle.stat_defs.specs.declared.reports.FileEnd.TheVariants as file
 use Rattle.event_script.specs.declared.step.Stop.{Stop}
 use Rattle.event_script.specs.declared.step.Stop.TheVariants.{Whole, TooBig, ReadFault}
 use Rattle.event_script.specs.declared.pulling.TheConstants.{MAX_FILE_BYTES}
-use Rattle.event_script.specs.Script.{Reads, lines_until, whole_lines, all_lines, onto_line, begin_line, FileFrom, File, end_by}
+use Rattle.event_script.specs.declared.grammar.TheConstants.{MAX_LINE_BYTES}
+use Rattle.event_script.specs.Script.{Reads, is_line, lines_of, lines_until, FileFrom, File, end_by}
+use Rattle.event_script.proofs.CutLines.{is_newline, first_of}
 use Rattle.event_script.specs.Reading.{Reading, Comes, MayFollow, Moves}
 use Rattle.event_script.specs.Steps.{StoppedBy, EndsBy}
 use Rattle.event_script.specs.Run.{MayBe, IsRun}
 
--- the whole lines of the front stand first
-onto_front : (x : ℕ) (ls more : List (List ℕ)) → (s : List (List ℕ)) × (onto_line x (ls ++ more) ≡ onto_line x ls ++ s)
-onto_front x [] more = (onto_line x more, refl)
-onto_front x (l ∷ ls) more = (more, refl)
+-- the pieces of two lists, one behind the other
+abbrev joined : List (List ℕ) → List (List ℕ) → List (List ℕ)
+joined [] more = more
+joined (piece ∷ []) [] = piece ∷ []
+joined (piece ∷ []) (first ∷ more) = (piece ++ first) ∷ more
+joined (piece ∷ (next ∷ pieces)) more = piece ∷ joined (next ∷ pieces) more
 
-begin_front : (x : ℕ) (ls more : List (List ℕ)) → (s : List (List ℕ)) × (begin_line x (ls ++ more) ≡ onto_line x ls ++ s)
-begin_front x [] more = (begin_line x more, refl)
-begin_front x (l ∷ ls) more = (more, refl)
+joined_some : (piece : List ℕ) (pieces more : List (List ℕ)) → 1 ≤ length (joined (piece ∷ pieces) more)
+joined_some piece [] [] = omega arith
+joined_some piece [] (first ∷ more) = omega arith
+joined_some piece (next ∷ pieces) more = omega arith
 
-whole_step : (b : Bool) (x : ℕ) (ls more all : List (List ℕ)) → all ≡ ls ++ more
-    → (s : List (List ℕ)) × (cond b ([] ∷ all) (onto_line x all) ≡ cond b ([] ∷ ls) (onto_line x ls) ++ s)
-whole_step true x ls more all e = (more, ap (λ l. [] ∷ l) e)
-whole_step false x ls more all e = ((onto_front x ls more).0, ap (onto_line x) e ∙ (onto_front x ls more).1)
+joined_step : (b : Bool) (x : ℕ) (pieces more all : List (List ℕ)) → 1 ≤ length pieces → 1 ≤ length more → all ≡ joined pieces more
+    → cond b ([] ∷ all) (onto_first x all) ≡ joined (cond b ([] ∷ pieces) (onto_first x pieces)) more
+joined_step b x [] more all some also e = absurd (omega arith)
+joined_step b x (piece ∷ pieces) [] all some also e = absurd (omega arith)
+joined_step true x (piece ∷ pieces) (first ∷ more) all some also e = ap (λ l. [] ∷ l) e
+joined_step false x (piece ∷ []) (first ∷ more) all some also e = ap (onto_first x) e
+joined_step false x (piece ∷ (next ∷ pieces)) (first ∷ more) all some also e = ap (onto_first x) e
 
-all_step : (b : Bool) (x : ℕ) (ls more all : List (List ℕ)) → all ≡ ls ++ more
-    → (s : List (List ℕ)) × (cond b ([] ∷ all) (begin_line x all) ≡ cond b ([] ∷ ls) (onto_line x ls) ++ s)
-all_step true x ls more all e = (more, ap (λ l. [] ∷ l) e)
-all_step false x ls more all e = ((begin_front x ls more).0, ap (begin_line x) e ∙ (begin_front x ls more).1)
+joined_none : (pieces : List (List ℕ)) → 1 ≤ length pieces → pieces ≡ joined ([] ∷ []) pieces
+joined_none [] some = absurd (omega arith)
+joined_none (piece ∷ pieces) some = refl
 
-whole_front : (a b : List ℕ) → (s : List (List ℕ)) × (whole_lines (a ++ b) ≡ whole_lines a ++ s)
-whole_front [] b = (whole_lines b, refl)
-whole_front (x ∷ a) b = whole_step (eqb x 10) x (whole_lines a) (whole_front a b).0 (whole_lines (a ++ b)) (whole_front a b).1
+some_pieces : (bytes : List ℕ) → 1 ≤ length (slice_split is_newline bytes)
+some_pieces bytes = omega (arith, length-slice_split is_newline bytes)
 
-all_front : (a b : List ℕ) → (s : List (List ℕ)) × (all_lines (a ++ b) ≡ whole_lines a ++ s)
-all_front [] b = (all_lines b, refl)
-all_front (x ∷ a) b = all_step (eqb x 10) x (whole_lines a) (all_front a b).0 (all_lines (a ++ b)) (all_front a b).1
+split_joined : (a b : List ℕ) → slice_split is_newline (a ++ b) ≡ joined (slice_split is_newline a) (slice_split is_newline b)
+split_joined [] b = joined_none (slice_split is_newline b) (some_pieces b)
+split_joined (x ∷ a) b =
+    joined_step (is_newline x) x (slice_split is_newline a) (slice_split is_newline b) (slice_split is_newline (a ++ b)) (some_pieces a) (some_pieces b) (split_joined a b)
 
--- no lines end a file by a line of no meaning
-no_bad_end : (stop : Stop) (n : ℕ) → file.BadLine n ≡ end_by stop → ⊥
-no_bad_end Whole n e = cc
-no_bad_end TooBig n e = cc
-no_bad_end ReadFault n e = cc
+-- a piece that is too long is a line, whatever follows
+too_long_is_line : (stop : Stop) (piece : List ℕ) → MAX_LINE_BYTES < length piece → is_line stop (length piece) ≡ true
+too_long_is_line Whole piece long = lt-ltb 0 (length piece) (omega arith)
+too_long_is_line TooBig piece long = lt-ltb MAX_LINE_BYTES (length piece) long
+too_long_is_line ReadFault piece long = lt-ltb MAX_LINE_BYTES (length piece) long
 
--- a line of no meaning ends the file, whatever follows
-bad_line_stands : (number : ℕ) (ls more : List (List ℕ)) (stop other : Stop) (events : List Event) (n : ℕ)
-    → Reads number ls stop events (file.BadLine n) → Reads number (ls ++ more) other events (file.BadLine n)
-bad_line_stands number [] more stop other events n reads = absurd (no_bad_end stop n reads.1)
-bad_line_stands number (l ∷ ls) more stop other events n (inl passed) = inl (passed.0, bad_line_stands (number + 1) ls more stop other events n passed.1)
-bad_line_stands number (l ∷ ls) more stop other events n (inr (inl event)) =
-    inr (inl (event.0, (event.1.0, event.1.1, event.1.2, bad_line_stands (number + 1) ls more stop other event.1.0 n event.1.3)))
-bad_line_stands number (l ∷ ls) more stop other events n (inr (inr bad)) = inr (inr bad)
+too_long_first : (stop : Stop) (piece : List ℕ) (pieces : List (List ℕ)) → MAX_LINE_BYTES < length piece
+    → (more : List (List ℕ)) × (lines_of stop (piece ∷ pieces) ≡ piece ∷ more)
+too_long_first stop piece [] long = ([], ap (λ b. cond b (piece ∷ []) []) (too_long_is_line stop piece long))
+too_long_first stop piece (next ∷ pieces) long = (lines_of stop (next ∷ pieces), refl)
+
+too_long_joined : (stop : Stop) (piece : List ℕ) (pieces : List (List ℕ)) → MAX_LINE_BYTES < length piece
+    → (first : List ℕ) × (more : List (List ℕ)) × (lines_of stop (joined (piece ∷ []) pieces) ≡ first ∷ more) × (MAX_LINE_BYTES < length first)
+too_long_joined stop piece [] long = let first = too_long_first stop piece [] long in (piece, first.0, first.1, long)
+too_long_joined stop piece (next ∷ pieces) long =
+    let longer : MAX_LINE_BYTES < length (piece ++ next) = omega (arith, length-append piece next) in
+    let first = too_long_first stop (piece ++ next) pieces longer in (piece ++ next, first.0, first.1, longer)
+
+-- Where the source stopped before the end of the file, and one of its lines is a fault, that stands, whatever follows.
+module _ (stop other : Stop) (end : FileEnd) (fault : end ≡ end_by stop → ⊥) (cut : (count : ℕ) → is_line stop count ≡ nat_lt MAX_LINE_BYTES count) where
+  last_stands : (b : Bool) (piece : List ℕ) → is_line stop (length piece) ≡ b → (pieces : List (List ℕ)) (number given : ℕ) (events : List Event)
+      → Reads number given (cond b (piece ∷ []) []) stop events end → Reads number given (lines_of other (joined (piece ∷ []) pieces)) other events end
+  last_stands false piece is pieces number given events reads = absurd (fault reads.1)
+  last_stands true piece is pieces number given events (inl reads) =
+      let first = too_long_joined other piece pieces reads.0 in rw first.2 (inl (first.3, reads.1, reads.2))
+  last_stands true piece is pieces number given events (inr reads) =
+      let long : MAX_LINE_BYTES < length piece = ltb-true MAX_LINE_BYTES (length piece) (sym (cut (length piece)) ∙ is) in absurd (omega (arith, reads.0))
+
+  -- behind the same line
+  behind_line : (line : List ℕ) (lines others : List (List ℕ)) → ((number given : ℕ) (events : List Event) → Reads number given lines stop events end → Reads number given others other events end)
+      → (number given : ℕ) (events : List Event) → Reads number given (line ∷ lines) stop events end → Reads number given (line ∷ others) other events end
+  behind_line line lines others on number given events (inl long) = inl long
+  behind_line line lines others on number given events (inr (fits, inl passed)) = inr (fits, inl (passed.0, on (number + 1) given events passed.1))
+  behind_line line lines others on number given events (inr (fits, inr (inl (e, is, inl r)))) =
+      inr (fits, inr (inl (e, is, inl (r.0, r.1, r.2, on (number + 1) (given + 1) r.0 r.3))))
+  behind_line line lines others on number given events (inr (fits, inr (inl (e, is, inr many)))) = inr (fits, inr (inl (e, is, inr many)))
+  behind_line line lines others on number given events (inr (fits, inr (inr bad))) = inr (fits, inr (inr bad))
+
+  fault_stands : (pieces more : List (List ℕ)) (number given : ℕ) (events : List Event)
+      → Reads number given (lines_of stop pieces) stop events end → Reads number given (lines_of other (joined pieces more)) other events end
+  fault_stands [] more number given events reads = absurd (fault reads.1)
+  fault_stands (piece ∷ []) more number given events reads = last_stands (is_line stop (length piece)) piece refl more number given events reads
+  fault_stands (piece ∷ (next ∷ pieces)) more number given events reads =
+      rw (first_of other piece (joined (next ∷ pieces) more) (joined_some next pieces more))
+      (behind_line piece (lines_of stop (next ∷ pieces)) (lines_of other (joined (next ∷ pieces) more))
+      (λ n g es r. fault_stands (next ∷ pieces) more n g es r) number given events reads)
 
 seam_at : (limit : ℕ) (got rest : List ℕ) → length got ≤ limit → take limit (got ++ rest) ≡ got ++ take (limit - length got) rest
 seam_at limit got rest fits =
     let e : limit ≡ length got + (limit - length got) = omega arith in
     ap (λ n. take n (got ++ rest)) e ∙ take-append-add got rest (limit - length got)
 
-bad_within : (got rest : List ℕ) (events : List Event) (n : ℕ) → length got ≤ MAX_FILE_BYTES → Reads 1 (whole_lines got) ReadFault events (file.BadLine n)
-    → File (got ++ rest) events (file.BadLine n)
-bad_within got rest events n fits reads =
-    let all = all_front got rest in
-    let seam : take (MAX_FILE_BYTES - 0) (got ++ rest) ≡ got ++ take (MAX_FILE_BYTES - length got) rest = seam_at MAX_FILE_BYTES got rest fits in
-    let whole = whole_front got (take (MAX_FILE_BYTES - length got) rest) in (
-      (λ _. rw all.1 (bad_line_stands 1 (whole_lines got) all.0 ReadFault Whole events n reads)),
-      (λ _. rw (seam, whole.1) (bad_line_stands 1 (whole_lines got) whole.0 ReadFault TooBig events n reads)),
-    )
+module _ (end : FileEnd) (fault : end ≡ file.ReadFault → ⊥) (got rest : List ℕ) (events : List Event) where
+  fault_within : length got ≤ MAX_FILE_BYTES → Reads 1 0 (lines_until ReadFault got) ReadFault events end → File (got ++ rest) events end
+  fault_within fits reads =
+      let seam : take (MAX_FILE_BYTES - 0) (got ++ rest) ≡ got ++ take (MAX_FILE_BYTES - length got) rest = seam_at MAX_FILE_BYTES got rest fits in
+      let behind = take (MAX_FILE_BYTES - length got) rest in (
+        (λ _. rw (split_joined got rest) (fault_stands ReadFault Whole end fault (λ count. refl) (slice_split is_newline got) (slice_split is_newline rest) 1 0 events reads)),
+        (λ _. rw (seam, split_joined got behind) (fault_stands ReadFault TooBig end fault (λ count. refl) (slice_split is_newline got) (slice_split is_newline behind) 1 0 events reads)),
+      )
 
-bad_past : (got rest : List ℕ) (events : List Event) (n : ℕ) → MAX_FILE_BYTES < length got → Reads 1 (whole_lines (take (MAX_FILE_BYTES - 0) got)) TooBig events (file.BadLine n)
-    → File (got ++ rest) events (file.BadLine n)
-bad_past got rest events n big reads =
-    let long = length-append got rest in
-    let cut : take (MAX_FILE_BYTES - 0) (got ++ rest) ≡ take (MAX_FILE_BYTES - 0) got = take-append-le (MAX_FILE_BYTES - 0) got rest (omega arith) in
-    ((λ fits. absurd (omega arith)), (λ _. rw cut reads))
+  fault_past : MAX_FILE_BYTES < length got → Reads 1 0 (lines_until TooBig (take (MAX_FILE_BYTES - 0) got)) TooBig events end → File (got ++ rest) events end
+  fault_past big reads =
+      let long = length-append got rest in
+      let cut : take (MAX_FILE_BYTES - 0) (got ++ rest) ≡ take (MAX_FILE_BYTES - 0) got = take-append-le (MAX_FILE_BYTES - 0) got rest (omega arith) in
+      ((λ fits. absurd (omega arith)), (λ _. rw cut reads))
 
--- a line of no meaning before a read fault is one of the whole file
-bad_before_fault : (got rest : List ℕ) (events : List Event) (n : ℕ) → FileFrom 1 0 got ReadFault events (file.BadLine n) → File (got ++ rest) events (file.BadLine n)
-bad_before_fault got rest events n script =
-    ⊎_elim (λ big. bad_past got rest events n big (script.1 (omega arith))) (λ fits. bad_within got rest events n fits (script.0 (omega arith))) (cases_lt MAX_FILE_BYTES (length got))
+  -- a fault before a read fault is that of the whole file
+  pub fault_before : FileFrom 1 0 0 got ReadFault events end → File (got ++ rest) events end
+  fault_before script =
+      ⊎_elim (λ big. fault_past big (script.1 (omega arith))) (λ fits. fault_within fits (script.0 (omega arith))) (cases_lt MAX_FILE_BYTES (length got))
 
 abbrev rest_of : Option (List ℕ) → List ℕ
 rest_of None = []
@@ -98,42 +137,42 @@ rest_none None e = refl
 rest_none (Some x) e = e
 
 module _ (before after : Option (List ℕ)) (got : List ℕ) (events : List Event) (consumed : Consumes before after got) where
-  run_whole : (end : FileEnd) → (rest_of after ≡ []) → FileFrom 1 0 (got ++ []) Whole events end → File (got ++ rest_of after) events end
-  run_whole end none script = subst (λ (l : List ℕ). FileFrom 1 0 (got ++ l) Whole events end) (sym none) script
+  run_whole : (end : FileEnd) → (rest_of after ≡ []) → FileFrom 1 0 0 (got ++ []) Whole events end → File (got ++ rest_of after) events end
+  run_whole end none script = subst (λ (l : List ℕ). FileFrom 1 0 0 (got ++ l) Whole events end) (sym none) script
 
   -- by the way that the source stopped
+  file_is : (stop : Stop) (end : FileEnd) → (end ≡ file.ReadFault → ⊥) → (stop ≡ Whole → IsAtEnd after)
+      → ((more : List ℕ) (last : Stop) → MayFollow (Some stop) more last → FileFrom 1 0 0 (got ++ more) last events end)
+      → (bytes : List ℕ) × MayBe before bytes × File bytes events end
+  file_is Whole end fault at_end script = (got ++ rest_of after, told_is before after got consumed, run_whole end (rest_none after (at_end refl)) (script [] Whole (refl, refl)))
+  file_is TooBig end fault at_end script = (got ++ rest_of after, told_is before after got consumed, script (rest_of after) Whole tt)
+  file_is ReadFault end fault at_end script = (
+    got ++ rest_of after,
+    told_is before after got consumed,
+    fault_before end fault got (rest_of after) events (subst (λ (l : List ℕ). FileFrom 1 0 0 l ReadFault events end) (append-nil got) (script [] ReadFault (refl, refl))),
+  )
+
   run_is : (stop : Stop) (end : FileEnd) → EndsBy stop end → (stop ≡ Whole → IsAtEnd after)
-      → ((more : List ℕ) (last : Stop) → MayFollow (Some stop) more last → FileFrom 1 0 (got ++ more) last events end)
+      → ((more : List ℕ) (last : Stop) → MayFollow (Some stop) more last → FileFrom 1 0 0 (got ++ more) last events end)
       → IsRun before end (length got) events
-  run_is Whole file.Whole by at_end script = (got ++ rest_of after, told_is before after got consumed, run_whole file.Whole (rest_none after (at_end refl)) (script [] Whole (refl, refl)))
-  run_is Whole (file.BadLine n) by at_end script =
-      (got ++ rest_of after, told_is before after got consumed, run_whole (file.BadLine n) (rest_none after (at_end refl)) (script [] Whole (refl, refl)))
-  run_is Whole file.TooBig by at_end script = absurd cc
-  run_is Whole file.ReadFault by at_end script = absurd cc
-  run_is TooBig file.TooBig by at_end script = (got ++ rest_of after, told_is before after got consumed, script (rest_of after) Whole tt)
-  run_is TooBig (file.BadLine n) by at_end script = (got ++ rest_of after, told_is before after got consumed, script (rest_of after) Whole tt)
-  run_is TooBig file.Whole by at_end script = absurd cc
-  run_is TooBig file.ReadFault by at_end script = absurd cc
+  run_is stop file.Whole by at_end script = file_is stop file.Whole (λ e. cc) at_end script
+  run_is stop (file.BadLine n) by at_end script = file_is stop (file.BadLine n) (λ e. cc) at_end script
+  run_is stop (file.LineTooLong n) by at_end script = file_is stop (file.LineTooLong n) (λ e. cc) at_end script
+  run_is stop file.TooBig by at_end script = file_is stop file.TooBig (λ e. cc) at_end script
+  run_is stop file.TooMany by at_end script = file_is stop file.TooMany (λ e. cc) at_end script
   run_is ReadFault file.ReadFault by at_end script = (
     got ++ rest_of after,
     told_is before after got consumed,
     omega (arith, length-append got (rest_of after)),
-    subst (λ (l : List ℕ). FileFrom 1 0 l ReadFault events file.ReadFault) (append-nil got ∙ sym (take_at got (rest_of after) (length got) refl)) (script [] ReadFault (refl, refl)),
+    subst (λ (l : List ℕ). FileFrom 1 0 0 l ReadFault events file.ReadFault) (append-nil got ∙ sym (take_at got (rest_of after) (length got) refl)) (script [] ReadFault (refl, refl)),
   )
-  run_is ReadFault (file.BadLine n) by at_end script = (
-    got ++ rest_of after,
-    told_is before after got consumed,
-    bad_before_fault got (rest_of after) events n (subst (λ (l : List ℕ). FileFrom 1 0 l ReadFault events (file.BadLine n)) (append-nil got) (script [] ReadFault (refl, refl))),
-  )
-  run_is ReadFault file.Whole by at_end script = absurd cc
-  run_is ReadFault file.TooBig by at_end script = absurd cc
-  run_is stop (file.LineTooLong n) by at_end script = absurd by
-  run_is stop file.TooMany by at_end script = absurd by
+  run_is Whole file.ReadFault by at_end script = absurd cc
+  run_is TooBig file.ReadFault by at_end script = absurd cc
   run_is stop file.NotOpened by at_end script = absurd by
 
 -- Where the reader was new, what it read is the run of its file.
 pub run_of : {S : Type 0} (left : S → Option (List ℕ)) (source : S) (now : Reading S) (first : ℕ) (got : List ℕ) (events : List Event) (end : FileEnd)
-    → Moves left (record { source = source; number = 1; offset = 0; pending = []; taken = 0; first_faults = first; stopped = None; ended = None }) now got events
+    → Moves left (record { source = source; number = 1; given = 0; offset = 0; pending = []; taken = 0; first_faults = first; stopped = None; ended = None }) now got events
     → now.ended ≡ Some end → StoppedBy now.stopped end → (now.stopped ≡ Some Whole → IsAtEnd (left now.source))
     → IsRun (left source) end now.taken events
 run_of left source now first got events end moves ended by at_end =
@@ -142,12 +181,12 @@ run_of left source now first got events end moves ended by at_end =
     come : (more : List ℕ) (last : Stop) → Comes now more last [] end
     come more last =
         let Given : Option FileEnd → Type 0 = λ e. MatchOption e
-        (MatchOption now.stopped (FileFrom now.number now.offset (now.pending ++ more) last [] end) (λ stop. Reads now.number (lines_until stop now.pending) stop [] end))
+        (MatchOption now.stopped (FileFrom now.number now.given now.offset (now.pending ++ more) last [] end) (λ stop. Reads now.number now.given (lines_until stop now.pending) stop [] end))
         (λ ended. ◌≡◌ {A = List Event} [] [] × (end ≡ ended)) in
         subst Given (sym ended) (refl, refl)
 
-    answers : (stop : Stop) → now.stopped ≡ Some stop → (more : List ℕ) (last : Stop) → MayFollow (Some stop) more last → FileFrom 1 0 (got ++ more) last events end
-    answers stop is more last may = subst (λ (es : List Event). FileFrom 1 0 (got ++ more) last es end) (append-nil events) (moves.answers more last [] end (rw is may) (come more last))
+    answers : (stop : Stop) → now.stopped ≡ Some stop → (more : List ℕ) (last : Stop) → MayFollow (Some stop) more last → FileFrom 1 0 0 (got ++ more) last events end
+    answers stop is more last may = subst (λ (es : List Event). FileFrom 1 0 0 (got ++ more) last es end) (append-nil events) (moves.answers more last [] end (rw is may) (come more last))
 
     stopped_cases : (s : Option Stop) → now.stopped ≡ s → StoppedBy s end → IsRun (left source) end (length got) events
     stopped_cases None is by' = absurd by'

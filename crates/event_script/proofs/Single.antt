@@ -47,27 +47,33 @@ not_both line (event.SetText l m text) is passed = is
 not_both line (event.OpenScope l p) is passed = is
 not_both line (event.Release l) is passed = is
 
-reads_single : (number : ℕ) (lines : List (List ℕ)) (stop : Stop) (events others : List Event) (end other : FileEnd) → Reads number lines stop events end
-    → Reads number lines stop others other → (events ≡ others) × (end ≡ other)
-reads_single number [] stop events others end other r s = (r.0 ∙ sym s.0, r.1 ∙ sym s.1)
-reads_single number (l ∷ ls) stop events others end other (inl r) (inl s) = reads_single (number + 1) ls stop events others end other r.1 s.1
-reads_single number (l ∷ ls) stop events others end other (inl r) (inr (inl s)) = absurd (not_both l s.0 s.1.1 r.0)
-reads_single number (l ∷ ls) stop events others end other (inl r) (inr (inr s)) = absurd (s.0.not_passed r.0)
-reads_single number (l ∷ ls) stop events others end other (inr (inl r)) (inl s) = absurd (not_both l r.0 r.1.1 s.0)
-reads_single number (l ∷ ls) stop events others end other (inr (inl r)) (inr (inl s)) =
-    let same = one_event l r.0 s.0 r.1.1 s.1.1 in
-    let rest = reads_single (number + 1) ls stop r.1.0 s.1.0 end other r.1.3 s.1.3 in
-    (r.1.2 ∙ rw (same, rest.0) refl ∙ sym s.1.2, rest.1)
-reads_single number (l ∷ ls) stop events others end other (inr (inl r)) (inr (inr s)) = absurd (s.0.no_event r.0 r.1.1)
-reads_single number (l ∷ ls) stop events others end other (inr (inr r)) (inl s) = absurd (r.0.not_passed s.0)
-reads_single number (l ∷ ls) stop events others end other (inr (inr r)) (inr (inl s)) = absurd (r.0.no_event s.0 s.1.1)
-reads_single number (l ∷ ls) stop events others end other (inr (inr r)) (inr (inr s)) = (r.1 ∙ sym s.1, r.2 ∙ sym s.2)
+reads_single : (number given : ℕ) (lines : List (List ℕ)) (stop : Stop) (events others : List Event) (end other : FileEnd) → Reads number given lines stop events end
+    → Reads number given lines stop others other → (events ≡ others) × (end ≡ other)
+reads_single number given [] stop events others end other r s = (r.0 ∙ sym s.0, r.1 ∙ sym s.1)
+reads_single number given (l ∷ ls) stop events others end other (inl r) (inl s) = (r.1 ∙ sym s.1, r.2 ∙ sym s.2)
+reads_single number given (l ∷ ls) stop events others end other (inl r) (inr s) = absurd (omega (arith, r.0, s.0))
+reads_single number given (l ∷ ls) stop events others end other (inr r) (inl s) = absurd (omega (arith, r.0, s.0))
+reads_single number given (l ∷ ls) stop events others end other (inr (f, inl r)) (inr (g, inl s)) = reads_single (number + 1) given ls stop events others end other r.1 s.1
+reads_single number given (l ∷ ls) stop events others end other (inr (f, inl r)) (inr (g, inr (inl s))) = absurd (not_both l s.0 s.1 r.0)
+reads_single number given (l ∷ ls) stop events others end other (inr (f, inl r)) (inr (g, inr (inr s))) = absurd (s.0.not_passed r.0)
+reads_single number given (l ∷ ls) stop events others end other (inr (f, inr (inl r))) (inr (g, inl s)) = absurd (not_both l r.0 r.1 s.0)
+reads_single number given (l ∷ ls) stop events others end other (inr (f, inr (inl (e, is, inl r)))) (inr (g, inr (inl (e', is', inl s)))) =
+    let same = one_event l e e' is is' in
+    let rest = reads_single (number + 1) (given + 1) ls stop r.0 s.0 end other r.3 s.3 in
+    (r.2 ∙ rw (same, rest.0) refl ∙ sym s.2, rest.1)
+reads_single number given (l ∷ ls) stop events others end other (inr (f, inr (inl (e, is, inl r)))) (inr (g, inr (inl (e', is', inr s)))) = absurd (omega (arith, r.1, s.0))
+reads_single number given (l ∷ ls) stop events others end other (inr (f, inr (inl (e, is, inr r)))) (inr (g, inr (inl (e', is', inl s)))) = absurd (omega (arith, r.0, s.1))
+reads_single number given (l ∷ ls) stop events others end other (inr (f, inr (inl (e, is, inr r)))) (inr (g, inr (inl (e', is', inr s)))) = (r.1 ∙ sym s.1, r.2 ∙ sym s.2)
+reads_single number given (l ∷ ls) stop events others end other (inr (f, inr (inl r))) (inr (g, inr (inr s))) = absurd (s.0.no_event r.0 r.1)
+reads_single number given (l ∷ ls) stop events others end other (inr (f, inr (inr r))) (inr (g, inl s)) = absurd (r.0.not_passed s.0)
+reads_single number given (l ∷ ls) stop events others end other (inr (f, inr (inr r))) (inr (g, inr (inl s))) = absurd (r.0.no_event s.0 s.1)
+reads_single number given (l ∷ ls) stop events others end other (inr (f, inr (inr r))) (inr (g, inr (inr s))) = (r.1 ∙ sym s.1, r.2 ∙ sym s.2)
 
-from_single : (number offset : ℕ) (bytes : List ℕ) (stop : Stop) (events others : List Event) (end other : FileEnd) → FileFrom number offset bytes stop events end
-    → FileFrom number offset bytes stop others other → (events ≡ others) × (end ≡ other)
-from_single number offset bytes stop events others end other r s =
-    ⊎_elim (λ big. reads_single _ _ _ events others end other (r.1 big) (s.1 big)) (λ fits. reads_single _ _ _ events others end other (r.0 fits) (s.0 fits)) (cases_lt MAX_FILE_BYTES (offset + length bytes))
+from_single : (number given offset : ℕ) (bytes : List ℕ) (stop : Stop) (events others : List Event) (end other : FileEnd) → FileFrom number given offset bytes stop events end
+    → FileFrom number given offset bytes stop others other → (events ≡ others) × (end ≡ other)
+from_single number given offset bytes stop events others end other r s =
+    ⊎_elim (λ big. reads_single _ _ _ _ events others end other (r.1 big) (s.1 big)) (λ fits. reads_single _ _ _ _ events others end other (r.0 fits) (s.0 fits)) (cases_lt MAX_FILE_BYTES (offset + length bytes))
 
-pub file_single : (bytes : List ℕ) (events others : List Event) (end other : FileEnd) → FileFrom 1 0 bytes Whole events end → FileFrom 1 0 bytes Whole others other
+pub file_single : (bytes : List ℕ) (events others : List Event) (end other : FileEnd) → FileFrom 1 0 0 bytes Whole events end → FileFrom 1 0 0 bytes Whole others other
     → (events ≡ others) × (end ≡ other)
-file_single bytes events others end other r s = from_single 1 0 bytes Whole events others end other r s
+file_single bytes events others end other r s = from_single 1 0 0 bytes Whole events others end other r s

@@ -4,6 +4,7 @@ use Rattle.std.specs.Str.Parse.{AllDigits, digits_value}
 use Rattle.stat_defs.specs.declared.events.Event.{Event}
 use Rattle.stat_defs.specs.declared.events.Event.TheVariants as event
 use Rattle.stat_defs.specs.Names.{IsLabel, IsLocalName}
+use Rattle.event_script.specs.declared.grammar.TheConstants.{MAX_LINE_BYTES}
 
 -- decimal digits without a sign and without leading zeros
 pub record IsNumber (text : List ℕ) (n : ℕ) : Type 0 where
@@ -38,6 +39,10 @@ IsLawful (event.Rec label name v) = ⊥
 IsLawful (event.SetText label name text) = ⊥
 IsLawful (event.OpenScope label prefix) = ⊥
 IsLawful (event.Release label) = ⊥
+
+-- a line says it that is no longer than a line may be
+abbrev pub HasLine : Event → Type 0
+HasLine e = (line : List ℕ) × ((length line ≤ MAX_LINE_BYTES) × IsLineOf line e)
 
 -- an empty line, or a comment: it begins with `#`
 abbrev pub IsPassedOver : List ℕ → Type 0

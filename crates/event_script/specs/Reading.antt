@@ -7,11 +7,13 @@ use Rattle.event_script.specs.declared.step.Stop.{Stop}
 use Rattle.event_script.specs.declared.step.Stop.TheVariants.{Whole, TooBig, ReadFault}
 use Rattle.event_script.specs.Script.{Reads, lines_until, FileFrom}
 
--- the source, the number of the next line, the bytes before it, the bytes that were taken and not yet read, the number of
--- all that were taken, the source's count of faults at the start, how the source stopped, and the end that was answered
+-- the source, the number of the next line, the numbers of events and of bytes before it, the bytes that were taken and not yet
+-- read, the number of all that were taken, the source's count of faults at the start, how the source stopped, and the end that
+-- was answered
 pub record Reading (S : Type 0) : Type 0 where
   pub source : S
   pub number : ℕ
+  pub given : ℕ
   pub offset : ℕ
   pub pending : List ℕ
   pub taken : ℕ
@@ -21,15 +23,15 @@ pub record Reading (S : Type 0) : Type 0 where
 
 -- nothing was taken from the source yet, whose count of faults is this
 abbrev pub unread : {S : Type 0} → S → ℕ → Reading S
-unread source faults = record { source = source; number = 1; offset = 0; pending = []; taken = 0; first_faults = faults; stopped = None; ended = None }
+unread source faults = record { source = source; number = 1; given = 0; offset = 0; pending = []; taken = 0; first_faults = faults; stopped = None; ended = None }
 
 -- the events and the end that are still to come, where these bytes are still to be taken and the source then stops so
 abbrev pub Comes : {S : Type 0} → Reading S → List ℕ → Stop → List Event → FileEnd → Type 0
 Comes r more last events end =
     MatchOption r.ended
     (MatchOption r.stopped
-    (FileFrom r.number r.offset (r.pending ++ more) last events end)
-    (λ stop. Reads r.number (lines_until stop r.pending) stop events end))
+    (FileFrom r.number r.given r.offset (r.pending ++ more) last events end)
+    (λ stop. Reads r.number r.given (lines_until stop r.pending) stop events end))
     (λ ended. (events ≡ []) × (end ≡ ended))
 
 -- nothing comes behind the end, or behind a fault
@@ -44,6 +46,7 @@ MayFollow (Some TooBig) more last = Unit {0}
 pub record Moves {S : Type 0} (left : S → Option (List ℕ)) (old new : Reading S) (got : List ℕ) (events : List Event) : Type 0 where
   pub consumed : Consumes (left old.source) (left new.source) got
   pub taken : new.taken ≡ old.taken + length got
+  pub given : new.given ≡ old.given + length events
   pub follows : (more : List ℕ) (last : Stop) → MayFollow new.stopped more last → MayFollow old.stopped (got ++ more) last
   pub answers : (more : List ℕ) (last : Stop) (others : List Event) (end : FileEnd) → MayFollow new.stopped more last
       → Comes new more last others end → Comes old (got ++ more) last (events ++ others) end

@@ -3,12 +3,14 @@ use Rattle.std.specs.Prelude.{◌≡◌, ◌≢◌, ◌<◌, ◌≤◌, ℕ, Boo
 use Rattle.std.specs.List.{list_all}
 use Rattle.event_script.specs.Grammar.{IsPassedOver, IsLineOf, IsNoLine}
 use Rattle.event_script.specs.declared.grammar.Said.{Said}
-use Rattle.event_script.specs.declared.grammar.Said.TheVariants.{Nothing, Event, NoLine}
+use Rattle.event_script.specs.declared.grammar.Said.TheVariants.{Nothing, Event, NoLine, TooLong}
+use Rattle.event_script.specs.declared.grammar.TheConstants.{MAX_LINE_BYTES}
 
 abbrev pub Says : List ℕ → Said → Type 0
-Says line Nothing = IsPassedOver line
-Says line (Event e) = IsLineOf line e
-Says line NoLine = IsNoLine line
+Says line Nothing = (length line ≤ MAX_LINE_BYTES) × IsPassedOver line
+Says line (Event e) = (length line ≤ MAX_LINE_BYTES) × IsLineOf line e
+Says line NoLine = (length line ≤ MAX_LINE_BYTES) × IsNoLine line
+Says line TooLong = MAX_LINE_BYTES < length line
 
 -- so many bytes that pass the test stand first, and then one that doesn't or none
 pub record IsRunOf (test : ℕ → Bool) (text : List ℕ) (count : ℕ) : Type 0 where

@@ -1,38 +1,32 @@
 -- The events and the end of an event file. This project's own.
-use Rattle.std.specs.Prelude.{◌≡◌, ◌<◌, ◌≤◌, ◌+◌, ◌-◌, ◌⊎◌, ℕ, ◌==◌, if◌then◌else◌, List, [], ◌∷◌, length, take}
+use Rattle.std.specs.Prelude.{◌≡◌, ◌<◌, ◌≤◌, ◌+◌, ◌-◌, ◌⊎◌, ℕ, ◌==◌, nat_lt, Bool, if◌then◌else◌, List, [], ◌∷◌, length, take}
+use Rattle.std.specs.List.{slice_split}
 use Rattle.stat_defs.specs.declared.events.Event.{Event}
 use Rattle.stat_defs.specs.declared.reports.FileEnd.{FileEnd}
 use Rattle.stat_defs.specs.declared.reports.FileEnd.TheVariants as file
 use Rattle.event_script.specs.declared.step.Stop.{Stop}
 use Rattle.event_script.specs.declared.step.Stop.TheVariants.{Whole, TooBig, ReadFault}
 use Rattle.event_script.specs.declared.pulling.TheConstants.{MAX_FILE_BYTES}
+use Rattle.event_script.specs.declared.grammar.TheConstants.{MAX_LINE_BYTES}
+use Rattle.event_script.specs.declared.cutting.TheConstants.{MAX_EVENTS}
 use Rattle.event_script.specs.Grammar.{IsPassedOver, IsLineOf, IsNoLine}
 
--- a byte goes onto the first line behind it; where no newline comes, there is no whole line
-abbrev pub onto_line : ℕ → List (List ℕ) → List (List ℕ)
-onto_line b [] = []
-onto_line b (line ∷ lines) = (b ∷ line) ∷ lines
+-- A piece of so many bytes behind which no newline stands is a line at the end of the file, where it is not empty. Where the
+-- bytes stopped before that end, it is one only if it has more bytes than a line may have.
+abbrev pub is_line : Stop → ℕ → Bool
+is_line Whole count = nat_lt 0 count
+is_line TooBig count = nat_lt MAX_LINE_BYTES count
+is_line ReadFault count = nat_lt MAX_LINE_BYTES count
 
--- the lines whose newline is there, without it
-abbrev pub whole_lines : List ℕ → List (List ℕ)
-whole_lines [] = []
-whole_lines (b ∷ bs) = if b == 10 then [] ∷ whole_lines bs else onto_line b (whole_lines bs)
+-- the pieces are lines, but the last only where it is one
+abbrev pub lines_of : Stop → List (List ℕ) → List (List ℕ)
+lines_of stop [] = []
+lines_of stop (piece ∷ []) = if is_line stop (length piece) then piece ∷ [] else []
+lines_of stop (piece ∷ (next ∷ pieces)) = piece ∷ lines_of stop (next ∷ pieces)
 
--- a byte with no line behind it is a line of its own
-abbrev pub begin_line : ℕ → List (List ℕ) → List (List ℕ)
-begin_line b [] = (b ∷ []) ∷ []
-begin_line b (line ∷ lines) = (b ∷ line) ∷ lines
-
--- the lines, and a last piece without a newline where it is not empty
-abbrev pub all_lines : List ℕ → List (List ℕ)
-all_lines [] = []
-all_lines (b ∷ bs) = if b == 10 then [] ∷ all_lines bs else begin_line b (all_lines bs)
-
--- the last piece is a line only where the file was read to its end
+-- the lines of these bytes, which are split at each newline
 abbrev pub lines_until : Stop → List ℕ → List (List ℕ)
-lines_until Whole bytes = all_lines bytes
-lines_until TooBig bytes = whole_lines bytes
-lines_until ReadFault bytes = whole_lines bytes
+lines_until stop bytes = lines_of stop (slice_split (λ b. b == 10) bytes)
 
 -- how a file ends whose lines were all read
 abbrev pub end_by : Stop → FileEnd
@@ -40,27 +34,38 @@ end_by Whole = file.Whole
 end_by TooBig = file.TooBig
 end_by ReadFault = file.ReadFault
 
--- What the lines say, the first of them having that number: each is passed over, is an event, or is the fault that ends the
--- file. Where none is a fault the file ends as the bytes stopped.
-abbrev pub Reads : ℕ → List (List ℕ) → Stop → List Event → FileEnd → Type 0
-Reads number [] stop events end = (events ≡ []) × (end ≡ end_by stop)
-Reads number (line ∷ lines) stop events end =
-    (IsPassedOver line × Reads (number + 1) lines stop events end)
-    ⊎ (((e : Event) × ((rest : List Event) × IsLineOf line e × (events ≡ e ∷ rest) × Reads (number + 1) lines stop rest end))
-    ⊎ (IsNoLine line × (events ≡ []) × (end ≡ file.BadLine number)))
+-- The event comes, and then what comes behind it; or it is one too many, since so many stand before it, and ends the file.
+abbrev pub Gives : Event → ℕ → (List Event → Type 0) → List Event → FileEnd → Type 0
+Gives e given Behind events end =
+    ((rest : List Event) × (given < MAX_EVENTS) × (events ≡ e ∷ rest) × Behind rest)
+    ⊎ ((MAX_EVENTS ≤ given) × (events ≡ []) × (end ≡ file.TooMany))
 
--- The same of the bytes of a file behind its first `offset` ones: past the limit only the lines within it count.
-abbrev pub FileFrom : ℕ → ℕ → List ℕ → Stop → List Event → FileEnd → Type 0
-FileFrom number offset bytes stop events end =
-    (offset + length bytes ≤ MAX_FILE_BYTES → Reads number (lines_until stop bytes) stop events end)
-    × (MAX_FILE_BYTES < offset + length bytes → Reads number (whole_lines (take (MAX_FILE_BYTES - offset) bytes)) TooBig events end)
+-- What the lines say, the first of them having that number, and so many events standing before it. A line is too long, and ends
+-- the file; or it is no longer than a line may be, and passed over, or an event, or of no meaning, and ends the file. Where no
+-- line ends the file, it ends as the bytes stopped.
+abbrev pub Reads : ℕ → ℕ → List (List ℕ) → Stop → List Event → FileEnd → Type 0
+Reads number given [] stop events end = (events ≡ []) × (end ≡ end_by stop)
+Reads number given (line ∷ lines) stop events end =
+    ((MAX_LINE_BYTES < length line) × (events ≡ []) × (end ≡ file.LineTooLong number))
+    ⊎ ((length line ≤ MAX_LINE_BYTES) × (
+    (IsPassedOver line × Reads (number + 1) given lines stop events end)
+    ⊎ (((e : Event) × IsLineOf line e × Gives e given (λ rest. Reads (number + 1) (given + 1) lines stop rest end) events end)
+    ⊎ (IsNoLine line × (events ≡ []) × (end ≡ file.BadLine number)))))
 
--- The events and the end of a file of these bytes. Its lines are numbered from 1; the fault at the least byte ends it: a line
--- of no meaning at its newline, or at the end of the file, and the byte that is one too many.
+-- The same of the bytes of a file behind its first `offset` ones. Past the limit of a file only the bytes within it count, and
+-- where no fault stands at one of them the file is too big.
+abbrev pub FileFrom : ℕ → ℕ → ℕ → List ℕ → Stop → List Event → FileEnd → Type 0
+FileFrom number given offset bytes stop events end =
+    (offset + length bytes ≤ MAX_FILE_BYTES → Reads number given (lines_until stop bytes) stop events end)
+    × (MAX_FILE_BYTES < offset + length bytes → Reads number given (lines_until TooBig (take (MAX_FILE_BYTES - offset) bytes)) TooBig events end)
+
+-- The events and the end of a file of these bytes. Its lines are numbered from 1; the fault at the least byte ends it: the byte
+-- that the file has too many; the byte that a line has too many; the newline, or the end of the file, behind a line of no
+-- meaning, and behind the event that is one too many. Where two stand at one byte, the first of these ends it.
 abbrev pub File : List ℕ → List Event → FileEnd → Type 0
-File bytes events end = FileFrom 1 0 bytes Whole events end
+File bytes events end = FileFrom 1 0 0 bytes Whole events end
 
 -- The events of a file that could not be read on behind these bytes: those of the lines whose newline is there, where no fault
 -- stands at one of these bytes.
 abbrev pub FileToFault : List ℕ → List Event → Type 0
-FileToFault bytes events = FileFrom 1 0 bytes ReadFault events file.ReadFault
+FileToFault bytes events = FileFrom 1 0 0 bytes ReadFault events file.ReadFault

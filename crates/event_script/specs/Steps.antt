@@ -18,7 +18,9 @@ abbrev pub events_of : Result Step NoMemory → List Event
 events_of (Ok (step.Event e)) = e ∷ []
 events_of (Ok step.End) = []
 events_of (Ok (step.BadLine n)) = []
+events_of (Ok (step.LineTooLong n)) = []
 events_of (Ok step.TooBig) = []
+events_of (Ok step.TooMany) = []
 events_of (Ok step.ReadFault) = []
 events_of (Err e) = []
 
@@ -27,7 +29,9 @@ abbrev pub end_of : Result Step NoMemory → Option FileEnd
 end_of (Ok (step.Event e)) = None
 end_of (Ok step.End) = Some file.Whole
 end_of (Ok (step.BadLine n)) = Some (file.BadLine n)
+end_of (Ok (step.LineTooLong n)) = Some (file.LineTooLong n)
 end_of (Ok step.TooBig) = Some file.TooBig
+end_of (Ok step.TooMany) = Some file.TooMany
 end_of (Ok step.ReadFault) = Some file.ReadFault
 end_of (Err e) = None
 
@@ -39,7 +43,9 @@ abbrev pub IfEvent : Result Step NoMemory → Type 0 → Type 0
 IfEvent (Ok (step.Event e)) fact = fact
 IfEvent (Ok step.End) fact = Unit {0}
 IfEvent (Ok (step.BadLine n)) fact = Unit {0}
+IfEvent (Ok (step.LineTooLong n)) fact = Unit {0}
 IfEvent (Ok step.TooBig) fact = Unit {0}
+IfEvent (Ok step.TooMany) fact = Unit {0}
 IfEvent (Ok step.ReadFault) fact = Unit {0}
 IfEvent (Err e) fact = Unit {0}
 
@@ -51,20 +57,20 @@ Answers answer end = (events_of answer ≡ []) × (end_of answer ≡ Some end)
 abbrev pub CanAnswer : FileEnd → Type 0
 CanAnswer file.Whole = Unit {0}
 CanAnswer (file.BadLine n) = Unit {0}
+CanAnswer (file.LineTooLong n) = Unit {0}
 CanAnswer file.TooBig = Unit {0}
+CanAnswer file.TooMany = Unit {0}
 CanAnswer file.ReadFault = Unit {0}
-CanAnswer (file.LineTooLong n) = ⊥
-CanAnswer file.TooMany = ⊥
 CanAnswer file.NotOpened = ⊥
 
--- the end is that of the source, or a line of no meaning
+-- the end is that of the source, or a fault of a line
 abbrev pub EndsBy : Stop → FileEnd → Type 0
 EndsBy stop (file.BadLine n) = Unit {0}
+EndsBy stop (file.LineTooLong n) = Unit {0}
+EndsBy stop file.TooMany = Unit {0}
 EndsBy stop file.Whole = end_by stop ≡ file.Whole
 EndsBy stop file.TooBig = end_by stop ≡ file.TooBig
 EndsBy stop file.ReadFault = end_by stop ≡ file.ReadFault
-EndsBy stop (file.LineTooLong n) = ⊥
-EndsBy stop file.TooMany = ⊥
 EndsBy stop file.NotOpened = ⊥
 
 -- why the file ended so: the source has nothing left, or its count of faults rose
@@ -73,11 +79,11 @@ Explains left first faults file.Whole = IsAtEnd left
 Explains left first faults file.ReadFault = Rose first faults
 Explains left first faults (file.BadLine n) = Unit {0}
 Explains left first faults file.TooBig = Unit {0}
-Explains left first faults (file.LineTooLong n) = ⊥
-Explains left first faults file.TooMany = ⊥
+Explains left first faults (file.LineTooLong n) = Unit {0}
+Explains left first faults file.TooMany = Unit {0}
 Explains left first faults file.NotOpened = ⊥
 
--- the source had stopped, and the end is its end or a line of no meaning
+-- the source had stopped, and the end is its end or a fault of a line
 abbrev pub StoppedBy : Option Stop → FileEnd → Type 0
 StoppedBy None end = ⊥
 StoppedBy (Some stop) end = EndsBy stop end
@@ -99,7 +105,7 @@ IfFoundEvent (Ok (found.Ended end)) fact = Unit {0}
 IfFoundEvent (Err e) fact = Unit {0}
 
 -- what comes behind it: nothing behind an end
-abbrev pub Follows : Result Found NoMemory → ℕ → List (List ℕ) → Stop → List Event → FileEnd → Type 0
-Follows (Ok (found.Event e)) number lines stop events end = Reads number lines stop events end
-Follows (Ok (found.Ended ended)) number lines stop events end = (events ≡ []) × (end ≡ ended)
-Follows (Err e) number lines stop events end = Reads number lines stop events end
+abbrev pub Follows : Result Found NoMemory → ℕ → ℕ → List (List ℕ) → Stop → List Event → FileEnd → Type 0
+Follows (Ok (found.Event e)) number given lines stop events end = Reads number given lines stop events end
+Follows (Ok (found.Ended ended)) number given lines stop events end = (events ≡ []) × (end ≡ ended)
+Follows (Err e) number given lines stop events end = Reads number given lines stop events end

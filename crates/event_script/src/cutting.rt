@@ -1,18 +1,30 @@
 //! Lines, cut from the bytes of a file.
 ghost use Rattle.std.specs.Prelude.{◌≡◌, ◌<◌, ◌≤◌, ◌+◌, ◌∷◌, ◌++◌, [], ℕ, List, Ok, Err, All, MatchOption, length, drop, IfOk};
 ghost use Rattle.event_script.specs.declared.pulling.TheConstants as limits;
+ghost use Rattle.event_script.specs.declared.cutting.TheConstants as cutting;
 ghost use Rattle.event_script.specs.Script.{lines_until, Reads};
 ghost use Rattle.event_script.specs.Script as script;
-ghost use Rattle.event_script.specs.Grammar.{IsLawful, Lacks};
+ghost use Rattle.event_script.specs.Grammar.{IsLawful, HasLine, Lacks};
 ghost use Rattle.event_script.specs.Steps.{events_found, IfFoundEnd, IfFoundEvent, Follows, EndsBy};
 ghost use Rattle.stat_defs.specs.declared.events.Event.{Event};
 ghost use Rattle.stat_defs.specs.declared.reports.FileEnd.{FileEnd};
 
-use crate::grammar::{Said, line_of};
+use crate::grammar::{MAX_LINE_BYTES, Said, line_of};
 use crate::step::{Found, Stop};
 use memchr::memchr;
 use stat_defs::{FileEnd, NoMemory};
 use std::alloc::Global;
+
+/// A file gives at most so many events.
+pub const MAX_EVENTS: u64 = 131_072;
+
+// Where a reader stands: the place of the next line, its number, and how many events were given before it.
+#[derive(Clone, Copy, Debug)]
+pub struct Place {
+    pub at: usize,
+    pub number: u64,
+    pub given: u64,
+}
 
 // The bytes before the first newline, and those after it.
 fn split_at_newline(bytes: &[u8]) -> Option<(&[u8], &[u8])>
@@ -25,6 +37,17 @@ fn split_at_newline(bytes: &[u8]) -> Option<(&[u8], &[u8])>
     Some((&bytes[..at], &bytes[at + 1..]))
 }
 
+// Whether so many bytes behind the last newline are a line.
+fn is_line(stopped: Stop, count: usize) -> bool
+    ensures { result ≡ script.is_line stopped count }
+{
+    match stopped {
+        Stop::Whole => count > 0,
+        Stop::TooBig => count > MAX_LINE_BYTES,
+        Stop::ReadFault => count > MAX_LINE_BYTES,
+    }
+}
+
 // The first line, and how many bytes it takes.
 fn first_line(bytes: &[u8], stopped: Stop) -> Option<(&[u8], usize)>
     ensures { MatchOption result (lines_until stopped bytes.now ≡ [])
@@ -33,14 +56,10 @@ fn first_line(bytes: &[u8], stopped: Stop) -> Option<(&[u8], usize)>
     if let Some((line, _)) = split_at_newline(bytes) {
         return Some((line, line.len() + 1));
     }
-    if bytes.is_empty() {
+    if !is_line(stopped, bytes.len()) {
         return None;
     }
-    match stopped {
-        Stop::Whole => Some((bytes, bytes.len())),
-        Stop::TooBig => None,
-        Stop::ReadFault => None,
-    }
+    Some((bytes, bytes.len()))
 }
 
 // How a file ends whose lines were all read.
@@ -59,32 +78,40 @@ pub fn read_on(
     alloc: Global,
     bytes: &[u8],
     stopped: Stop,
-    at: &mut usize,
-    number: &mut u64,
+    place: &mut Place,
 ) -> Result<Found, NoMemory>
-    requires within { at.old ≤ length bytes.now }
-    requires numbered { number.old ≤ at.old + 1 }
+    requires within { place.old.at ≤ length bytes.now }
+    requires numbered { place.old.number ≤ place.old.at + 1 }
     requires short { length bytes.now ≤ limits.MAX_FILE_BYTES }
-    ensures within { at.new ≤ length bytes.now }
-    ensures numbered { number.new ≤ at.new + 1 }
-    ensures event { IfFoundEvent result (number.old < number.new) }
+    requires few { place.old.given ≤ cutting.MAX_EVENTS }
+    ensures within { place.new.at ≤ length bytes.now }
+    ensures numbered { place.new.number ≤ place.new.at + 1 }
+    ensures few { place.new.given ≤ cutting.MAX_EVENTS }
+    ensures given { place.new.given ≡ place.old.given + length (events_found result) }
+    ensures event { IfFoundEvent result (place.old.number < place.new.number) }
     ensures lawful { All IsLawful (events_found result) }
+    ensures line { All HasLine (events_found result) }
     ensures ends { IfFoundEnd result (λ end. EndsBy stopped end) }
-    ensures reads { (events : List Event) (end : FileEnd) → Follows result number.new (lines_until stopped (drop at.new bytes.now)) stopped events end
-        → Reads number.old (lines_until stopped (drop at.old bytes.now)) stopped (events_found result ++ events) end }
+    ensures reads { (events : List Event) (end : FileEnd) → Follows result place.new.number place.new.given (lines_until stopped (drop place.new.at bytes.now)) stopped events end
+        → Reads place.old.number place.old.given (lines_until stopped (drop place.old.at bytes.now)) stopped (events_found result ++ events) end }
 {
-    while let Some((line, count)) = first_line(&bytes[*at..], stopped) {
+    while let Some((line, count)) = first_line(&bytes[place.at..], stopped) {
         match line_of(alloc, line)? {
             Said::Nothing => {
-                *at += count;
-                *number += 1;
+                place.at += count;
+                place.number += 1;
             }
             Said::Event(event) => {
-                *at += count;
-                *number += 1;
+                if place.given == MAX_EVENTS {
+                    return Ok(Found::Ended(FileEnd::TooMany));
+                }
+                place.at += count;
+                place.number += 1;
+                place.given += 1;
                 return Ok(Found::Event(event));
             }
-            Said::NoLine => return Ok(Found::Ended(FileEnd::BadLine(*number))),
+            Said::NoLine => return Ok(Found::Ended(FileEnd::BadLine(place.number))),
+            Said::TooLong => return Ok(Found::Ended(FileEnd::LineTooLong(place.number))),
         }
     }
     Ok(Found::Ended(end_by(stopped)))

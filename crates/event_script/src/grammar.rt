@@ -10,12 +10,16 @@ ghost use Rattle.std.specs.Char.{digit_value};
 use stat_defs::{Event, MAX_LABEL_BYTES, MAX_NAME_BYTES, NoMemory, Txt};
 use std::alloc::Global;
 
-// What a line says: nothing, an event, or nothing that is a line of an event file.
+/// A line of an event file has at most so many bytes, without its newline.
+pub const MAX_LINE_BYTES: usize = 1_024;
+
+// What a line says: nothing, an event, or nothing that is a line of an event file; or it is too long to be read.
 #[derive(Drop, Debug)]
 pub enum Said {
     Nothing,
     Event(Event),
     NoLine,
+    TooLong,
 }
 
 // The number that the digits say, at most `most`.
@@ -158,6 +162,9 @@ fn inc_parts(line: &[u8]) -> Option<(&[u8], &[u8], u32)>
 pub fn line_of(alloc: Global, line: &[u8]) -> Result<Said, NoMemory>
     ensures { IfOk result (λ said. Says line.now said) }
 {
+    if line.len() > MAX_LINE_BYTES {
+        return Ok(Said::TooLong);
+    }
     if line.is_empty() || line[0] == b'#' {
         return Ok(Said::Nothing);
     }

@@ -1,11 +1,11 @@
 //! Laws of the definitions, each the contract of a function that does nothing.
-ghost use Rattle.std.specs.Prelude.{◌≡◌, ◌++◌, ℕ, List, Some};
+ghost use Rattle.std.specs.Prelude.{◌≡◌, ◌≢◌, ◌++◌, ℕ, List, Some};
 ghost use Rattle.std.specs.Io.KnownBytes.{IsAtEnd};
 ghost use Rattle.event_script.specs.Reading.{Reading, Moves, unread};
 ghost use Rattle.event_script.specs.Run.{IsRun};
 ghost use Rattle.event_script.specs.Steps.{StoppedBy};
 ghost use Rattle.event_script.specs.declared.step.Stop.{Stop};
-ghost use Rattle.event_script.specs.Script.{File};
+ghost use Rattle.event_script.specs.Script.{File, FileFrom};
 ghost use Rattle.stat_defs.specs.declared.events.Event.{Event};
 ghost use Rattle.stat_defs.specs.declared.reports.FileEnd.{FileEnd};
 
@@ -14,6 +14,13 @@ use stats_io::Source;
 /// A file has one list of events and one end.
 pub fn file_is_single_valued()
     ensures { (bytes : List ℕ) (events others : List Event) (end other : FileEnd) → File bytes events end → File bytes others other → (events ≡ others) × (end ≡ other) }
+{}
+
+/// The fault at the least byte stands: one that is found before a read fault is that of the whole file, whatever else the file
+/// holds.
+pub fn first_fault_stands()
+    ensures { (bytes more : List ℕ) (events : List Event) (end : FileEnd) → FileFrom 1 0 0 bytes Stop.ReadFault events end → end ≢ FileEnd.ReadFault
+        → File (bytes ++ more) events end }
 {}
 
 /// Two calls in a row took and gave what one would have.

@@ -1,14 +1,15 @@
 //! The events of a file, one after another.
 ghost use Rattle.std.specs.Prelude.{◌≡◌, ◌<◌, ◌≤◌, ◌+◌, [], ℕ, List, Some, None, All, IfOk};
 ghost use Rattle.event_script.specs.Reading.{Moves, unread};
-ghost use Rattle.event_script.specs.Grammar.{IsLawful};
+ghost use Rattle.event_script.specs.Grammar.{IsLawful, HasLine};
 ghost use Rattle.event_script.specs.Steps.{events_of, IfEnded, IfEvent, Answers, Explains, StoppedBy};
 ghost use Rattle.event_script.specs.declared.step.Stop.{Stop};
 ghost use Rattle.event_script.specs.declared.pulling.TheConstants as limits;
+ghost use Rattle.event_script.specs.declared.cutting.TheConstants as cutting;
 ghost use Rattle.stat_defs.specs.declared.reports.FileEnd.{FileEnd};
 ghost use Rattle.std.specs.Io.KnownBytes.{IsAtEnd};
 
-use crate::cutting::read_on;
+use crate::cutting::{Place, read_on};
 use crate::pulling::{MAX_FILE_BYTES, pull_all};
 use crate::step::{Found, Step, Stop, answer_of};
 use stat_defs::{FileEnd, NoMemory};
@@ -24,11 +25,9 @@ use std::marker::Model;
 #[derive(Drop)]
 pub struct Lines<S: Source> {
     source: S,
-    // The bytes of the file so far, within its limit, and the place of the next line.
+    // The bytes of the file so far, within its limit.
     bytes: Vec<u8>,
-    at: usize,
-    // The number of the next line.
-    number: u64,
+    place: Place,
     taken: u64,
     first_faults: u64,
     stopped: Option<Stop>,
@@ -43,9 +42,10 @@ impl<S: Source> Model for Lines<S> {
 
     ghost view = { λ l. record {
       source = l.source;
-      number = l.number;
-      offset = l.at;
-      pending = drop l.at l.bytes.items;
+      number = l.place.number;
+      given = l.place.given;
+      offset = l.place.at;
+      pending = drop l.place.at l.bytes.items;
       taken = l.taken;
       first_faults = l.first_faults;
       stopped = l.stopped;
@@ -54,7 +54,7 @@ impl<S: Source> Model for Lines<S> {
 
     ghost use Rattle.event_script.specs.Keeping.{IsKept};
 
-    ghost invariant = { λ l. IsKept l.bytes.items l.at l.number l.taken l.first_faults l.stopped l.ended (S.left l.source) (S.faults l.source) };
+    ghost invariant = { λ l. IsKept l.bytes.items l.place l.taken l.first_faults l.stopped l.ended (S.left l.source) (S.faults l.source) };
 }
 
 impl<S: Source> Lines<S> {
@@ -66,8 +66,11 @@ impl<S: Source> Lines<S> {
         Ok(Lines {
             source,
             bytes: Vec::new(alloc),
-            at: 0,
-            number: 1,
+            place: Place {
+                at: 0,
+                number: 1,
+                given: 0,
+            },
             taken: 0,
             first_faults,
             stopped: None,
@@ -82,8 +85,7 @@ impl<S: Source> Lines<S> {
         let Lines {
             source,
             bytes: _,
-            at: _,
-            number: _,
+            place: _,
             taken: _,
             first_faults: _,
             stopped: _,
@@ -105,7 +107,7 @@ impl<S: Source> Lines<S> {
         ensures moved { (got : List ℕ) × Moves S.left self.old self.new got [] }
         ensures stopped { IfOk result (λ stopped. self.new.stopped ≡ Some stopped) }
         ensures whole { self.new.stopped ≡ Some Stop.Whole → IsAtEnd (S.left self.new.source) }
-        ensures same { (self.new.ended ≡ self.old.ended) × (self.new.number ≡ self.old.number) × (self.new.first_faults ≡ self.old.first_faults) }
+        ensures same { (self.new.ended ≡ self.old.ended) × (self.new.number ≡ self.old.number) × (self.new.given ≡ self.old.given) × (self.new.first_faults ≡ self.old.first_faults) }
         ensures origin { S.origin self.new.source ≡ S.origin self.old.source }
         ensures later { S.faults self.old.source ≤ S.faults self.new.source }
     {
@@ -125,6 +127,8 @@ impl<S: Source> Lines<S> {
         ensures ended { IfEnded result (λ end. self.new.ended ≡ Some end) }
         ensures event { IfEvent result (self.old.number < self.new.number) }
         ensures lawful { All IsLawful (events_of result) }
+        ensures line { All HasLine (events_of result) }
+        ensures few { self.new.given ≤ cutting.MAX_EVENTS }
         ensures bound { self.new.number ≤ limits.MAX_FILE_BYTES + 1 }
         ensures explained { IfEnded result (λ end. Explains (S.left self.new.source) self.new.first_faults (S.faults self.new.source) end) }
         ensures by { IfEnded result (λ end. StoppedBy self.new.stopped end) }
@@ -132,7 +136,7 @@ impl<S: Source> Lines<S> {
         ensures source { self.new.source ≡ self.old.source }
         ensures first { self.new.first_faults ≡ self.old.first_faults }
     {
-        match read_on(alloc, &self.bytes, stopped, &mut self.at, &mut self.number)? {
+        match read_on(alloc, &self.bytes, stopped, &mut self.place)? {
             Found::Event(event) => Ok(Step::Event(event)),
             Found::Ended(end) => {
                 self.ended = Some(end);
@@ -145,8 +149,11 @@ impl<S: Source> Lines<S> {
     ///
     /// - The answers are the events and the end of `File` of the file's bytes, however the source cuts them; before a read fault
     ///   they are those of `FileToFault` of the bytes that were taken, and the unfinished last line is dropped (`moved`).
-    /// - Every event is lawful, also of a source that does not tell its bytes, and each has a line of its own, of which a file
-    ///   has at most [`MAX_FILE_BYTES`] (`lawful`, `event`, `bound`).
+    /// - The first fault of the file's bytes ends it: a line that is too long at the byte that it has too many, also where no
+    ///   newline came behind it (`moved`).
+    /// - Every event is lawful, also of a source that does not tell its bytes, and has a line of its own of at most
+    ///   [`MAX_LINE_BYTES`](crate::MAX_LINE_BYTES); a file has at most [`MAX_FILE_BYTES`] lines (`lawful`, `line`, `event`, `bound`).
+    /// - At most [`MAX_EVENTS`](crate::MAX_EVENTS) events are given (`few`), which the reader counts (`moved`).
     /// - An end of the file is answered again by each later call, which changes nothing (`ended`, `again`).
     /// - `End` comes only where the source has nothing left, and `ReadFault` only where its count of faults rose since
     ///   [`new`](Lines::new) (`explained`, `by`, `whole`).
@@ -159,6 +166,8 @@ impl<S: Source> Lines<S> {
         ensures again { (end : FileEnd) → self.old.ended ≡ Some end → Answers result end × (self.new ≡ self.old) }
         ensures event { IfEvent result (self.old.number < self.new.number) }
         ensures lawful { All IsLawful (events_of result) }
+        ensures line { All HasLine (events_of result) }
+        ensures few { self.new.given ≤ cutting.MAX_EVENTS }
         ensures bound { self.new.number ≤ limits.MAX_FILE_BYTES + 1 }
         ensures explained { IfEnded result (λ end. Explains (S.left self.new.source) self.new.first_faults (S.faults self.new.source) end) }
         ensures by { IfEnded result (λ end. StoppedBy self.new.stopped end) }

@@ -12,8 +12,12 @@ pub enum Step {
     End,
     /// The line of that number is none of an event file.
     BadLine(u64),
+    /// The line of that number has more than [`MAX_LINE_BYTES`](crate::MAX_LINE_BYTES).
+    LineTooLong(u64),
     /// The file has more than [`MAX_FILE_BYTES`](crate::MAX_FILE_BYTES).
     TooBig,
+    /// The file has more than [`MAX_EVENTS`](crate::MAX_EVENTS).
+    TooMany,
     /// The source failed.
     ReadFault,
 }
@@ -44,8 +48,10 @@ pub fn answer_of(end: FileEnd) -> Step
     match end {
         FileEnd::Whole => Step::End,
         FileEnd::BadLine(number) => Step::BadLine(number),
+        FileEnd::LineTooLong(number) => Step::LineTooLong(number),
         FileEnd::TooBig => Step::TooBig,
+        FileEnd::TooMany => Step::TooMany,
         FileEnd::ReadFault => Step::ReadFault,
-        FileEnd::LineTooLong(_) | FileEnd::TooMany | FileEnd::NotOpened => unreachable!(),
+        FileEnd::NotOpened => unreachable!(),
     }
 }

@@ -35,7 +35,12 @@ fn tell(alloc: Global, told: &mut Vec<u8>, step: &Step) -> Result<(), NoMemory> 
             told.extend_from_slice(b"bad ")?;
             told.extend_from_slice(number.to_string(alloc)?.as_bytes())?;
         }
+        Step::LineTooLong(number) => {
+            told.extend_from_slice(b"long ")?;
+            told.extend_from_slice(number.to_string(alloc)?.as_bytes())?;
+        }
         Step::TooBig => told.extend_from_slice(b"too big")?,
+        Step::TooMany => told.extend_from_slice(b"too many")?,
         Step::ReadFault => told.extend_from_slice(b"read fault")?,
     }
     Ok(())
@@ -219,21 +224,143 @@ fn read_faults(rt: HostRuntime) -> Result<(), NoMemory> {
     assert_fault(&rt, rt.alloc(), b"bogus\ninc root a 1\n", 7, 1, b"bad 1", 7)
 }
 
-#[test]
-fn file_of_the_greatest_size(rt: HostRuntime) -> Result<(), NoMemory> {
-    let alloc = rt.alloc();
-    let mut comment = bytes_of(alloc, b'#', 1_023)?;
-    comment.push(b'\n')?;
-    let mut file = Vec::new(alloc);
-    for _ in 0..8_192 {
-        file.extend_from_slice(&comment)?;
+// That text, so many times.
+fn repeated(alloc: Global, text: &[u8], count: usize) -> Result<Vec<u8>, NoMemory> {
+    let mut bytes = Vec::new(alloc);
+    for _ in 0..count {
+        bytes.extend_from_slice(text)?;
     }
-    let mut lines = lines_of(alloc, &file, 65_536, Vec::new(alloc))?;
-    let told = told_by(alloc, &mut lines)?;
-    assert!(rt; told.as_slice() == b"end".as_slice(), "8,388,608 bytes");
-    file.push(b'\n')?;
-    let mut lines = lines_of(alloc, &file, 65_536, Vec::new(alloc))?;
-    let told = told_by(alloc, &mut lines)?;
-    assert!(rt; told.as_slice() == b"too big".as_slice(), "one byte more");
+    Ok(bytes)
+}
+
+// What a byte of a row stands for: 3 and 5 for 1,023 and 1,022 times `#`, 4 for 8,190 lines of the first, each of 1,024 bytes with
+// its newline, 6 for 131,072 events, and any other for itself.
+fn stands_for(alloc: Global, byte: u8) -> Result<Vec<u8>, NoMemory> {
+    match byte {
+        3 => bytes_of(alloc, b'#', 1_023),
+        4 => {
+            let mut comment = bytes_of(alloc, b'#', 1_023)?;
+            comment.push(b'\n')?;
+            repeated(alloc, &comment, 8_190)
+        }
+        5 => bytes_of(alloc, b'#', 1_022),
+        6 => repeated(alloc, b"inc r a 1\n", 131_072),
+        other => bytes_of(alloc, other, 1),
+    }
+}
+
+fn spelled_out(alloc: Global, row: &[u8]) -> Result<Vec<u8>, NoMemory> {
+    let mut file = Vec::new(alloc);
+    for b in row {
+        file.extend_from_slice(&stands_for(alloc, *b)?)?;
+    }
+    Ok(file)
+}
+
+// How many events came, and the end.
+fn count_by(alloc: Global, lines: &mut Lines<MemSource>) -> Result<Vec<u8>, NoMemory> {
+    let mut count = 0u64;
+    let mut told = Vec::new(alloc);
+    for _ in 0..200_000 {
+        let step = lines.next(alloc)?;
+        if !matches!(&step, Step::Event(_)) {
+            told.extend_from_slice(count.to_string(alloc)?.as_bytes())?;
+            told.push(b' ')?;
+            tell(alloc, &mut told, &step)?;
+            return Ok(told);
+        }
+        count = count.saturating_add(1);
+    }
+    Ok(told)
+}
+
+// Asserts the number of events and the end of a row's file, and what they are where the source fails behind its bytes.
+fn assert_limits(
+    rt: &impl Abort,
+    alloc: Global,
+    row: &[u8],
+    piece: usize,
+    number: u64,
+) -> Result<(), NoMemory> {
+    let (short, wants) = parts_of(row);
+    let (want, want_at_fault) = parts_of(wants);
+    let file = spelled_out(alloc, short)?;
+    let mut lines = lines_of(alloc, &file, piece, Vec::new(alloc))?;
+    let told = count_by(alloc, &mut lines)?;
+    assert!(rt; told.as_slice() == want, "row {number} by {piece}");
+    let again = told_by(alloc, &mut lines)?;
+    assert!(rt; want.ends_with(&again), "row {number} by {piece}, again");
+    let mut fails = Vec::new(alloc);
+    fails.push(file.len().div_ceil(piece.max(1)) as u64)?;
+    let mut lines = lines_of(alloc, &file, piece, fails)?;
+    let told = count_by(alloc, &mut lines)?;
+    assert!(rt;
+        told.as_slice() == want_at_fault,
+        "row {number} by {piece}, at a fault"
+    );
+    Ok(())
+}
+
+// Rows parted by the byte 2: the file, how many events it gives and its end, and the same where the source fails behind its bytes.
+const LONG_LINES: &[u8] = b"\
+\x03#\n\x010 end\x010 read fault\x02\
+\x03##\n\x010 long 1\x010 long 1\x02\
+\x03#\x010 end\x010 read fault\x02\
+\x03##\x010 long 1\x010 long 1\x02\
+x\x03\n\x010 bad 1\x010 bad 1\x02\
+x\x03#\n\x010 long 1\x010 long 1\x02\
+x\x03\x010 bad 1\x010 read fault\x02\
+x\x03#\x010 long 1\x010 long 1\x02\
+inc root a 1\n\x03#\ninc root a 2\n\x012 end\x012 read fault\x02\
+inc root a 1\n\x03##\x011 long 2\x011 long 2\x02\
+inc root a 1\nx\x03\x011 bad 2\x011 read fault\x02\
+inc root a 1\n\n\x03\x03\ninc root a 2\n\x011 long 3\x011 long 3\x02\
+inc root a\x03 1\n\x010 long 1\x010 long 1\x02\
+bogus\n\x03##\n\x010 bad 1\x010 bad 1\x02\
+\x03##\nbogus\n\x010 long 1\x010 long 1";
+
+#[test]
+fn long_lines(rt: HostRuntime) -> Result<(), NoMemory> {
+    let mut rows = 0u64;
+    for row in LONG_LINES.split(|b| *b == 2) {
+        for piece in [1, 2, 5, 65_536] {
+            assert_limits(&rt, rt.alloc(), row, piece, rows)?;
+        }
+        rows = rows.saturating_add(1);
+    }
+    assert_eq!(rt; rows, 15);
+    Ok(())
+}
+
+// The same of files at the limits of bytes and of events.
+const GREAT_FILES: &[u8] = b"\
+\x04\x03\n\x03\n\x010 end\x010 read fault\x02\
+\x04\x03\n\x03\n\n\x010 too big\x010 too big\x02\
+\x04\x03\n\x03#\x010 end\x010 read fault\x02\
+\x04\x03\n\x03##\x010 too big\x010 too big\x02\
+\x04\x05\n\x03##\x010 long 8192\x010 long 8192\x02\
+\x04\x05\n\x03###\x010 long 8192\x010 long 8192\x02\
+\x04\x03\nx\x03\x010 bad 8192\x010 read fault\x02\
+\x04\x03\nx\x03\n\x010 too big\x010 too big\x02\
+\x04\x05\nx\x03\n\x010 bad 8192\x010 bad 8192\x02\
+\x04\x05\nx\x03\n#\x010 bad 8192\x010 bad 8192\x02\
+\x06\x01131072 end\x01131072 read fault\x02\
+\x06# x\n\n\x01131072 end\x01131072 read fault\x02\
+\x06inc r a 1\n\x01131072 too many\x01131072 too many\x02\
+\x06inc r a 1\x01131072 too many\x01131072 read fault\x02\
+\x06# x\ninc r a 1\nbogus\n\x01131072 too many\x01131072 too many\x02\
+\x06inc r a 1\n\x03##\x01131072 too many\x01131072 too many\x02\
+\x06bogus\n\x01131072 bad 131073\x01131072 bad 131073\x02\
+\x06bogus\x01131072 bad 131073\x01131072 read fault\x02\
+\x06\x03##\x01131072 long 131073\x01131072 long 131073";
+
+#[test]
+fn great_files(rt: HostRuntime) -> Result<(), NoMemory> {
+    let mut rows = 0u64;
+    for row in GREAT_FILES.split(|b| *b == 2) {
+        assert_limits(&rt, rt.alloc(), row, 65_536, rows)?;
+        rows = rows.saturating_add(1);
+    }
+    assert_eq!(rt; rows, 19);
     Ok(())
 }

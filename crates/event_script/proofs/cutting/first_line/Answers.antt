@@ -1,7 +1,7 @@
-use Rattle.std.proofs.Common.{rules, ◌≡◌, ◌<◌, ◌+◌, ◌∷◌, arith, length, ap, ◌∙◌}
+use Rattle.std.proofs.Common.{◌≡◌, ◌+◌, ◌∷◌, true, arith, length, ap, sym, ◌∙◌}
 use Rattle.std.proofs.lemmas.List.{length-append}
-use Rattle.event_script.proofs.CutLines.{cut_until, last_line, none_until}
-use Rattle.event_script.specs.declared.step.Stop.TheVariants.{TooBig, ReadFault}
+use Rattle.event_script.specs.Script.{is_line}
+use Rattle.event_script.proofs.CutLines.{cut_until, last_until, none_until, line_has_bytes}
 use Rattle.event_script.proofs.cutting.first_line.Goals as goal
 
 pub returns-in-Some : goal.returns-in-Some
@@ -11,13 +11,10 @@ returns-in-Some c =
     let long : length c.args.bytes.now ≡ length line + length (10 ∷ rest) = ap length c.in-Some.ensures.1 ∙ length-append line (10 ∷ rest) in
     (omega arith, omega arith, cut_until c.args.stopped c.args.bytes.now line rest c.in-Some.ensures.0 c.in-Some.ensures.1)
 
-pub returns-in-Whole : goal.returns-in-Whole
-returns-in-Whole c =
-    let some : 0 < length c.args.bytes.now = search rules in
-    (some, omega arith, rw c.in-Whole.is (last_line c.args.bytes.now c.in_default.ensures some))
+pub returns-then-not-is_line : goal.returns-then-not-is_line
+returns-then-not-is_line c = none_until c.args.stopped c.args.bytes.now c.in_default.ensures (sym c.if-not-is_line.ensures)
 
-pub returns-in-TooBig : goal.returns-in-TooBig
-returns-in-TooBig c = rw c.in-TooBig.is (none_until TooBig c.args.bytes.now c.in_default.ensures (λ e. cc))
-
-pub returns-in-ReadFault : goal.returns-in-ReadFault
-returns-in-ReadFault c = rw c.in-ReadFault.is (none_until ReadFault c.args.bytes.now c.in_default.ensures (λ e. cc))
+pub returns : goal.returns
+returns c =
+    let is : is_line c.args.stopped (length c.args.bytes.now) ≡ true = sym c.if-not-is_line.ensures in
+    (line_has_bytes c.args.stopped (length c.args.bytes.now) is, omega arith, last_until c.args.stopped c.args.bytes.now c.in_default.ensures is)
