@@ -1,6 +1,5 @@
--- What a build answers, and which member of a list is at fault. This project's own.
-use Rattle.std.specs.Prelude.{◌≡◌, ◌⊎◌, List, Result, Ok, Err, slice_get}
-use Rattle.std.specs.Option.{IsSomeAnd}
+-- What a build answers, and which patterns it makes. This project's own.
+use Rattle.std.specs.Prelude.{◌≡◌, ℕ, ◌++◌, List, [], ◌∷◌, Some, Result, Ok, Err, slice_get, take, flat_map}
 use Rattle.stat_defs.specs.declared.configs.Pattern.{Pattern}
 use Rattle.stat_defs.specs.declared.configs.Pattern.TheVariants as pattern
 use Rattle.stat_defs.specs.declared.configs.Rule.{Rule}
@@ -12,35 +11,56 @@ use Rattle.tag_rules.specs.declared.fault.MakeFault.TheVariants as make
 use Rattle.tag_rules.specs.declared.fault.TagFault.{TagFault}
 use Rattle.tag_rules.specs.declared.fault.TagFault.TheVariants.{BadPattern, NoMemory}
 use Rattle.tag_rules.specs.Admission.{whole}
-use Rattle.tag_rules.specs.Making.{Memory, Refuses}
+use Rattle.tag_rules.specs.Making.{Memory, Refuses, after_making}
 
--- the text of the pattern, or the text that matches whole names, was refused; only regular expressions are
-abbrev pub IsPatternRefused : Memory → Memory → Pattern → Type 0
-IsPatternRefused old new (pattern.SafeRegex text) = Refuses text old new ⊎ Refuses (whole text) old new
-IsPatternRefused old new (pattern.Exact text) = ⊥
-IsPatternRefused old new (pattern.Prefix text) = ⊥
-IsPatternRefused old new (pattern.Suffix text) = ⊥
-IsPatternRefused old new (pattern.Contains text) = ⊥
+-- the texts of the regular expressions that a pattern asks for, in order: its own, and the one that matches whole names
+abbrev pub pattern_texts : Pattern → List (List ℕ)
+pattern_texts (pattern.SafeRegex text) = text ∷ whole text ∷ []
+pattern_texts (pattern.Exact text) = []
+pattern_texts (pattern.Prefix text) = []
+pattern_texts (pattern.Suffix text) = []
+pattern_texts (pattern.Contains text) = []
 
-abbrev pub IsSettingRefused : Memory → Memory → BucketSpec → Type 0
-IsSettingRefused old new setting = IsPatternRefused old new setting.pattern
+-- those that a bucket setting asks for
+abbrev pub setting_texts : BucketSpec → List (List ℕ)
+setting_texts setting = pattern_texts setting.pattern
 
-abbrev pub IsRefusedIn : Memory → Memory → Rule → Type 0
-IsRefusedIn old new (rule.Regex text) = Refuses text old new
-IsRefusedIn old new (rule.Fixed value) = ⊥
+abbrev pub texts_in : Rule → List (List ℕ)
+texts_in (rule.Regex text) = text ∷ []
+texts_in (rule.Fixed value) = []
 
-abbrev pub IsRuleRefused : Memory → Memory → TagSpec → Type 0
-IsRuleRefused old new spec = IsRefusedIn old new spec.rule
+-- those that a tag rule asks for: one, or none for a fixed value
+abbrev pub rule_texts : TagSpec → List (List ℕ)
+rule_texts spec = texts_in spec.rule
+
+-- the member at place i asks for `done`, `refused` and `rest`; the patterns of all members before it and those of `done`
+-- were made in order, and then `refused` was refused
+pub record IsCutAt {A : Type 0} (texts : A → List (List ℕ)) (members : List A) (old new : Memory) (i : ℕ) : Type 0 where
+  pub member : A
+  pub done : List (List ℕ)
+  pub refused : List ℕ
+  pub rest : List (List ℕ)
+  pub place : slice_get members i ≡ Some member
+  pub asks : texts member ≡ done ++ refused ∷ rest
+  pub refuses : Refuses refused old new
+  pub made : new.made ≡ old.made ++ (flat_map texts (take i members) ++ done)
+
+-- the patterns of a front of the texts were made in order, and none was refused
+pub record IsFrontMade (texts : List (List ℕ)) (old new : Memory) : Type 0 where
+  pub front : List (List ℕ)
+  pub rest : List (List ℕ)
+  pub asks : texts ≡ front ++ rest
+  pub made : new ≡ after_making front old
 
 -- one member is built; what was built is seen as the member
-abbrev pub BuildsOne : {A : Type 0} → (Memory → Memory → A → Type 0) → A → Memory → Memory → Result A MakeFault → Type 0
-BuildsOne IsRefused member old new (Ok built) = (built ≡ member) × (new ≡ old)
-BuildsOne IsRefused member old new (Err make.Refused) = IsRefused old new member
-BuildsOne IsRefused member old new (Err make.NoMemory) = new ≡ old
+abbrev pub BuildsOne : {A : Type 0} → (A → List (List ℕ)) → A → Memory → Memory → Result A MakeFault → Type 0
+BuildsOne texts member old new (Ok built) = (built ≡ member) × (new ≡ after_making (texts member) old)
+BuildsOne texts member old new (Err make.Refused) = IsCutAt texts (member ∷ []) old new 0
+BuildsOne texts member old new (Err make.NoMemory) = IsFrontMade (texts member) old new
 
 -- a setting with these members is built; what was built is seen as the setting, and a bad pattern is told by the place of
 -- its member
-abbrev pub Builds : {A B : Type 0} → (Memory → Memory → A → Type 0) → List A → B → Memory → Memory → Result B TagFault → Type 0
-Builds IsRefused members setting old new (Ok built) = (built ≡ setting) × (new ≡ old)
-Builds IsRefused members setting old new (Err (BadPattern i)) = IsSomeAnd (slice_get members i) (IsRefused old new)
-Builds IsRefused members setting old new (Err NoMemory) = new ≡ old
+abbrev pub Builds : {A B : Type 0} → (A → List (List ℕ)) → List A → B → Memory → Memory → Result B TagFault → Type 0
+Builds texts members setting old new (Ok built) = (built ≡ setting) × (new ≡ after_making (flat_map texts members) old)
+Builds texts members setting old new (Err (BadPattern i)) = IsCutAt texts members old new i
+Builds texts members setting old new (Err NoMemory) = IsFrontMade (flat_map texts members) old new

@@ -2,7 +2,7 @@
 ghost use Rattle.std.specs.Prelude.{◌≡◌, ◌<◌, ◌^◌, IfOk, IsUtf8, All, length, map};
 ghost use Rattle.tag_rules.specs.Admission.{IsReadable};
 ghost use Rattle.tag_rules.specs.Bounds.{bounds_for};
-ghost use Rattle.tag_rules.specs.Building.{BuildsOne, Builds, IsSettingRefused};
+ghost use Rattle.tag_rules.specs.Building.{BuildsOne, Builds, setting_texts};
 ghost use Rattle.tag_rules.specs.NameTests.{with_ok};
 ghost use Rattle.tag_rules.specs.Settings.{bucket_of};
 
@@ -68,7 +68,7 @@ impl Buckets {
     ) -> Result<Buckets, TagFault>
         requires readable { All (λ spec. IsReadable spec.pattern) specs.now }
         requires few { length specs.now < 2 ^ 32 }
-        ensures { Builds IsSettingRefused specs.now specs.now (K.memory maker.old) (K.memory maker.new) result }
+        ensures { Builds setting_texts specs.now specs.now (K.memory maker.old) (K.memory maker.new) result }
     {
         let mut settings = Vec::new(alloc);
         for (i, spec) in specs.iter().enumerate() {
@@ -114,7 +114,7 @@ impl BuiltSetting {
         spec: &BucketSpec,
     ) -> Result<BuiltSetting, MakeFault>
         requires { IsReadable spec.now.pattern }
-        ensures { BuildsOne IsSettingRefused spec.now (K.memory maker.old) (K.memory maker.new) (with_ok bucket_of result) }
+        ensures { BuildsOne setting_texts spec.now (K.memory maker.old) (K.memory maker.new) (with_ok bucket_of result) }
     {
         let bounds = copied(alloc, &spec.bounds)?;
         let test = NameTest::build(alloc, maker, &spec.pattern)?;

@@ -8,7 +8,8 @@ use std::alloc::Global;
 
 /// What makes patterns, and counts the texts that it refuses.
 pub trait PatternMaker {
-    /// The count of refusals, up to the last value of a `u64`, which never falls, and the text that was refused last.
+    /// The count of refusals, up to the last value of a `u64`, which never falls, the text that was refused last, and the
+    /// texts of the patterns that were made.
     ghost memory: { Self → Memory };
 
     /// Makes the pattern of a text.

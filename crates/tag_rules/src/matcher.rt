@@ -2,7 +2,7 @@
 ghost use Rattle.std.specs.Prelude.{◌≡◌, ◌<◌, ◌^◌, IfOk, IsUtf8, All, length, map};
 ghost use Rattle.std.specs.List.{list_any};
 ghost use Rattle.tag_rules.specs.Admission.{matches, admits, patterns_of, IsReadable};
-ghost use Rattle.tag_rules.specs.Building.{Builds, IsPatternRefused};
+ghost use Rattle.tag_rules.specs.Building.{Builds, pattern_texts};
 ghost use Rattle.tag_rules.specs.NameTests.{pattern_of, with_ok};
 
 use crate::fault::{MakeFault, TagFault};
@@ -45,7 +45,7 @@ impl Matcher {
     ) -> Result<Matcher, TagFault>
         requires readable { All IsReadable (patterns_of spec.now) }
         requires few { length (patterns_of spec.now) < 2 ^ 32 }
-        ensures { Builds IsPatternRefused (patterns_of spec.now) spec.now (K.memory maker.old) (K.memory maker.new) result }
+        ensures { Builds pattern_texts (patterns_of spec.now) spec.now (K.memory maker.old) (K.memory maker.new) result }
     {
         let tests = match spec {
             MatchSpec::AdmitAll => NameTests::AdmitAll,
@@ -95,7 +95,7 @@ fn build_each<K: PatternMaker>(
 ) -> Result<Vec<NameTest>, TagFault>
     requires readable { All IsReadable patterns.now }
     requires few { length patterns.now < 2 ^ 32 }
-    ensures { Builds IsPatternRefused patterns.now patterns.now (K.memory maker.old) (K.memory maker.new) (with_ok (λ v. map pattern_of v.items) result) }
+    ensures { Builds pattern_texts patterns.now patterns.now (K.memory maker.old) (K.memory maker.new) (with_ok (λ v. map pattern_of v.items) result) }
 {
     let mut tests = Vec::new(alloc);
     for (i, pattern) in patterns.iter().enumerate() {

@@ -1,7 +1,7 @@
 //! Patterns over whole names, ready to be used.
 ghost use Rattle.std.specs.Prelude.{◌≡◌, ◌==◌, IfOk};
 ghost use Rattle.tag_rules.specs.Admission.{matches, has_part, whole, IsReadable};
-ghost use Rattle.tag_rules.specs.Building.{BuildsOne, IsPatternRefused};
+ghost use Rattle.tag_rules.specs.Building.{BuildsOne, pattern_texts};
 ghost use Rattle.tag_rules.specs.NameTests.{pattern_of, with_ok};
 
 use crate::fault::MakeFault;
@@ -28,7 +28,7 @@ impl NameTest {
         pattern: &Pattern,
     ) -> Result<NameTest, MakeFault>
         requires { IsReadable pattern.now }
-        ensures { BuildsOne IsPatternRefused pattern.now (K.memory maker.old) (K.memory maker.new) (with_ok pattern_of result) }
+        ensures { BuildsOne pattern_texts pattern.now (K.memory maker.old) (K.memory maker.new) (with_ok pattern_of result) }
     {
         match pattern {
             Pattern::Exact(text) => Ok(NameTest::Exact(Txt::of(alloc, text.bytes())?)),

@@ -6,6 +6,7 @@ use crate::fault::MakeFault;
 use crate::maker::PatternMaker;
 use crate::pat::Pat;
 use crate::text::as_text;
+use http_server::Log;
 use regex::Error;
 use stat_defs::Txt;
 use std::alloc::Global;
@@ -19,9 +20,12 @@ pub struct RegexMaker {
     calls: u64,
     refusals: u64,
     last: Option<Txt>,
+    // The texts of the patterns that it made. Contracts alone read it, and it takes no memory.
+    made: Log<Txt, ()>,
 }
 
 impl Model for RegexMaker {
+    ghost use Rattle.std.specs.Prelude.{map};
     ghost use Rattle.tag_rules.specs.Making.{MakerState, last_of};
 
     ghost Value = { MakerState };
@@ -31,19 +35,21 @@ impl Model for RegexMaker {
       calls = m.calls;
       refusals = m.refusals;
       last = last_of m.last;
+      made = map (λ entry. entry.0) m.made.items;
     } };
 }
 
 impl RegexMaker {
     /// A maker that was not called yet. It takes no memory.
     pub fn new(fails: Vec<u64>) -> RegexMaker
-        ensures { result ≡ record { fails = fails.items; calls = 0; refusals = 0; last = [] } }
+        ensures { result ≡ record { fails = fails.items; calls = 0; refusals = 0; last = []; made = [] } }
     {
         RegexMaker {
             fails,
             calls: 0,
             refusals: 0,
             last: None,
+            made: Log::new(),
         }
     }
 
@@ -85,6 +91,7 @@ impl PatternMaker for RegexMaker {
         match Pat::new(alloc, as_text(text)) {
             Ok(pattern) => {
                 self.calls = call.saturating_add(1);
+                self.made = self.made.and(&copy, &());
                 Ok(pattern)
             }
             Err(Error::OutOfMemory) => Err(MakeFault::NoMemory),

@@ -1,6 +1,6 @@
 //! Which tags are drawn out of a name.
 ghost use Rattle.std.specs.Prelude.{◌≡◌, ◌<◌, ◌≤◌, ◌^◌, IfOk, IsUtf8, All, length, slice_range, map};
-ghost use Rattle.tag_rules.specs.Building.{BuildsOne, Builds, IsRuleRefused};
+ghost use Rattle.tag_rules.specs.Building.{BuildsOne, Builds, rule_texts};
 ghost use Rattle.tag_rules.specs.NameTests.{with_ok};
 ghost use Rattle.tag_rules.specs.Patterns.{IsPlaceIn};
 ghost use Rattle.tag_rules.specs.Rules.{spec_of};
@@ -54,7 +54,7 @@ impl TagRules {
     ) -> Result<TagRules, TagFault>
         requires readable { All IsReadableRule specs.now }
         requires few { length specs.now < 2 ^ 32 }
-        ensures { Builds IsRuleRefused specs.now specs.now (K.memory maker.old) (K.memory maker.new) result }
+        ensures { Builds rule_texts specs.now specs.now (K.memory maker.old) (K.memory maker.new) result }
     {
         let mut rules = Vec::new(alloc);
         for (i, spec) in specs.iter().enumerate() {
@@ -113,7 +113,7 @@ impl TagRule {
         spec: &TagSpec,
     ) -> Result<TagRule, MakeFault>
         requires { IsReadableRule spec.now }
-        ensures { BuildsOne IsRuleRefused spec.now (K.memory maker.old) (K.memory maker.new) (with_ok spec_of result) }
+        ensures { BuildsOne rule_texts spec.now (K.memory maker.old) (K.memory maker.new) (with_ok spec_of result) }
     {
         let tag_name = Txt::of(alloc, spec.tag_name.bytes())?;
         let rule = match &spec.rule {

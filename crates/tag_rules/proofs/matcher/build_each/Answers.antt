@@ -1,0 +1,21 @@
+use Rattle.std.proofs.lemmas.Result.{err_from_is_err_and}
+use Rattle.tag_rules.specs.Building.{pattern_texts}
+use Rattle.tag_rules.proofs.Made.{cut_at, front_made, all_made}
+use Rattle.tag_rules.proofs.matcher.build_each.Goals as goal
+
+pub returns-in-Err-Refused : goal.returns-in-Err-Refused
+returns-in-Err-Refused g c =
+    cut_at pattern_texts c.args.patterns.now c.loop-i.i c.index-patterns-i.result _ _ _ c.loop-i-test.true c.index-patterns-i.is c.loop-i.invariant.1
+    (rw c.in-Err-Refused.field-0-is at c.in-Err-Refused.ensures)
+
+pub returns-in-Err-NoMemory : goal.returns-in-Err-NoMemory
+returns-in-Err-NoMemory g c =
+    front_made pattern_texts c.args.patterns.now c.loop-i.i c.index-patterns-i.result _ _ _ c.loop-i-test.true c.index-patterns-i.is c.loop-i.invariant.1
+    (rw c.in-Err-NoMemory.field-0-is at c.in-Err-NoMemory.ensures)
+
+pub returns-in_err-push-in-Ok : goal.returns-in_err-push-in-Ok
+returns-in_err-push-in-Ok g c =
+    let p = err_from_is_err_and c.from_residual.result c.from_residual.ensures.1 in
+    rw (p.1, p.2)
+    (front_made pattern_texts c.args.patterns.now c.loop-i.i c.index-patterns-i.result _ _ _ c.loop-i-test.true c.index-patterns-i.is c.loop-i.invariant.1
+    (all_made (pattern_texts c.index-patterns-i.result) _ _ c.in-Ok.ensures.1))
