@@ -1,0 +1,19 @@
+//! Why a bootstrap was not loaded.
+
+use boot_file::BootFault;
+use stat_defs::Txt;
+
+/// Why a bootstrap was not loaded.
+#[derive(Drop, Debug)]
+pub enum LoadFault {
+    /// The file has more than [`MAX_BOOT_BYTES`](crate::MAX_BOOT_BYTES).
+    TooBig,
+    /// The first fault of the bootstrap.
+    Faulty(BootFault),
+    /// The pattern at that path was refused.
+    BadPattern(Txt),
+    /// The file could not be opened, or not be read to its end.
+    ReadFailed,
+    /// There was no memory.
+    NoMemory,
+}
