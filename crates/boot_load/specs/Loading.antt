@@ -6,6 +6,7 @@ use Rattle.boot_file.specs.declared.fault.BootFault.{BootFault}
 use Rattle.boot_file.specs.declared.fault.BootFault.TheVariants as wrong
 use Rattle.boot_file.specs.Boot.{boot}
 use Rattle.tag_rules.specs.Making.{Memory, Refuses}
+use Rattle.stats_io.specs.Told.{MayBe}
 use Rattle.boot_load.specs.Asking.{Asked, asked}
 use Rattle.boot_load.specs.declared.loading.Boot.{Boot}
 use Rattle.boot_load.specs.declared.fault.LoadFault.{LoadFault}

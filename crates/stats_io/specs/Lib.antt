@@ -3,3 +3,4 @@ pub mod Pushes
 pub mod Feed
 pub mod Files
 pub mod Edge
+pub mod Told
