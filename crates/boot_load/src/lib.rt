@@ -1,6 +1,7 @@
 //! The bootstrap of a program: read from a shelf, with its patterns built.
 #![tactic(auto)]
 
+mod building;
 mod fault;
 mod loading;
 mod reading;

@@ -1,0 +1,30 @@
+-- Bootstraps that are too big or faulty.
+use Rattle.std.proofs.Common.{ℕ, ◌≡◌, ◌≢◌, ◌<◌, ◌+◌, List, [], ◌++◌, Option, Some, None, Err, ◌⊎◌, inl, length, codes, inr, sym, ap, ◌∙◌, refl, arith}
+use Rattle.std.proofs.lemmas.List.{length-append}
+use Rattle.tag_rules.specs.Making.{Memory}
+use Rattle.boot_file.specs.Boot.{boot}
+use Rattle.boot_file.specs.Gives.{Gives}
+use Rattle.boot_file.specs.declared.fault.BootFault.{BootFault}
+use Rattle.boot_file.specs.declared.fault.BootFault.TheVariants as wrong
+use Rattle.boot_load.specs.declared.fault.LoadFault.{LoadFault}
+use Rattle.boot_load.specs.declared.fault.LoadFault.TheVariants as load
+use Rattle.stats_io.specs.Limits.{Grows}
+use Rattle.boot_load.specs.Loading.{ShelfMemory, IsRead, IsTooBig, Loads}
+use Rattle.boot_load.specs.declared.reading.TheConstants.{MAX_BOOT_BYTES}
+
+module _ {S : Type 0} (origin : S → List ℕ) (faults : S → ℕ) (name : List ℕ) (before after : ShelfMemory) (same : after ≡ before) (file : name ≢ codes "-") where
+  pub too_big : (content left : Option (List ℕ)) (bytes : List ℕ) → Grows content left [] bytes → MAX_BOOT_BYTES < length bytes → (maker : Memory)
+      → IsTooBig origin faults content name before after maker maker
+  too_big None left bytes grows long maker = record { bytes = bytes; bytes_are = inr (file, tt); long = long; shelf = same; maker = refl }
+  too_big (Some told) None bytes grows long maker = absurd grows.consumed
+  too_big (Some told) (Some rest) bytes grows long maker =
+      let whole : length told ≡ length bytes + length rest =
+          ap length grows.consumed ∙ length-append grows.got rest ∙ ap (λ (b : List ℕ). length b + length rest) (sym grows.appended) in
+      record { bytes = told; bytes_are = inr (file, refl); long = omega (arith, whole, long); shelf = same; maker = refl }
+
+module _ {S : Type 0} (origin : S → List ℕ) (faults : S → ℕ) (content : Option (List ℕ)) (name : List ℕ) (before after : ShelfMemory) where
+  pub unread : (bytes : List ℕ) (fault : BootFault) (told : LoadFault) → (fault ≢ wrong.NoMemory → boot bytes ≡ Err fault)
+      → ((fault ≡ wrong.NoMemory) × (told ≡ load.NoMemory)) ⊎ ((fault ≢ wrong.NoMemory) × (told ≡ load.Faulty fault))
+      → (maker : Memory) → IsRead origin faults content name before after maker maker bytes → Loads origin faults content name before after maker maker (Err told)
+  unread bytes fault told gives (inl want) maker read = rw (want.1) (refl, refl)
+  unread bytes fault told gives (inr is) maker read = rw (is.1) (record { bytes = bytes; read = read; fault_is = gives is.0; no_want = is.0; maker = refl })
