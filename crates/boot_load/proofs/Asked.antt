@@ -1,17 +1,18 @@
 -- The patterns that a configuration asks for, and those of its parts.
-use Rattle.std.proofs.Common.{ℕ, ◌≡◌, ◌+◌, List, [], ◌∷◌, ◌++◌, Some, Ok, Err, map, length, take, drop, slice_get, suc, refl, sym, ap, ◌∙◌, append_assoc, append-nil, subst, arith}
+use Rattle.std.proofs.Common.{ℕ, ◌≡◌, ◌<◌, ◌+◌, List, [], ◌∷◌, ◌++◌, Some, Ok, Err, map, length, take, drop, slice_get, zero, suc, refl, sym, ap, ◌∙◌, append_assoc, append-nil, subst, arith}
 use Rattle.std.specs.List.{flat_map}
-use Rattle.std.proofs.lemmas.Option.{same_Some, none-some}
+use Rattle.std.proofs.lemmas.Option.{same_Some, none-some, slice_get_within, slice_get-get_or}
 use Rattle.tag_rules.specs.Making.{Memory, after_making}
 use Rattle.tag_rules.specs.Building.{IsCutAt, Builds}
 use Rattle.tag_rules.specs.declared.fault.TagFault.{TagFault}
 use Rattle.tag_rules.specs.declared.fault.TagFault.TheVariants as tag
 use Rattle.boot_load.specs.Asking.{Asked, told_by, asked_by}
 use Rattle.boot_load.specs.Loading.{IsPatternRefused}
-use Rattle.boot_load.specs.Building.{BuildsAll, IsTold}
+use Rattle.boot_load.specs.Building.{BuildsAll, HasPathIn, IsTold}
 use Rattle.boot_load.specs.declared.fault.LoadFault.{LoadFault}
+use Rattle.boot_load.specs.declared.fault.LoadFault.TheVariants as load
 
-pub texts_of : List Asked → List (List ℕ)
+abbrev texts_of : List Asked → List (List ℕ)
 texts_of all = map (λ (a : Asked). a.text) all
 
 texts-append : (one two : List Asked) → texts_of (one ++ two) ≡ texts_of one ++ texts_of two
@@ -50,7 +51,7 @@ module _ {A : Type 0} (texts : A → List (List ℕ)) where
       → IsAt (asked_by texts paths members) path text (flat_map texts (take i members) ++ done)
   at_place [] members i path member done rest text e p m asks = absurd (none-some path p)
   at_place (q ∷ paths) [] i path member done rest text e p m asks = absurd (none-some member m)
-  at_place (q ∷ paths) (n ∷ members) 0 path member done rest text e p m asks =
+  at_place (q ∷ paths) (n ∷ members) zero path member done rest text e p m asks =
       let here : told_by q (texts n) ≡ told_by path (done ++ text ∷ rest) = (λ i. told_by (same_Some q path p i) (texts (same_Some n member m i))) ∙ ap (told_by path) asks in
       record {
         done = told_by path done;
@@ -80,6 +81,14 @@ module _ {A : Type 0} (texts : A → List (List ℕ)) where
         made = cut.made ∙ ap (λ l. old.made ++ l) (sym at.texts_are);
         refused = cut.refuses;
       }
+
+  -- the member whose pattern is bad has a path
+  pub has_path : {B : Type 0} (paths : List (List ℕ)) (members : List A) (setting : B) (old new : Memory) (fault : TagFault)
+      → length paths ≡ length members → Builds texts members setting old new (Err fault) → HasPathIn paths fault
+  has_path paths members setting old new (tag.BadPattern i) e cut =
+      let within : i < length members = slice_get_within members i cut.member cut.place in
+      (_, slice_get-get_or paths i [] (omega (arith, e, within)))
+  has_path paths members setting old new tag.NoMemory e built = tt
 
   -- a build, with its fault told by paths
   pub told_build : {B : Type 0} (paths : List (List ℕ)) (members : List A) (setting : B) (old new : Memory) (fault : TagFault) (told : LoadFault)
@@ -114,8 +123,19 @@ refused_later one two path old mid new e is = record {
   refused = rw e at is.refused;
 }
 
-pub made_in_parts : (one two : List Asked) (old mid new : Memory) → mid ≡ after_making (texts_of one) old → new ≡ after_making (texts_of two) mid
-    → new ≡ after_making (texts_of (one ++ two)) old
-made_in_parts one two old mid new e f =
-    f ∙ ap (after_making (texts_of two)) e
-    ∙ ap (λ (l : List (List ℕ)). record old { made = l }) (append_assoc old.made (texts_of one) (texts_of two) ∙ ap (λ l. old.made ++ l) (sym (texts-append one two)))
+-- a part that failed, in the whole
+pub first_failed : {A B : Type 0} (one two : List Asked) (part : A) (whole : B) (old new : Memory) (fault : LoadFault)
+    → BuildsAll one part old new (Err fault) → BuildsAll (one ++ two) whole old new (Err fault)
+first_failed one two part whole old new (load.BadPattern path) h = refused_first one two path old new h
+first_failed one two part whole old new load.NoMemory h = h
+first_failed one two part whole old new load.TooBig h = h
+first_failed one two part whole old new (load.Faulty fault) h = h
+first_failed one two part whole old new load.ReadFailed h = h
+
+pub later_failed : {A B : Type 0} (one two : List Asked) (part : A) (whole : B) (old mid new : Memory) (fault : LoadFault) → mid ≡ after_making (texts_of one) old
+    → BuildsAll two part mid new (Err fault) → BuildsAll (one ++ two) whole old new (Err fault)
+later_failed one two part whole old mid new (load.BadPattern path) e h = refused_later one two path old mid new e h
+later_failed one two part whole old mid new load.NoMemory e h = (h.0 ∙ ap (λ (m : Memory). m.count) e, h.1 ∙ ap (λ (m : Memory). m.last) e)
+later_failed one two part whole old mid new load.TooBig e h = h
+later_failed one two part whole old mid new (load.Faulty fault) e h = h
+later_failed one two part whole old mid new load.ReadFailed e h = h

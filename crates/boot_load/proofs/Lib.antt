@@ -1,2 +1,3 @@
 pub mod Asked
-pub mod Lengths
+pub mod Paths
+pub mod Answering

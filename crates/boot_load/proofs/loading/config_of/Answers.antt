@@ -1,6 +1,6 @@
 use Rattle.std.proofs.Common.{rules}
 use Rattle.std.proofs.lemmas.Result.{err_from_is_err_and}
-use Rattle.boot_load.proofs.Lengths.{unread}
+use Rattle.boot_load.proofs.Answering.{unread}
 use Rattle.boot_load.proofs.loading.config_of.Goals as goal
 
 pub returns-in_err-bytes-clause-read : goal.returns-in_err-bytes-clause-read

@@ -1,5 +1,5 @@
 use Rattle.std.proofs.Common.{rules}
-use Rattle.boot_load.proofs.Lengths.{too_big}
+use Rattle.boot_load.proofs.Answering.{too_big}
 use Rattle.boot_load.proofs.reading.bytes_of.Goals as goal
 
 pub returns-clause-read : goal.returns-clause-read

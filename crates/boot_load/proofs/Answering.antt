@@ -1,5 +1,5 @@
--- Bootstraps that are too big or faulty.
-use Rattle.std.proofs.Common.{ℕ, ◌≡◌, ◌≢◌, ◌<◌, ◌+◌, List, [], ◌++◌, Option, Some, None, Err, ◌⊎◌, inl, length, codes, inr, sym, ap, ◌∙◌, refl, arith}
+-- What is answered of bytes that are too many or faulty, and of a configuration whose patterns were built.
+use Rattle.std.proofs.Common.{ℕ, ◌≡◌, ◌≢◌, ◌<◌, ◌+◌, List, [], ◌++◌, Option, Some, None, Result, Ok, Err, ◌⊎◌, inl, length, codes, inr, sym, ap, ◌∙◌, refl, arith}
 use Rattle.std.proofs.lemmas.List.{length-append}
 use Rattle.tag_rules.specs.Making.{Memory}
 use Rattle.boot_file.specs.Boot.{boot}
@@ -9,6 +9,10 @@ use Rattle.boot_file.specs.declared.fault.BootFault.TheVariants as wrong
 use Rattle.boot_load.specs.declared.fault.LoadFault.{LoadFault}
 use Rattle.boot_load.specs.declared.fault.LoadFault.TheVariants as load
 use Rattle.stats_io.specs.Limits.{Grows}
+use Rattle.stat_defs.specs.declared.configs.Config.{Config}
+use Rattle.boot_load.specs.Asking.{asked}
+use Rattle.boot_load.specs.Building.{BuildsAll}
+use Rattle.boot_load.specs.declared.loading.Boot.{Boot}
 use Rattle.boot_load.specs.Loading.{ShelfMemory, IsRead, IsTooBig, Loads}
 use Rattle.boot_load.specs.declared.reading.TheConstants.{MAX_BOOT_BYTES}
 
@@ -28,3 +32,28 @@ module _ {S : Type 0} (origin : S → List ℕ) (faults : S → ℕ) (content : 
       → (maker : Memory) → IsRead origin faults content name before after maker maker bytes → Loads origin faults content name before after maker maker (Err told)
   unread bytes fault told gives (inl want) maker read = rw (want.1) (refl, refl)
   unread bytes fault told gives (inr is) maker read = rw (is.1) (record { bytes = bytes; read = read; fault_is = gives is.0; no_want = is.0; maker = refl })
+
+  pub loaded : (bytes : List ℕ) (config : Config) (maker : Memory) → boot bytes ≡ Ok config → IsRead origin faults content name before after maker maker bytes
+      → (old new : Memory) (result : Result Boot LoadFault)
+      → BuildsAll (asked config) (record { config = config; rules = config.tags; matcher = config.matcher; buckets = config.buckets }) old new result
+      → Loads origin faults content name before after old new result
+  loaded bytes config maker says read old new (Ok boot_made) built = rw (built.0) (record {
+    bytes = bytes;
+    read = record { bytes_are = read.bytes_are; short = read.short; shelf = read.shelf };
+    config = says;
+    rules = refl;
+    matcher = refl;
+    buckets = refl;
+    maker = built.1;
+  })
+  loaded bytes config maker says read old new (Err (load.BadPattern path)) built = record {
+    bytes = bytes;
+    read = record { bytes_are = read.bytes_are; short = read.short; shelf = read.shelf };
+    config = config;
+    config_is = says;
+    refused = built;
+  }
+  loaded bytes config maker says read old new (Err load.NoMemory) built = built
+  loaded bytes config maker says read old new (Err load.TooBig) built = absurd built
+  loaded bytes config maker says read old new (Err (load.Faulty fault)) built = absurd built
+  loaded bytes config maker says read old new (Err load.ReadFailed) built = absurd built
