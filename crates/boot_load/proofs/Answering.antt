@@ -1,9 +1,8 @@
 -- What is answered of bytes that are too many or faulty, and of a configuration whose patterns were built.
-use Rattle.std.proofs.Common.{ℕ, ◌≡◌, ◌≢◌, ◌<◌, ◌+◌, List, [], ◌++◌, Option, Some, None, Result, Ok, Err, ◌⊎◌, inl, length, codes, inr, sym, ap, ◌∙◌, refl, arith}
+use Rattle.std.proofs.Common.{ℕ, ◌≡◌, ◌≢◌, ◌<◌, ◌+◌, List, [], Option, Some, None, Result, Ok, Err, ◌⊎◌, inl, length, codes, inr, sym, ap, ◌∙◌, refl, arith}
 use Rattle.std.proofs.lemmas.List.{length-append}
 use Rattle.tag_rules.specs.Making.{Memory}
 use Rattle.boot_file.specs.Boot.{boot}
-use Rattle.boot_file.specs.Gives.{Gives}
 use Rattle.boot_file.specs.declared.fault.BootFault.{BootFault}
 use Rattle.boot_file.specs.declared.fault.BootFault.TheVariants as wrong
 use Rattle.boot_load.specs.declared.fault.LoadFault.{LoadFault}

@@ -1,4 +1,3 @@
-use Rattle.std.proofs.Common.{codes, length}
 use Rattle.tag_rules.specs.Admission.{patterns_of}
 use Rattle.tag_rules.specs.Building.{pattern_texts}
 use Rattle.boot_load.specs.Asking.{matcher_paths}

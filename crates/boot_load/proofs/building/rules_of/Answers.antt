@@ -1,4 +1,3 @@
-use Rattle.std.proofs.Common.{codes, length}
 use Rattle.tag_rules.specs.Building.{rule_texts}
 use Rattle.boot_load.proofs.Asked.{has_path, told_build, whole_build}
 use Rattle.boot_load.proofs.building.rules_of.Goals as goal
