@@ -1,3 +1,4 @@
 pub mod Asking
 pub mod Loading
+pub mod Building
 pub mod Telling

@@ -1,5 +1,5 @@
 -- What the loading of a bootstrap answers, and what it leaves. This project's own.
-use Rattle.std.specs.Prelude.{◌≡◌, ◌≢◌, ◌<◌, ◌≤◌, ◌⊎◌, ℕ, Option, Some, None, Result, Ok, Err, List, [], ◌∷◌, ◌++◌, length, map, codes}
+use Rattle.std.specs.Prelude.{◌≡◌, ◌≢◌, ◌<◌, ◌≤◌, ◌⊎◌, ℕ, Option, Result, Ok, Err, List, ◌∷◌, ◌++◌, length, map, codes}
 use Rattle.stat_defs.specs.Faults.{Rose}
 use Rattle.stat_defs.specs.declared.configs.Config.{Config}
 use Rattle.boot_file.specs.declared.fault.BootFault.{BootFault}
@@ -34,6 +34,7 @@ pub record IsPatternRefused (all : List Asked) (path : List ℕ) (old new : Memo
   pub text : List ℕ
   pub rest : List Asked
   pub order : all ≡ done ++ (record { path = path; text = text }) ∷ rest
+  pub made : new.made ≡ old.made ++ map (λ a. a.text) done
   pub refused : Refuses text old new
 
 module _ {S : Type 0} (origin : S → List ℕ) (faults : S → ℕ) (content : Option (List ℕ)) (name : List ℕ) (shelf_before shelf_after : ShelfMemory) (old new : Memory) where
@@ -51,7 +52,7 @@ module _ {S : Type 0} (origin : S → List ℕ) (faults : S → ℕ) (content : 
     pub rules : loaded.rules ≡ loaded.config.tags
     pub matcher : loaded.matcher ≡ loaded.config.matcher
     pub buckets : loaded.buckets ≡ loaded.config.buckets
-    pub maker : new ≡ old
+    pub maker : new ≡ record old { made = old.made ++ map (λ a. a.text) (asked loaded.config) }
 
   pub record IsTooBig : Type 0 where
     pub bytes : List ℕ

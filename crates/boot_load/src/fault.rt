@@ -1,7 +1,7 @@
 //! Why a bootstrap was not loaded.
 
 use boot_file::BootFault;
-use stat_defs::Txt;
+use stat_defs::{NoMemory, Txt};
 
 /// Why a bootstrap was not loaded.
 #[derive(Drop, Debug)]
@@ -16,4 +16,15 @@ pub enum LoadFault {
     ReadFailed,
     /// There was no memory.
     NoMemory,
+}
+
+impl From<NoMemory> for LoadFault {
+    ghost use Rattle.std.specs.Prelude.{◌≡◌};
+    ghost use Rattle.boot_load.specs.declared.fault.LoadFault.TheVariants as fault;
+
+    ghost from_gives = { λ _ f. f ≡ fault.NoMemory };
+
+    fn from(_: NoMemory) -> Self {
+        LoadFault::NoMemory
+    }
 }

@@ -1,10 +1,13 @@
 //! The bootstrap of a program: read from a shelf, with its patterns built.
 #![tactic(auto)]
 
+mod building;
 mod fault;
 mod loading;
 mod reading;
 mod telling;
+#[cfg(test)]
+mod tests;
 
 pub use fault::LoadFault;
 pub use loading::{Boot, load};

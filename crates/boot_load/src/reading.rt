@@ -1,4 +1,39 @@
 //! The bytes of a bootstrap.
+ghost use Rattle.std.specs.Prelude.{◌≡◌, ◌≢◌, ◌≤◌, ℕ, List, codes, MatchResult, Err};
+ghost use Rattle.tag_rules.specs.Making.{Memory};
+ghost use Rattle.boot_load.specs.Loading.{IsRead, Loads};
+
+use crate::fault::LoadFault;
+use stats_io::{OpenFault, Pulled, Shelf, pull_up_to};
+use std::alloc::Global;
 
 /// A bootstrap has at most so many bytes.
 pub const MAX_BOOT_BYTES: usize = 1_048_576;
+
+/// The bytes of the file of that name.
+pub(crate) fn bytes_of<F: Shelf>(
+    alloc: Global,
+    name: &str,
+    shelf: &mut F,
+) -> Result<Vec<u8>, LoadFault>
+    requires { name.now ≢ codes "-" }
+    ensures read { (maker : Memory) → MatchResult result
+        (λ bytes. IsRead F.S.origin F.S.faults (F.holds shelf.old name.now) name.now
+            (record { faults = F.faults shelf.old; failed = F.failed shelf.old }) (record { faults = F.faults shelf.new; failed = F.failed shelf.new }) maker maker bytes.items)
+        (λ fault. Loads F.S.origin F.S.faults (F.holds shelf.old name.now) name.now
+            (record { faults = F.faults shelf.old; failed = F.failed shelf.old }) (record { faults = F.faults shelf.new; failed = F.failed shelf.new }) maker maker (Err fault)) }
+    ensures contents { (other : List ℕ) → F.holds shelf.new other ≡ F.holds shelf.old other }
+    ensures later { F.faults shelf.old ≤ F.faults shelf.new }
+{
+    let mut source = match shelf.open(alloc, name) {
+        Ok(source) => source,
+        Err(OpenFault::Failed) => return Err(LoadFault::ReadFailed),
+        Err(OpenFault::NoMemory) => return Err(LoadFault::NoMemory),
+    };
+    let mut bytes = Vec::new(alloc);
+    match pull_up_to(alloc, &mut source, MAX_BOOT_BYTES, &mut bytes)? {
+        Pulled::End => Ok(bytes),
+        Pulled::Failed => Err(LoadFault::ReadFailed),
+        Pulled::TooMany => Err(LoadFault::TooBig),
+    }
+}

@@ -4,3 +4,4 @@ pub mod Feed
 pub mod Files
 pub mod Edge
 pub mod Told
+pub mod Limits

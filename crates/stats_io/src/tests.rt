@@ -72,3 +72,16 @@ fn a_real_stream(rt: HostRuntime) -> Result<(), Fail> {
     assert_eq!(rt; full.fault_count(), 1);
     Ok(())
 }
+
+#[test]
+fn a_limit(rt: HostRuntime) -> Result<(), Fail> {
+    let alloc = rt.alloc();
+    for (limit, wanted) in [(2, Pulled::TooMany), (3, Pulled::End)] {
+        let mut shelf = shelf_of(alloc, b"abc", Vec::new(alloc))?;
+        let mut source = shelf.open(alloc, "f")?;
+        let mut bytes = Vec::new(alloc);
+        assert_eq!(rt; pull_up_to(alloc, &mut source, limit, &mut bytes)?, wanted);
+        assert_eq!(rt; bytes.as_slice(), b"abc".as_slice());
+    }
+    Ok(())
+}
