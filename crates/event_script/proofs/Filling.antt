@@ -8,7 +8,8 @@ use Rattle.event_script.specs.declared.step.Stop.{Stop}
 use Rattle.event_script.specs.declared.step.Stop.TheVariants.{Whole, TooBig, ReadFault}
 use Rattle.event_script.specs.declared.pulling.TheConstants.{MAX_FILE_BYTES}
 use Rattle.event_script.specs.Script.{Reads, lines_until, FileFrom}
-use Rattle.event_script.specs.Pulled.{Stops, Grows}
+use Rattle.stats_io.specs.Limits.{Grows}
+use Rattle.event_script.specs.Pulled.{Stops}
 use Rattle.event_script.specs.Keeping.{IsFresh}
 use Rattle.event_script.specs.declared.cutting.Place.{Place}
 use Rattle.event_script.specs.Reading.{Reading, MayFollow, Moves}

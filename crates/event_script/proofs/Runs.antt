@@ -17,7 +17,8 @@ use Rattle.event_script.specs.Script.{Reads, is_line, lines_of, lines_until, Fil
 use Rattle.event_script.proofs.CutLines.{is_newline, first_of}
 use Rattle.event_script.specs.Reading.{Reading, Comes, MayFollow, Moves}
 use Rattle.event_script.specs.Steps.{StoppedBy, EndsBy}
-use Rattle.event_script.specs.Run.{MayBe, IsRun}
+use Rattle.stats_io.specs.Told.{MayBe}
+use Rattle.event_script.specs.Run.{IsRun}
 
 -- the pieces of two lists, one behind the other
 abbrev joined : List (List ℕ) → List (List ℕ) → List (List ℕ)

@@ -1,16 +1,10 @@
 -- What came from a source.
-use Rattle.std.specs.Prelude.{◌≡◌, ◌<◌, ◌≤◌, ℕ, Option, List, ◌++◌}
-use Rattle.std.specs.Io.KnownBytes.{Consumes, IsAtEnd}
+use Rattle.std.specs.Prelude.{◌<◌, ◌≤◌, ℕ, Option, List}
+use Rattle.std.specs.Io.KnownBytes.{IsAtEnd}
 use Rattle.stat_defs.specs.Faults.{Rose}
 use Rattle.event_script.specs.declared.step.Stop.{Stop}
 use Rattle.event_script.specs.declared.step.Stop.TheVariants.{Whole, TooBig, ReadFault}
 use Rattle.event_script.specs.declared.pulling.TheConstants.{MAX_FILE_BYTES}
-
--- what the source lost stands at the end of the bytes
-pub record Grows (before after : Option (List ℕ)) (old new : List ℕ) : Type 0 where
-  pub got : List ℕ
-  pub appended : new ≡ old ++ got
-  pub consumed : Consumes before after got
 
 -- why the pulling stopped
 abbrev pub Stops : Option (List ℕ) → ℕ → ℕ → ℕ → Stop → Type 0

@@ -3,12 +3,8 @@ use Rattle.std.specs.Prelude.{◌≡◌, ◌≤◌, ℕ, Option, Some, None, Lis
 use Rattle.stat_defs.specs.declared.events.Event.{Event}
 use Rattle.stat_defs.specs.declared.reports.FileEnd.{FileEnd}
 use Rattle.stat_defs.specs.declared.reports.FileEnd.TheVariants.{Whole, BadLine, LineTooLong, TooBig, TooMany, ReadFault, NotOpened}
+use Rattle.stats_io.specs.Told.{MayBe}
 use Rattle.event_script.specs.Script.{File, FileToFault}
-
--- these are the bytes, where they are told
-abbrev pub MayBe : Option (List ℕ) → List ℕ → Type 0
-MayBe None bytes = Unit {0}
-MayBe (Some told) bytes = told ≡ bytes
 
 -- The events that were read of a file of this content, how it ended, and how many bytes were taken before a read fault. Where
 -- the content is not told, they are those of some list of bytes.

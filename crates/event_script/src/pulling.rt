@@ -1,25 +1,15 @@
 //! A source, pulled to its end.
-ghost use Rattle.std.specs.Prelude.{◌≡◌, ◌<◌, ◌≤◌, ◌++◌, ℕ, List, IfOk, length};
-ghost use Rattle.std.specs.Io.KnownBytes.{Consumes};
-ghost use Rattle.event_script.specs.Pulled.{Grows, Stops};
+ghost use Rattle.std.specs.Prelude.{◌≡◌, ◌≤◌, IfOk, length};
+ghost use Rattle.stats_io.specs.Limits.{Grows};
+ghost use Rattle.event_script.specs.Pulled.{Stops};
 
 use crate::step::Stop;
 use stat_defs::NoMemory;
-use stats_io::{Pull, Source};
+use stats_io::{Pulled, Source, pull_up_to};
 use std::alloc::Global;
 
 /// An event file has at most so many bytes.
 pub const MAX_FILE_BYTES: usize = 8_388_608;
-
-// A pull has room for so many bytes.
-const PULL_BYTES: usize = 65_536;
-
-// So many zeros.
-fn zeros(alloc: Global, count: usize) -> Result<Vec<u8>, NoMemory>
-    ensures { IfOk result (λ bytes. length bytes.items ≡ count) }
-{
-    Ok(vec![in alloc; 0u8; count]?)
-}
 
 // Pulls the source to its end, its first fault or the first byte that a file has too many, and adds what came. Without memory
 // the bytes that came before stay.
@@ -33,32 +23,9 @@ pub fn pull_all<S: Source>(
     ensures later { S.faults source.old ≤ S.faults source.new }
     ensures origin { S.origin source.new ≡ S.origin source.old }
 {
-    let mut chunk = zeros(alloc, PULL_BYTES)?;
-    pull_by(source, bytes, &mut chunk)
-}
-
-// The same, through a buffer of that length.
-fn pull_by<S: Source>(
-    source: &mut S,
-    bytes: &mut Vec<u8>,
-    chunk: &mut [u8],
-) -> Result<Stop, NoMemory>
-    requires { 0 < length chunk.old }
-    ensures got { Grows (S.left source.old) (S.left source.new) bytes.old.items bytes.new.items }
-    ensures stops { IfOk result (λ stop. Stops (S.left source.new) (S.faults source.old) (S.faults source.new) (length bytes.new.items) stop) }
-    ensures later { S.faults source.old ≤ S.faults source.new }
-    ensures origin { S.origin source.new ≡ S.origin source.old }
-{
-    while bytes.len() <= MAX_FILE_BYTES {
-        bytes.reserve(chunk.len())?;
-        match source.pull(chunk) {
-            Pull::Bytes(count) => match bytes.extend_from_slice(&chunk[..count]) {
-                Ok(()) => {}
-                Err(_) => unreachable!(),
-            },
-            Pull::End => return Ok(Stop::Whole),
-            Pull::Failed => return Ok(Stop::ReadFault),
-        }
+    match pull_up_to(alloc, source, MAX_FILE_BYTES, bytes)? {
+        Pulled::End => Ok(Stop::Whole),
+        Pulled::Failed => Ok(Stop::ReadFault),
+        Pulled::TooMany => Ok(Stop::TooBig),
     }
-    Ok(Stop::TooBig)
 }

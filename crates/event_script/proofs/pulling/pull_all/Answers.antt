@@ -1,6 +1,0 @@
-use Rattle.std.proofs.Common.{sym, append-nil, []}
-use Rattle.std.proofs.KnownBytes.{Consumes-nil}
-use Rattle.event_script.proofs.pulling.pull_all.Goals as goal
-
-pub returns-in_err-chunk-clause-got : goal.returns-in_err-chunk-clause-got
-returns-in_err-chunk-clause-got g c = record { got = []; appended = sym (append-nil _); consumed = Consumes-nil _ }
