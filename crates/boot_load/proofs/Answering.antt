@@ -22,7 +22,7 @@ module _ {S : Type 0} (origin : S → List ℕ) (faults : S → ℕ) (name : Lis
   too_big (Some told) None bytes grows long maker = absurd grows.consumed
   too_big (Some told) (Some rest) bytes grows long maker =
       let whole : length told ≡ length bytes + length rest =
-          ap length grows.consumed ∙ length-append grows.got rest ∙ ap (λ (b : List ℕ). length b + length rest) (sym grows.appended) in
+      ap length grows.consumed ∙ length-append grows.got rest ∙ ap (λ (b : List ℕ). length b + length rest) (sym grows.appended) in
       record { bytes = told; bytes_are = inr (file, refl); long = omega (arith, whole, long); shelf = same; maker = refl }
 
 module _ {S : Type 0} (origin : S → List ℕ) (faults : S → ℕ) (content : Option (List ℕ)) (name : List ℕ) (before after : ShelfMemory) where

@@ -47,9 +47,9 @@ pub fn load<K: PatternMaker, F: Shelf>(
 fn config_of<F: Shelf>(alloc: Global, name: &str, shelf: &mut F) -> Result<Config, LoadFault>
     ensures read { (maker : Memory) → MatchResult result
         (λ config. (bytes : List ℕ) × (boot bytes ≡ Ok config) × IsRead F.S.origin F.S.faults (F.holds shelf.old name.now) name.now
-            (record { faults = F.faults shelf.old; failed = F.failed shelf.old }) (record { faults = F.faults shelf.new; failed = F.failed shelf.new }) maker maker bytes)
+        (record { faults = F.faults shelf.old; failed = F.failed shelf.old }) (record { faults = F.faults shelf.new; failed = F.failed shelf.new }) maker maker bytes)
         (λ fault. Loads F.S.origin F.S.faults (F.holds shelf.old name.now) name.now
-            (record { faults = F.faults shelf.old; failed = F.failed shelf.old }) (record { faults = F.faults shelf.new; failed = F.failed shelf.new }) maker maker (Err fault)) }
+        (record { faults = F.faults shelf.old; failed = F.failed shelf.old }) (record { faults = F.faults shelf.new; failed = F.failed shelf.new }) maker maker (Err fault)) }
     ensures lawful { IfOk result (λ config. IsConfig config) }
     ensures usual { name.now ≡ codes "-" → shelf.new ≡ shelf.old }
     ensures contents { (other : List ℕ) → F.holds shelf.new other ≡ F.holds shelf.old other }

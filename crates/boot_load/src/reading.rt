@@ -19,9 +19,9 @@ pub(crate) fn bytes_of<F: Shelf>(
     requires { name.now ≢ codes "-" }
     ensures read { (maker : Memory) → MatchResult result
         (λ bytes. IsRead F.S.origin F.S.faults (F.holds shelf.old name.now) name.now
-            (record { faults = F.faults shelf.old; failed = F.failed shelf.old }) (record { faults = F.faults shelf.new; failed = F.failed shelf.new }) maker maker bytes.items)
+        (record { faults = F.faults shelf.old; failed = F.failed shelf.old }) (record { faults = F.faults shelf.new; failed = F.failed shelf.new }) maker maker bytes.items)
         (λ fault. Loads F.S.origin F.S.faults (F.holds shelf.old name.now) name.now
-            (record { faults = F.faults shelf.old; failed = F.failed shelf.old }) (record { faults = F.faults shelf.new; failed = F.failed shelf.new }) maker maker (Err fault)) }
+        (record { faults = F.faults shelf.old; failed = F.failed shelf.old }) (record { faults = F.faults shelf.new; failed = F.failed shelf.new }) maker maker (Err fault)) }
     ensures contents { (other : List ℕ) → F.holds shelf.new other ≡ F.holds shelf.old other }
     ensures later { F.faults shelf.old ≤ F.faults shelf.new }
 {

@@ -1,6 +1,5 @@
-ghost use Rattle.std.specs.Prelude.{◌≤◌};
-
 //! Bootstraps, loaded and told.
+ghost use Rattle.std.specs.Prelude.{◌≤◌};
 
 use crate::{LoadFault, MAX_BOOT_BYTES, boot_line, load};
 use boot_file::BootFault;
@@ -60,7 +59,7 @@ fn lines(rt: HostRuntime) -> Result<(), Fail> {
     }
     let wants = [LoadFault::NoMemory, LoadFault::Faulty(BootFault::NoMemory)];
     for fault in &wants {
-        assert!(rt; boot_line(alloc, fault)?.as_slice() == b"out of memory\n");
+        assert!(rt; boot_line(alloc, fault)?.as_slice() == b"out of memory\n".as_slice());
     }
     Ok(())
 }
@@ -72,12 +71,15 @@ fn files(rt: HostRuntime) -> Result<(), Fail> {
     let mut shelf = shelf_of(alloc, b"{}".to_vec(alloc)?, 1, vec![in alloc; 1]?)?;
     for (name, faults) in [("f", 0), ("g", 1)] {
         let told = said(alloc, name, Vec::new(alloc), &mut shelf)?;
-        assert!(rt; told.as_slice() == b"boot: read failed\n", "{name}");
+        assert!(rt;
+            told.as_slice() == b"boot: read failed\n".as_slice(),
+            "{name}"
+        );
         assert!(rt; shelf.fault_count() == faults, "{name}");
     }
     // The usual bootstrap, of which the maker refuses the first pattern.
     let told = said(alloc, "-", vec![in alloc; 0]?, &mut shelf)?;
-    assert!(rt; told.as_slice() == b"boot: bad pattern at default_tags[0]\n");
+    assert!(rt; told.as_slice() == b"boot: bad pattern at default_tags[0]\n".as_slice());
     assert!(rt; shelf.fault_count() == 1);
     Ok(())
 }
