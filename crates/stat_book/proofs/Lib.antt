@@ -1,3 +1,12 @@
+mod Lists
 mod Computed
 mod Waiting
+mod LiveScopes
+mod Listing
+mod Releasing
+mod Openings
+mod Keeping
+mod Opening
+mod Closing
+mod First
 pub mod Growing
