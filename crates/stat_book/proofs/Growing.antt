@@ -19,6 +19,10 @@ use Rattle.stat_book.specs.Follows.{Own, own, Applied, FollowsSoFar, MakesAcked,
 use Rattle.stat_book.specs.Laws.{own_entry}
 use Rattle.stat_book.proofs.Lists.{length-change_at}
 
+pub same_seats : (s t : State) (seat : ℕ) → s.seats ≡ t.seats → seat_of s seat ≡ seat_of t seat
+same_seats s t zero same = refl
+same_seats s t (suc at) same = ap (λ (seats : List Seat). slice_get seats at) same
+
 module _ (rules : NameRules) where
   replayed_from : (s : State) (log : List Entry) (e : Entry) → replay_from rules s (log ++ e ∷ []) ≡ effect rules e.seat e.call e.reply (replay_from rules s log)
   replayed_from s [] e = refl
@@ -58,10 +62,6 @@ module _ (rules : NameRules) where
   on_other f zero seat s other = refl
   on_other f (suc i) zero s other = refl
   on_other f (suc i) (suc j) s other = other_place f i j s.seats (λ e. other (ap suc e))
-
-  same_seats : (s t : State) (seat : ℕ) → s.seats ≡ t.seats → seat_of s seat ≡ seat_of t seat
-  same_seats s t zero same = refl
-  same_seats s t (suc at) same = ap (λ (seats : List Seat). slice_get seats at) same
 
   other_seat : (s : State) (seat by : ℕ) (c : Call) (r : Reply) → seat ≢ by → seat_of (effect rules by c r s) seat ≡ seat_of s seat
   other_seat s seat by (call.OpenScope label prefix) (reply.Opened id) other = same_seats (effect rules by (call.OpenScope label prefix) (reply.Opened id) s) s seat refl

@@ -10,3 +10,4 @@ mod Opening
 mod Closing
 mod First
 pub mod Growing
+pub mod CallerLemmas
