@@ -1,6 +1,7 @@
 mod Lists
 mod Computed
 mod Waiting
+mod WorkedParts
 mod LiveScopes
 mod Listing
 mod Releasing

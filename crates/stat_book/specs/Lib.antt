@@ -14,3 +14,4 @@ pub mod Metrics
 pub mod MetricsKept
 pub mod Bearing
 pub mod BookKept
+pub mod Tried

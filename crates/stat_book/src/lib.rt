@@ -12,3 +12,6 @@ pub use book::Book;
 pub use laws::{a_chain_grows, a_log_grows, others_leave_a_seat};
 pub use limits::{MAX_HISTOGRAMS, MAX_METRICS, MAX_OPENINGS, MAX_TOKENS, MAX_WORKERS};
 pub use worked::{gone_in_the_last_sweep, retired_and_found_again, shared_symbols, sweep_waits};
+
+#[cfg(test)]
+mod tests;
