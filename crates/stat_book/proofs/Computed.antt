@@ -1,11 +1,12 @@
 -- Which numbers may be drawn, as a test of the tokens in use that computes.
-use Rattle.std.proofs.Common.{◌≡◌, ℕ, zero, suc, ◌<◌, ◌==◌, ◌&&◌, ◌||◌, cond, not, nat_lt, Bool, true, false, Some, None, List, [], ◌∷◌, slice_get, refl, ap, sym, ◌∙◌, subst, arith, inl, inr, ◌⊎◌}
+use Rattle.std.proofs.Common.{◌≡◌, ℕ, zero, suc, ◌<◌, ◌==◌, ◌&&◌, ◌||◌, cond, not, nat_lt, Bool, true, false, Some, List, [], ◌∷◌, slice_get, refl, ap, sym, ◌∙◌, subst, arith, inl, inr, ◌⊎◌}
 use Rattle.std.specs.List.{list_any, list_all}
 use Rattle.std.proofs.lemmas.Bool.Decides.{Decides-eqb, Decides-ltb, eqb_tells}
 use Rattle.std.proofs.lemmas.Slice.Eq.{bytes_eq-Decides}
 use Rattle.symbol_table.specs.Drawing.{Draws, DrawsAll, InUse, with_use, Same}
 use Rattle.symbol_table.proofs.DrawingLemmas.{DrawsAll_same}
 use Rattle.stat_book.specs.State.{same_text}
+use Rattle.stat_book.proofs.Lists.{some_same, not_some, true_false, both}
 
 -- the token is in use under this number
 abbrev pub In : List (List ℕ × ℕ) → List ℕ → ℕ → Type 0
@@ -33,21 +34,8 @@ may_draw_all used (t ∷ ts) (n ∷ ns) = may_draw used t n && may_draw_all ((t,
 may_draw_all used [] (n ∷ ns) = false
 may_draw_all used (t ∷ ts) [] = false
 
-differ : true ≡ false → ⊥
-differ e = absurd cc
-
-pub some_same : {X : Type 0} (x y : X) → Some x ≡ Some y → x ≡ y
-some_same x y e = cc
-
-pub not_some : {X : Type 0} (x : X) → None ≡ Some x → ⊥
-not_some x e = absurd cc
-
-both : (a b : Bool) → (a && b) ≡ true → (a ≡ true) × (b ≡ true)
-both true b e = (refl, e)
-both false b e = absurd (differ (sym e))
-
 neither : (a b : Bool) → (a || b) ≡ false → (a ≡ false) × (b ≡ false)
-neither true b e = absurd (differ e)
+neither true b e = absurd (true_false e)
 neither false b e = (refl, e)
 
 one_of : (a b : Bool) → (a || b) ≡ true → (a ≡ true) ⊎ (b ≡ true)
@@ -56,10 +44,10 @@ one_of false b e = inr e
 
 implied : (a b : Bool) → a ≡ true → (not a || b) ≡ true → b ≡ true
 implied true b a e = e
-implied false b a e = absurd (differ (sym a))
+implied false b a e = absurd (true_false (sym a))
 
 not_true : (a : Bool) → not a ≡ true → a ≡ false
-not_true true e = absurd (differ (sym e))
+not_true true e = absurd (true_false (sym e))
 not_true false e = refl
 
 any_false : {X : Type 0} (p : X → Bool) (xs : List X) (i : ℕ) (x : X) → list_any p xs ≡ false → slice_get xs i ≡ Some x → p x ≡ false
@@ -73,7 +61,7 @@ all_true p (y ∷ ys) zero x all at = subst (λ z. p z ≡ true) (some_same y x 
 all_true p (y ∷ ys) (suc i) x all at = all_true p ys i x (both (p y) (list_all p ys) all).1 at
 
 any_true : {X : Type 0} (p : X → Bool) (xs : List X) → list_any p xs ≡ true → (i : ℕ) × (x : X) × (slice_get xs i ≡ Some x) × (p x ≡ true)
-any_true p [] some = absurd (differ (sym some))
+any_true p [] some = absurd (true_false (sym some))
 any_true p (y ∷ ys) some = elim (one_of (p y) (list_any p ys) some) [
   | inl here ↦ (zero, y, refl, here)
   | inr later ↦ let rest = any_true p ys later in (suc rest.0, rest.1, rest.2, rest.3)
@@ -115,10 +103,10 @@ drawn_by_case used token n true some ok =
 drawn_by_case used token n false none ok =
     let parts = both (nat_lt 0 n) (not (list_any (is_number n) used) && (list_any (λ p. nat_lt n p.1) used || below_used used n)) ok in
     let more = both (not (list_any (is_number n) used)) (list_any (λ p. nat_lt n p.1) used || below_used used n) parts.1 in record {
-      kept = λ k u. absurd (differ (sym ((bytes_eq-Decides token token).1 refl) ∙ any_false (is_token token) used u.0 (token, k) none u.1));
+      kept = λ k u. absurd (true_false (sym ((bytes_eq-Decides token token).1 refl) ∙ any_false (is_token token) used u.0 (token, k) none u.1));
       fresh = λ free. (
         (Decides-ltb 0 n).0 parts.0,
-        λ u. absurd (differ (sym ((Decides-eqb n n).1 refl) ∙ any_false (is_number n) used u.1.0 (u.0, n) (not_true (list_any (is_number n) used) more.0) u.1.1)),
+        λ u. absurd (true_false (sym ((Decides-eqb n n).1 refl) ∙ any_false (is_number n) used u.1.0 (u.0, n) (not_true (list_any (is_number n) used) more.0) u.1.1)),
       );
       lowest = λ above k pos below. elim (one_of (list_any (λ p. nat_lt n p.1) used) (below_used used n) more.1) [
         | inl some ↦
@@ -147,8 +135,8 @@ used_more used t n = record {
 -- what the test admits may be drawn
 pub drawn_all : (used : List (List ℕ × ℕ)) (ts : List (List ℕ)) (ns : List ℕ) → may_draw_all used ts ns ≡ true → DrawsAll (In used) ts ns
 drawn_all used [] [] ok = tt
-drawn_all used [] (n ∷ ns) ok = absurd (differ (sym ok))
-drawn_all used (t ∷ ts) [] ok = absurd (differ (sym ok))
+drawn_all used [] (n ∷ ns) ok = absurd (true_false (sym ok))
+drawn_all used (t ∷ ts) [] ok = absurd (true_false (sym ok))
 drawn_all used (t ∷ ts) (n ∷ ns) ok =
     let parts = both (may_draw used t n) (may_draw_all ((t, n) ∷ used) ts ns) ok in (
       drawn_by_case used t n (list_any (is_token t) used) refl parts.0,

@@ -1,5 +1,5 @@
 -- A log with one entry more, and a chain with one link more.
-use Rattle.std.proofs.Common.{◌≡◌, ◌≢◌, ℕ, zero, suc, ◌==◌, Bool, true, false, cond, ◌&&◌, List, [], ◌∷◌, ◌++◌, slice_get, refl, ap, sym, ◌∙◌, subst, append_assoc}
+use Rattle.std.proofs.Common.{◌≡◌, ◌≢◌, ℕ, zero, suc, ◌==◌, Bool, true, false, cond, ◌&&◌, List, [], ◌∷◌, ◌++◌, slice_get, length, refl, ap, sym, ◌∙◌, subst, append_assoc, append-nil}
 use Rattle.std.specs.List.{list_all}
 use Rattle.std.specs.Option.{option_map_or}
 use Rattle.std.proofs.lemmas.Bool.Decides.{Decides-eqb}
@@ -17,6 +17,11 @@ use Rattle.stat_book.specs.Finding.{scope_of}
 use Rattle.stat_book.specs.Log.{empty, openings, fits_seat, replay_from, replay, Run, Legal, held_by}
 use Rattle.stat_book.specs.Follows.{Own, own, Applied, FollowsSoFar, MakesAcked, after_all, state_after, entries_of}
 use Rattle.stat_book.specs.Laws.{own_entry}
+use Rattle.stat_book.proofs.Lists.{length-change_at}
+
+pub same_seats : (s t : State) (seat : ℕ) → s.seats ≡ t.seats → seat_of s seat ≡ seat_of t seat
+same_seats s t zero same = refl
+same_seats s t (suc at) same = ap (λ (seats : List Seat). slice_get seats at) same
 
 module _ (rules : NameRules) where
   replayed_from : (s : State) (log : List Entry) (e : Entry) → replay_from rules s (log ++ e ∷ []) ≡ effect rules e.seat e.call e.reply (replay_from rules s log)
@@ -26,7 +31,7 @@ module _ (rules : NameRules) where
   pub replayed : (workers : ℕ) (log : List Entry) (e : Entry) → replay rules workers (log ++ e ∷ []) ≡ effect rules e.seat e.call e.reply (replay rules workers log)
   replayed workers log e = replayed_from (empty workers) log e
 
-  runs_on : (s : State) (log : List Entry) (e : Entry) → Run rules s log → Allowed rules e.seat e.call e.reply (replay_from rules s log) → Run rules s (log ++ e ∷ [])
+  pub runs_on : (s : State) (log : List Entry) (e : Entry) → Run rules s log → Allowed rules e.seat e.call e.reply (replay_from rules s log) → Run rules s (log ++ e ∷ [])
   runs_on s [] e run may = (may, tt)
   runs_on s (x ∷ log) e run may = (run.0, runs_on (effect rules x.seat x.call x.reply s) log e run.1 may)
 
@@ -58,10 +63,6 @@ module _ (rules : NameRules) where
   on_other f (suc i) zero s other = refl
   on_other f (suc i) (suc j) s other = other_place f i j s.seats (λ e. other (ap suc e))
 
-  same_seats : (s t : State) (seat : ℕ) → s.seats ≡ t.seats → seat_of s seat ≡ seat_of t seat
-  same_seats s t zero same = refl
-  same_seats s t (suc at) same = ap (λ (seats : List Seat). slice_get seats at) same
-
   other_seat : (s : State) (seat by : ℕ) (c : Call) (r : Reply) → seat ≢ by → seat_of (effect rules by c r s) seat ≡ seat_of s seat
   other_seat s seat by (call.OpenScope label prefix) (reply.Opened id) other = same_seats (effect rules by (call.OpenScope label prefix) (reply.Opened id) s) s seat refl
   other_seat s seat by (call.Release label) (reply.Released id) other = same_seats (effect rules by (call.Release label) (reply.Released id) s) s seat refl
@@ -75,6 +76,23 @@ module _ (rules : NameRules) where
   other_seat s seat by call.Sweep (reply.Swept n) other = same_seats (effect rules by call.Sweep (reply.Swept n) s) s seat refl
   other_seat s seat by call.End reply.Ended other = on_other _ by seat s other
   other_seat s seat by _ _ other = refl
+
+  seats_of : (f : Seat → Seat) (by : ℕ) (s : State) → length (on_seat f by s).seats ≡ length s.seats
+  seats_of f zero s = refl
+  seats_of f (suc at) s = length-change_at f at s.seats
+
+  -- the number of seats stays
+  pub seats_stay : (by : ℕ) (c : Call) (r : Reply) (s : State) → length (effect rules by c r s).seats ≡ length s.seats
+  seats_stay by (call.OpenScope label prefix) (reply.Opened id) s = refl
+  seats_stay by (call.Release label) (reply.Released id) s = refl
+  seats_stay by (call.Find key) (reply.Made id numbers) s = seats_of _ by (record s { metrics = s.metrics ++ made rules s key numbers ∷ [] })
+  seats_stay by (call.Find key) (reply.Found id) s = seats_of _ by (on_metric (found (scope_of s key) key.mode) id.0 s)
+  seats_stay by (call.Find key) reply.Rejected s = seats_of _ by s
+  seats_stay by (call.SetText id text) reply.TextSet s = refl
+  seats_stay by call.Ack (reply.Acked tag) s = seats_of _ by s
+  seats_stay by call.Sweep (reply.Swept n) s = refl
+  seats_stay by call.End reply.Ended s = seats_of _ by s
+  seats_stay by _ _ s = refl
 
   pub left_seat : (s : State) (seat : ℕ) (e : Entry) → seat ≢ e.seat → seat_of (effect rules e.seat e.call e.reply s) seat ≡ seat_of s seat
   left_seat s seat e other = other_seat s seat e.seat e.call e.reply other
@@ -97,14 +115,10 @@ module _ (rules : NameRules) where
     by_case true e = absurd (other (sym ((Decides-eqb b a).0 e)))
     by_case false e = refl
 
-  append_none : (xs : List Own) → xs ++ [] ≡ xs
-  append_none [] = refl
-  append_none (x ∷ xs) = ap (λ (l : List Own). x ∷ l) (append_none xs)
-
   pub left_entries : (workers seat : ℕ) (log : List Entry) (e : Entry) → seat ≢ e.seat → own rules seat (empty workers) (log ++ e ∷ []) ≡ own rules seat (empty workers) log
   left_entries workers seat log e other =
       own_on seat (empty workers) log e
-      ∙ (ap (λ (b : Bool). own rules seat (empty workers) log ++ cond b (own_entry rules workers log e ∷ []) []) (not_same seat e.seat other) ∙ append_none (own rules seat (empty workers) log))
+      ∙ (ap (λ (b : Bool). own rules seat (empty workers) log ++ cond b (own_entry rules workers log e ∷ []) []) (not_same seat e.seat other) ∙ append-nil (own rules seat (empty workers) log))
 
   pub own_entries : (workers : ℕ) (log : List Entry) (e : Entry) → own rules e.seat (empty workers) (log ++ e ∷ []) ≡ own rules e.seat (empty workers) log ++ own_entry rules workers log e ∷ []
   own_entries workers log e =

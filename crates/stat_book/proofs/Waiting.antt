@@ -1,12 +1,10 @@
 -- Where one token is in use under 3, a new token gets 1 or 2.
-use Rattle.std.proofs.Common.{◌≡◌, ◌≢◌, ℕ, zero, suc, ◌<◌, true, false, Some, List, [], ◌∷◌, slice_get, refl, ap, sym, ◌∙◌, subst, arith, inl, inr, ◌⊎◌}
+use Rattle.std.proofs.Common.{◌≡◌, ◌≢◌, ℕ, zero, suc, ◌<◌, false, Some, List, [], ◌∷◌, slice_get, refl, ap, sym, ◌∙◌, subst, arith, inl, inr, ◌⊎◌}
 use Rattle.std.proofs.lemmas.Slice.Eq.{bytes_eq-Decides}
 use Rattle.stat_book.specs.State.{same_text}
 use Rattle.symbol_table.specs.Drawing.{Draws, DrawsAll}
-use Rattle.stat_book.proofs.Computed.{In, some_same, not_some}
-
-true_false : true ≡ false → ⊥
-true_false e = absurd cc
+use Rattle.stat_book.proofs.Lists.{some_same, not_some, true_false}
+use Rattle.stat_book.proofs.Computed.{In}
 
 abbrev three : List ℕ → List (List ℕ × ℕ)
 three token = (token, 3) ∷ []

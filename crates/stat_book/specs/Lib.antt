@@ -6,3 +6,12 @@ pub mod Safe
 pub mod Follows
 pub mod Laws
 pub mod Worked
+pub mod Calls
+pub mod Symbols
+pub mod Scopes
+pub mod ScopesKept
+pub mod Metrics
+pub mod MetricsKept
+pub mod Bearing
+pub mod BookKept
+pub mod Tried

@@ -1,42 +1,13 @@
-use Rattle.std.proofs.Common.{[], ◌∷◌, refl, arith, inl, inr}
-use Rattle.std.specs.Prelude.{codes}
-use Rattle.stat_book.proofs.Computed.{drawn_all}
+use Rattle.std.proofs.Common.{drop, refl, arith, inr}
+use Rattle.stat_book.specs.Worked.{found_again}
+use Rattle.stat_book.proofs.WorkedParts.{legal_log, retired_first}
 use Rattle.stat_book.proofs.worked.retired_and_found_again.Goals as goal
 
 pub returns : goal.returns
 returns c = record {
-  legal = record {
-    rest = _;
-    begins = refl;
-    seats = refl;
-    steps = (
-      (inl refl, refl, refl),
-      (
-        (inr (refl, tt), refl, refl),
-        (
-          ((refl, refl), (refl, drawn_all [] (codes "t" ∷ codes "u" ∷ []) (1 ∷ 2 ∷ []) refl)),
-          (
-            ((refl, tt), refl),
-            (
-              (inr (refl, tt), refl, refl),
-              (
-                ((refl, refl), refl),
-                (
-                  ((refl, omega arith), refl),
-                  (
-                    ((refl, omega arith), refl),
-                    (
-                      (refl, refl),
-                      tt,
-                    ),
-                  ),
-                ),
-              ),
-            ),
-          ),
-        ),
-      ),
-    );
-  };
+  legal = legal_log 2 _ refl (retired_first 1 (drop 4 found_again) (
+    (inr (refl, tt), refl, refl),
+    (((refl, refl), refl), (((refl, omega arith), refl), (((refl, omega arith), refl), ((refl, refl), tt)))),
+  ));
   live = refl;
 }

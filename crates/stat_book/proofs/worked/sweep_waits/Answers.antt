@@ -1,48 +1,23 @@
-use Rattle.std.proofs.Common.{◌≡◌, ℕ, [], ◌∷◌, ◌++◌, true, refl, arith, inl, inr}
-use Rattle.stat_book.proofs.Computed.{may_draw_all, drawn_all}
-use Rattle.stat_book.proofs.Waiting.{low_numbers}
-use Rattle.stat_book.proofs.worked.sweep_waits.Goals as goal
+use Rattle.std.proofs.Common.{◌≡◌, ℕ, [], ◌∷◌, ◌++◌, drop, true, refl, arith}
 use Rattle.std.specs.Prelude.{codes}
 use Rattle.stat_book.specs.Log.{Legal}
 use Rattle.stat_book.specs.Worked.{plain, root_alone, to_second_sweep, makes}
+use Rattle.stat_book.proofs.Computed.{may_draw_all, drawn_all}
+use Rattle.stat_book.proofs.Waiting.{low_numbers}
+use Rattle.stat_book.proofs.WorkedParts.{legal_log, retired_first}
+use Rattle.stat_book.proofs.worked.sweep_waits.Goals as goal
 
 x_drawn : (n : ℕ) → may_draw_all ((codes "w", 3) ∷ []) (codes "x" ∷ []) (n ∷ []) ≡ true → Legal plain root_alone 2 (to_second_sweep ++ makes 1 (codes "root") (codes "x") 2 (n ∷ []) ∷ [])
-x_drawn n ok = record {
-  rest = _;
-  begins = refl;
-  seats = refl;
-  steps = (
-    (inl refl, refl, refl),
+x_drawn n ok = legal_log 2 _ refl (retired_first 1 (drop 4 (to_second_sweep ++ makes 1 (codes "root") (codes "x") 2 (n ∷ []) ∷ [])) (
+  ((refl, omega arith), refl),
+  (
+    (refl, refl),
     (
-      (inr (refl, tt), refl, refl),
-      (
-        ((refl, refl), (refl, drawn_all [] (codes "t" ∷ codes "u" ∷ []) (1 ∷ 2 ∷ []) refl)),
-        (
-          ((refl, tt), refl),
-          (
-            ((refl, omega arith), refl),
-            (
-              (refl, refl),
-              (
-                ((refl, refl), (refl, drawn_all ((codes "t", 1) ∷ (codes "u", 2) ∷ []) (codes "w" ∷ []) (3 ∷ []) refl)),
-                (
-                  ((refl, omega arith), refl),
-                  (
-                    (refl, refl),
-                    (
-                      ((refl, refl), (refl, drawn_all ((codes "w", 3) ∷ []) (codes "x" ∷ []) (n ∷ []) ok)),
-                      tt,
-                    ),
-                  ),
-                ),
-              ),
-            ),
-          ),
-        ),
-      ),
+      ((refl, refl), (refl, drawn_all ((codes "t", 1) ∷ (codes "u", 2) ∷ []) (codes "w" ∷ []) (3 ∷ []) refl)),
+      (((refl, omega arith), refl), ((refl, refl), (((refl, refl), (refl, drawn_all ((codes "w", 3) ∷ []) (codes "x" ∷ []) (n ∷ []) ok)), tt))),
     ),
-  );
-}
+  ),
+))
 
 pub returns : goal.returns
 returns c = record {

@@ -1,0 +1,19 @@
+-- What the fields of a table of scopes keep.
+use Rattle.std.specs.Prelude.{◌≡◌, ℕ, nat_eq, true, Some, List, map, slice_get}
+use Rattle.std.specs.Cmp.Lexicographic.{pointwise}
+use Rattle.indexmap.specs.IndexMap.{get}
+use Rattle.stat_book.specs.declared.scopes.ScopeTable.TheInside.{Inside}
+use Rattle.stat_book.specs.declared.scopes.ScopeRow.{ScopeRow}
+use Rattle.stat_book.specs.Scopes.{ScopeView, live_at}
+
+abbrev pub row_shown : ScopeRow → ScopeView
+row_shown row = record { label = row.label; prefix = row.prefix; live = row.live; bears = row.bears.keys }
+
+abbrev pub shown : Inside → List ScopeView
+shown b = map row_shown b.rows.items
+
+pub record Kept (b : Inside) : Type 0 where
+  -- the index lists the live labels with the numbers of their scopes
+  pub indexed : (label : List ℕ) → get (pointwise nat_eq) b.live label ≡ live_at (shown b) label
+  -- no two live scopes have one label
+  pub found : (i : ℕ) (scope : ScopeView) → slice_get (shown b) i ≡ Some scope → scope.live ≡ true → live_at (shown b) scope.label ≡ Some i
