@@ -1,5 +1,5 @@
 -- Files that were read one after another.
-use Rattle.std.proofs.Common.{◌≡◌, ◌≤◌, ◌+◌, ◌*◌, ◌^◌, ◌<◌, ℕ, suc, Option, List, [], ◌∷◌, ◌++◌, length, map, refl, sym, ap, ◌∙◌, subst, arith, length-append}
+use Rattle.std.proofs.Common.{◌≡◌, ◌+◌, ◌*◌, ◌^◌, ◌<◌, ℕ, suc, Option, List, [], ◌∷◌, ◌++◌, length, map, refl, sym, ap, ◌∙◌, subst, arith, length-append}
 use Rattle.std.proofs.lemmas.List.{append-nil, append_assoc, map-append, length-map}
 use Rattle.std.proofs.lemmas.Grind.{flat_map-append}
 use Rattle.std.specs.Io.KnownBytes.{Consumes}
@@ -8,14 +8,13 @@ use Rattle.stat_defs.specs.declared.events.Event.{Event}
 use Rattle.stat_defs.specs.declared.reports.FileEnd.{FileEnd}
 use Rattle.stat_defs.specs.declared.reports.FileEnd.TheVariants.{Whole, BadLine, LineTooLong, TooBig, TooMany, ReadFault, NotOpened}
 use Rattle.stat_defs.specs.declared.reports.WorkerEnd.{WorkerEnd}
-use Rattle.stat_defs.specs.declared.history.Verdict.{Verdict}
 use Rattle.event_script.specs.Run.{IsRun}
 use Rattle.boot_load.specs.Loading.{ShelfMemory}
 use Rattle.counter_store.specs.Counting.{Rules, History, verdicts}
 use Rattle.envoy_stats.specs.Causes.{IsOpened, HasCause}
 use Rattle.envoy_stats.specs.Files.{FileRead, all_events, IsFile, AreFiles}
 use Rattle.envoy_stats.specs.Reporting.{taken_at, verdicts_behind}
-use Rattle.envoy_stats.specs.Reading.{Applies, ReadsSource, ReadsFile, ReadsFiles}
+use Rattle.envoy_stats.specs.Reading.{ReadsSource, ReadsFile, ReadsFiles}
 use Rattle.envoy_stats.specs.declared.reading.FileRun.{FileRun}
 
 module _ {S : Type 0} (left : S → Option (List ℕ)) (origin : S → List ℕ) (faults : S → ℕ) where

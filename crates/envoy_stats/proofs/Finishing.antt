@@ -1,20 +1,18 @@
 -- What is written and said of files.
-use Rattle.std.proofs.Common.{◌≡◌, ◌≢◌, ◌≤◌, ◌<◌, ◌==◌, ◌⊎◌, ℕ, false, true, cond, Option, None, Some, Ok, Err, List, [], ◌++◌, map, refl, sym, ap, ◌∙◌, subst, inl, inr, arith, codes, true≢false, is_some}
+use Rattle.std.proofs.Common.{◌≡◌, ◌≤◌, ◌<◌, ◌==◌, ℕ, false, cond, Option, None, Some, Ok, List, [], ◌++◌, map, sym, ap, ◌∙◌, subst, inl, inr, arith, codes}
 use Rattle.std.proofs.lemmas.Bool.{ne_eqb}
 use Rattle.std.specs.Io.KnownBytes.{Appends}
 use Rattle.std.proofs.KnownBytes.{Appends-trans}
 use Rattle.stat_defs.specs.Faults.{Rose}
 use Rattle.stat_defs.specs.declared.configs.Config.{Config}
-use Rattle.stat_defs.specs.declared.reports.FileEnd.{FileEnd}
 use Rattle.stat_defs.specs.declared.reports.Report.{Report}
 use Rattle.statsd_text.specs.Statsd.{statsd_text}
 use Rattle.tag_rules.specs.Making.{Memory}
 use Rattle.boot_load.specs.Loading.{ShelfMemory, Loads}
 use Rattle.boot_load.specs.declared.loading.Boot.{Boot}
-use Rattle.envoy_stats.specs.Files.{AreFiles}
 use Rattle.envoy_stats.specs.Output.{IsOutput}
 use Rattle.envoy_stats.specs.Telling.{out_of_memory, said_of}
-use Rattle.envoy_stats.specs.Outcomes.{SinkState, Says, IsWritten, IsRunOver, Replays, status_of_all}
+use Rattle.envoy_stats.specs.Outcomes.{SinkState, Says, IsWritten, IsRunOver, Replays}
 use Rattle.envoy_stats.specs.Readiness.{IsReady, IsReadyWritten, FinishesWith, ready_text, said_with}
 use Rattle.envoy_stats.specs.declared.replay.Ready.{Ready}
 use Rattle.envoy_stats.proofs.Readying.{status_all_small, status_all_is_not}

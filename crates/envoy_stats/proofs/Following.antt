@@ -1,11 +1,10 @@
 -- A file that is being read and applied.
-use Rattle.std.proofs.Common.{◌≡◌, ◌<◌, ◌≤◌, ◌+◌, ◌^◌, ◌==◌, ℕ, Bool, true, false, not, cond, ◌||◌, nat_lt, Option, None, Some, List, [], ◌∷◌, ◌++◌, length, map, fold, refl, sym, ap, ◌∙◌, subst, arith, add-zero, length-append}
+use Rattle.std.proofs.Common.{◌≡◌, ◌<◌, ◌≤◌, ◌+◌, ◌^◌, ◌==◌, ℕ, Bool, true, false, cond, Option, None, Some, List, [], ◌∷◌, ◌++◌, length, map, fold, refl, sym, ap, ◌∙◌, arith, add-zero, length-append}
 use Rattle.std.proofs.lemmas.List.Sums.{fold-append}
 use Rattle.std.proofs.lemmas.List.{append-nil, append_assoc, map-append, length-map}
 use Rattle.std.proofs.lemmas.List.FromFn.{length-enumerate_from}
 use Rattle.std.proofs.KnownBytes.{Consumes-nil}
-use Rattle.std.specs.List.{list_any, enumerate_from}
-use Rattle.std.specs.Str.{bytes_eq}
+use Rattle.std.specs.List.{enumerate_from}
 use Rattle.stat_defs.specs.declared.events.Event.{Event}
 use Rattle.stat_defs.specs.declared.events.Event.TheVariants.{Inc, Gauge, Rec, SetText, OpenScope, Release}
 use Rattle.stat_defs.specs.declared.history.Verdict.{Verdict}

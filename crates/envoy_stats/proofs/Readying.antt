@@ -1,5 +1,5 @@
 -- What is made of files that were read.
-use Rattle.std.proofs.Common.{◌≡◌, ◌≢◌, ◌<◌, ◌≤◌, ◌==◌, ℕ, Bool, true, false, cond, Option, List, [], ◌∷◌, ◌++◌, map, refl, sym, ap, ◌∙◌, subst, arith}
+use Rattle.std.proofs.Common.{◌≡◌, ◌≢◌, ◌<◌, ◌==◌, ℕ, Bool, true, false, cond, Option, List, [], ◌∷◌, map, refl, ap, ◌∙◌, subst, arith}
 use Rattle.std.proofs.lemmas.Simd.{map-map}
 use Rattle.stat_defs.specs.declared.configs.Config.{Config}
 use Rattle.stat_defs.specs.declared.reports.FileEnd.{FileEnd}
@@ -8,7 +8,7 @@ use Rattle.stat_defs.specs.declared.reports.WorkerEnd.{WorkerEnd}
 use Rattle.boot_load.specs.Loading.{ShelfMemory}
 use Rattle.counter_store.specs.Counting.{History, tally}
 use Rattle.envoy_stats.specs.Files.{FileRead, all_events}
-use Rattle.envoy_stats.specs.Reporting.{rules_of, deltas, verdicts_behind}
+use Rattle.envoy_stats.specs.Reporting.{rules_of, deltas}
 use Rattle.envoy_stats.specs.Output.{Shows, worker_lines}
 use Rattle.envoy_stats.specs.Telling.{fault_lines}
 use Rattle.envoy_stats.specs.Outcomes.{status_of, status_of_all}

@@ -1,5 +1,5 @@
 -- How a call ends, and what it leaves. This project's own.
-use Rattle.std.specs.Prelude.{◌≡◌, ◌≢◌, ◌⊎◌, ◌==◌, if◌then◌else◌, ℕ, Option, Some, None, Result, Ok, Err, List, [], ◌∷◌, map}
+use Rattle.std.specs.Prelude.{◌≡◌, ◌≢◌, ◌⊎◌, ◌==◌, if◌then◌else◌, ℕ, Option, Some, None, Ok, Err, List, [], ◌∷◌, map}
 use Rattle.std.specs.Io.KnownBytes.{Appends, Keeps}
 use Rattle.stat_defs.specs.Faults.{Rose}
 use Rattle.stat_defs.specs.declared.reports.FileEnd.{FileEnd}

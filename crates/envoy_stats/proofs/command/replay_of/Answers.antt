@@ -1,4 +1,4 @@
-use Rattle.std.proofs.Common.{◌≡◌, ◌∙◌, rules, arith, string_bytes, codes, sym, length, map, drop, take, ◌-◌}
+use Rattle.std.proofs.Common.{◌≡◌, ◌∙◌, rules, arith, string_bytes, codes, length, map, drop, take, ◌-◌}
 use Rattle.std.proofs.lemmas.List.{length-map}
 use Rattle.std.proofs.lemmas.List.Folds.{list_all-map}
 use Rattle.envoy_stats.specs.Command.{is_file_word}

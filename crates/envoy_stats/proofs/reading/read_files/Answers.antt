@@ -1,5 +1,4 @@
-use Rattle.std.proofs.Common.{◌≡◌, ◌∙◌, List, ℕ, map, take, string_bytes, sym, subst, arith}
-use Rattle.envoy_stats.specs.Reading.{ReadsFiles, ReadsFile}
+use Rattle.std.proofs.Common.{◌∙◌, map, take, string_bytes, arith}
 use Rattle.envoy_stats.proofs.Words.{front_push}
 use Rattle.envoy_stats.proofs.Files.{same_content, one_file_more}
 use Rattle.envoy_stats.proofs.reading.read_files.Goals as goal

@@ -1,4 +1,4 @@
-use Rattle.std.proofs.Common.{◌≡◌, ◌≤◌, ℕ, List, map, take, string_bytes}
+use Rattle.std.proofs.Common.{◌≡◌, ℕ, List, map, take, string_bytes}
 use Rattle.envoy_stats.specs.Reading.{ReadsFiles}
 use Rattle.envoy_stats.proofs.reading.read_files.Given as goal
 

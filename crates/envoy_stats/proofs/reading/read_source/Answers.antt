@@ -1,5 +1,5 @@
 use Rattle.std.proofs.Common.{Ok, ap, ◌∙◌}
-use Rattle.envoy_stats.proofs.Following.{named, so_far_none, so_far_more, room_so_far}
+use Rattle.envoy_stats.proofs.Following.{so_far_none, so_far_more, room_so_far}
 use Rattle.envoy_stats.proofs.Ending.{read_all}
 use Rattle.envoy_stats.proofs.reading.read_source.Goals as goal
 

@@ -1,4 +1,4 @@
-use Rattle.std.proofs.Common.{ℕ, List, ◌≡◌, ◌≢◌, rules, arith, refl, map, string_bytes}
+use Rattle.std.proofs.Common.{◌≢◌, rules, arith, refl, map, string_bytes}
 use Rattle.boot_load.specs.declared.fault.LoadFault.TheVariants.{NoMemory}
 use Rattle.envoy_stats.specs.Outcomes.{SinkState}
 use Rattle.envoy_stats.proofs.Readying.{ready_alike}
