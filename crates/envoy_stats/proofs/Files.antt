@@ -83,7 +83,7 @@ module _ {S : Type 0} (left : S → Option (List ℕ)) (origin : S → List ℕ)
     one_file_more names name before between after earlier later latest runs run so read =
         let file : FileRead = record { events = read.events; end = run.end } in
         let events : all_events (so.files ++ file ∷ []) ≡ all_events so.files ++ read.events =
-            flat_map-append (λ f. f.events) so.files (file ∷ []) ∙ ap (λ es. all_events so.files ++ es) (append-nil read.events) in
+        flat_map-append (λ f. f.events) so.files (file ∷ []) ∙ ap (λ es. all_events so.files ++ es) (append-nil read.events) in
         record {
           files = so.files ++ (file ∷ []);
           are_files = files_push names name before between after so.files file so.are_files read.file;

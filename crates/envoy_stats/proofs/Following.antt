@@ -64,9 +64,12 @@ few_names rules names (e ∷ es) = omega (arith, few_names rules (names_after ru
 
 -- there are no more counters than events
 pub few_counters : (rules : Rules) (events : List Event) → length (tally rules events) ≤ length events
-few_counters rules events = omega (arith, few_names rules [] events,
-    length-map {B = List ℕ × ℕ} (enumerate_from 0 (counters rules events)) (λ (place : ℕ × List ℕ). (place.1, units rules events place.0)),
-    length-enumerate_from 0 (counters rules events))
+few_counters rules events = omega (
+  arith,
+  few_names rules [] events,
+  length-map {B = List ℕ × ℕ} (enumerate_from 0 (counters rules events)) (λ (place : ℕ × List ℕ). (place.1, units rules events place.0)),
+  length-enumerate_from 0 (counters rules events),
+)
 
 -- the events so far, applied behind the earlier ones, between the reader as it was made and as it is now
 pub record SoFar {S : Type 0} (left : S → Option (List ℕ)) (origin : S → List ℕ) (init now : Reading S) (earlier later : History) (given : List Verdict) : Type 0 where

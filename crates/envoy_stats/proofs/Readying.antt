@@ -83,8 +83,8 @@ module _ {S : Type 0} (left : S → Option (List ℕ)) (origin : S → List ℕ)
   ready_of names before after config later runs ready read report shows prefix lines told status =
       let counted : tally later.rules later.events ≡ tally (rules_of config) (all_events read.files) = ap (λ h. tally h.rules h.events) read.applied in
       let ends : map (λ (end : WorkerEnd). end.end) (map (λ (run : FileRun). run.end) runs) ≡ map (λ (file : FileRead). file.end.end) read.files =
-          ap (map (λ (end : WorkerEnd). end.end)) read.ends_are
-          ∙ map-map (λ (end : WorkerEnd). end.end) (λ (file : FileRead). file.end) read.files in
+      ap (map (λ (end : WorkerEnd). end.end)) read.ends_are
+      ∙ map-map (λ (end : WorkerEnd). end.end) (λ (file : FileRead). file.end) read.files in
       record {
         files = read.files;
         are_files = read.are_files;

@@ -54,7 +54,15 @@ fn main(rt: HostRuntime) -> ExitCode {
     let mut out = StdSink::new(rt.stdout());
     let mut err = StdSink::new(rt.stderr());
     let status = match words_of(&rt) {
-        Ok(words) => quiet_stats(rt.alloc(), &words, &mut maker, &mut shelf, &mut out, &mut err).status,
+        Ok(words) => quiet_stats(
+            rt.alloc(),
+            &words,
+            &mut maker,
+            &mut shelf,
+            &mut out,
+            &mut err,
+        )
+        .status,
         Err(fault) => refuse(&mut err, fault),
     };
     ExitCode::from(status)

@@ -238,11 +238,11 @@ pub fn quiet_stats<K: PatternMaker, F: Shelf, O: Sink, E: Sink>(
         × Says (record { written = E.written err.old; faults = E.faults err.old }) (record { written = E.written err.new; faults = E.faults err.new }) usage }
     ensures replayed { (boot : List ℕ) → (files : List (List ℕ)) → IsReplay (map string_bytes words.now) boot files
         → Replays F.S.left F.S.origin F.S.faults (F.holds shelf.old) boot files
-            (record { faults = F.faults shelf.old; failed = F.failed shelf.old }) (record { faults = F.faults shelf.new; failed = F.failed shelf.new })
-            (K.memory maker.old) (K.memory maker.new)
-            (record { written = O.written out.old; faults = O.faults out.old }) (record { written = O.written out.new; faults = O.faults out.new })
-            (record { written = E.written err.old; faults = E.faults err.old }) (record { written = E.written err.new; faults = E.faults err.new })
-            result.status result.report }
+        (record { faults = F.faults shelf.old; failed = F.failed shelf.old }) (record { faults = F.faults shelf.new; failed = F.failed shelf.new })
+        (K.memory maker.old) (K.memory maker.new)
+        (record { written = O.written out.old; faults = O.faults out.old }) (record { written = O.written out.new; faults = O.faults out.new })
+        (record { written = E.written err.old; faults = E.faults err.old }) (record { written = E.written err.new; faults = E.faults err.new })
+        result.status result.report }
     ensures unwritten { result.report ≡ None → result.status ≢ 6 → out.new ≡ out.old }
     ensures usual { (files : List (List ℕ)) → IsReplay (map string_bytes words.now) (codes "-") files → result.status ≡ 2 → shelf.new ≡ shelf.old }
 {

@@ -75,11 +75,7 @@ pub fn part(alloc: Global, runs: Vec<FileRun>) -> Result<Parted, NoMemory>
 }
 
 /// The report of files, with one flush and no log.
-pub fn report_of(
-    alloc: Global,
-    parted: Parted,
-    totals: &Totals,
-) -> Result<Report, NoMemory>
+pub fn report_of(alloc: Global, parted: Parted, totals: &Totals) -> Result<Report, NoMemory>
     requires few { index_map_len totals.now < 2 ^ 32 }
     ensures { IfOk result (λ report. report ≡ record {
       verdicts = parted.verdicts.items;

@@ -88,9 +88,7 @@ fn play(
     let mut shelf = shelf;
     let mut out = MemSink::new(alloc, 1000, piece.max(1), vec![in alloc; failing_push]?)?;
     let mut err = MemSink::new(alloc, 1000, 100, Vec::new(alloc))?;
-    let outcome = quiet_stats(
-        alloc, &words, &mut maker, &mut shelf, &mut out, &mut err,
-    );
+    let outcome = quiet_stats(alloc, &words, &mut maker, &mut shelf, &mut out, &mut err);
     Ok(Played {
         outcome,
         out,
@@ -317,11 +315,12 @@ fn one_counter_too_many(rt: HostRuntime) -> Result<(), Fail> {
     let mut shelf = shelf_of(alloc, &new_names(alloc, 16_385)?, 999_999)?;
     let mut out = MemSink::new(alloc, 300_000, 300_000, Vec::new(alloc))?;
     let mut err = MemSink::new(alloc, 100, 100, Vec::new(alloc))?;
-    let outcome = quiet_stats(
-        alloc, &words, &mut maker, &mut shelf, &mut out, &mut err,
-    );
+    let outcome = quiet_stats(alloc, &words, &mut maker, &mut shelf, &mut out, &mut err);
     assert_eq!(rt; outcome.status, 0);
-    assert!(rt; out.bytes().ends_with(b"# worker 1: 16384 accepted, 1 dropped\n"));
+    assert!(rt;
+        out.bytes()
+            .ends_with(b"# worker 1: 16384 accepted, 1 dropped\n")
+    );
     let report = outcome.report.ok_or("no report")?;
     let verdicts = report.verdicts.items().first().ok_or("no file")?;
     assert!(rt; verdicts.items().last() == Some(&Verdict::NoRoom));
@@ -342,7 +341,13 @@ fn lines_at_the_greatest_length(rt: HostRuntime) -> Result<(), Fail> {
     let alloc = rt.alloc();
     for (count, status, told) in [(1_024, 0, ""), (1_025, 3, "file 1 line 1: line too long\n")] {
         let file = repeated(alloc, b'#', count)?;
-        let played = play_over(alloc, "replay - f1", shelf_of(alloc, &file, 9_999)?, 100, 999)?;
+        let played = play_over(
+            alloc,
+            "replay - f1",
+            shelf_of(alloc, &file, 9_999)?,
+            100,
+            999,
+        )?;
         assert_eq!(rt; played.outcome.status, status);
         assert!(rt; played.err.bytes() == told.as_bytes());
     }
@@ -355,7 +360,13 @@ fn the_deepest_bootstrap(rt: HostRuntime) -> Result<(), Fail> {
     for (depth, told) in [(127, "boot: bad key at top\n"), (128, "boot: not json\n")] {
         let mut boot = repeated(alloc, b'[', depth)?;
         boot.extend_from_slice(&repeated(alloc, b']', depth)?)?;
-        let played = play_over(alloc, "replay f1 f1", shelf_of(alloc, &boot, 999)?, 100, 999)?;
+        let played = play_over(
+            alloc,
+            "replay f1 f1",
+            shelf_of(alloc, &boot, 999)?,
+            100,
+            999,
+        )?;
         assert_eq!(rt; played.outcome.status, 2);
         assert!(rt; played.err.bytes() == told.as_bytes());
         assert!(rt; played.out.bytes().is_empty());

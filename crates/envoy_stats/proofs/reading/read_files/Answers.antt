@@ -8,7 +8,7 @@ loop-name-preserved g c =
     let names = front_push string_bytes c.args.names.now c.loop-name.name-index c.name-item.result (omega arith) c.name-item.is in
     let held = g.F.Shelf.holds c.args.shelf.now in
     let read = same_content g.F.S.Source.left g.F.S.Source.origin g.F.S.Source.faults (g.F.Shelf.holds c.loop-name.shelf) held (string_bytes c.name-item.result) _ _ _ _ c.in_ok-run.run'
-        (c.loop-name.invariant.contents (string_bytes c.name-item.result)) (rw c.as_str.ensures.value at c.in_ok-run.ensures.read) in
+    (c.loop-name.invariant.contents (string_bytes c.name-item.result)) (rw c.as_str.ensures.value at c.in_ok-run.ensures.read) in
     record {
       reads = rw (names, c.in_ok-push.ensures.items)
           (one_file_more g.F.S.Source.left g.F.S.Source.origin g.F.S.Source.faults held (map string_bytes (take c.loop-name.name-index c.args.names.now)) (string_bytes c.name-item.result)

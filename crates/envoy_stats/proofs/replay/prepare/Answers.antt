@@ -19,24 +19,46 @@ pub fault_lines-requires : goal.fault_lines-requires
 fault_lines-requires g c =
     let runs = c.in_ok-runs.runs.items in
     let ends : c.deref-2.result.now ≡ map (λ (end : WorkerEnd). end.end) (map (λ (run : FileRun). run.end) runs) =
-        c.deref-2.ensures.value ∙ c.in_ok-ends.ensures ∙ ap (map (λ (end : WorkerEnd). end.end)) (c.deref.ensures.value ∙ c.in_ok-parted.ensures.ends) in
+    c.deref-2.ensures.value ∙ c.in_ok-ends.ensures ∙ ap (map (λ (end : WorkerEnd). end.end)) (c.deref.ensures.value ∙ c.in_ok-parted.ensures.ends) in
     let count = as_many_runs g.F.S.Source.left g.F.S.Source.origin g.F.S.Source.faults (g.F.Shelf.holds c.args.shelf.now) _ _ _ _ _ runs c.in_ok-runs.ensures in
-    omega (arith, ap length ends, length-map (map (λ (run : FileRun). run.end) runs) (λ (end : WorkerEnd). end.end), length-map runs (λ (run : FileRun). run.end), count,
-        length-map c.args.names.now string_bytes, c.requires.few)
+    omega (
+      arith,
+      ap length ends,
+      length-map (map (λ (run : FileRun). run.end) runs) (λ (end : WorkerEnd). end.end),
+      length-map runs (λ (run : FileRun). run.end),
+      count,
+      length-map c.args.names.now string_bytes,
+      c.requires.few,
+    )
 
 pub worker_lines-requires : goal.worker_lines-requires
 worker_lines-requires g c =
     let runs = c.in_ok-runs.runs.items in
     let count = as_many_runs g.F.S.Source.left g.F.S.Source.origin g.F.S.Source.faults (g.F.Shelf.holds c.args.shelf.now) _ _ _ _ _ runs c.in_ok-runs.ensures in
-    omega (arith, ap length (c.deref-3.ensures.value ∙ c.in_ok-parted.ensures.verdicts), length-map runs (λ (run : FileRun). run.verdicts.items), count,
-        length-map c.args.names.now string_bytes, c.requires.few)
+    omega (
+      arith,
+      ap length (c.deref-3.ensures.value ∙ c.in_ok-parted.ensures.verdicts),
+      length-map runs (λ (run : FileRun). run.verdicts.items),
+      count,
+      length-map c.args.names.now string_bytes,
+      c.requires.few,
+    )
 
 pub report_of-requires : goal.report_of-requires
 report_of-requires g c =
     let later = c.read_files.new.counters in
     record {
-      few = omega (arith, length-append c.in_ok-counters.counters.events (all_events c.in_ok-runs.ensures.files), ap length c.totals.ensures, few_counters later.rules later.events, ap (λ (h : History). length h.events) c.in_ok-runs.ensures.applied,
-          ap (λ (h : History). length h.events) c.in_ok-counters.ensures, c.in_ok-runs.ensures.few, length-map c.args.names.now string_bytes, c.requires.few);
+      few = omega (
+        arith,
+        length-append c.in_ok-counters.counters.events (all_events c.in_ok-runs.ensures.files),
+        ap length c.totals.ensures,
+        few_counters later.rules later.events,
+        ap (λ (h : History). length h.events) c.in_ok-runs.ensures.applied,
+        ap (λ (h : History). length h.events) c.in_ok-counters.ensures,
+        c.in_ok-runs.ensures.few,
+        length-map c.args.names.now string_bytes,
+        c.requires.few,
+      );
     }
 
 pub returns : goal.returns
@@ -47,11 +69,11 @@ returns g c =
     let before : ShelfMemory = record { faults = g.F.Shelf.faults c.args.shelf.now; failed = g.F.Shelf.failed c.args.shelf.now } in
     let after : ShelfMemory = record { faults = g.F.Shelf.faults c.read_files.new.shelf; failed = g.F.Shelf.failed c.read_files.new.shelf } in
     let first : c.in_ok-counters.counters ≡ record { rules = rules_of config; events = [] } =
-        c.in_ok-counters.ensures ∙ (λ i. record { rules = record { scopes = c.items.ensures i; matcher = c.requires.matcher i }; events = [] }) in
+    c.in_ok-counters.ensures ∙ (λ i. record { rules = record { scopes = c.items.ensures i; matcher = c.requires.matcher i }; events = [] }) in
     let ends : c.deref-2.result.now ≡ map (λ (end : WorkerEnd). end.end) (map (λ (run : FileRun). run.end) runs) =
-        c.deref-2.ensures.value ∙ c.in_ok-ends.ensures ∙ ap (map (λ (end : WorkerEnd). end.end)) (c.deref.ensures.value ∙ c.in_ok-parted.ensures.ends) in
+    c.deref-2.ensures.value ∙ c.in_ok-ends.ensures ∙ ap (map (λ (end : WorkerEnd). end.end)) (c.deref.ensures.value ∙ c.in_ok-parted.ensures.ends) in
     let same_ends : c.deref-4.result.now ≡ map (λ (end : WorkerEnd). end.end) (map (λ (run : FileRun). run.end) runs) =
-        c.deref-4.ensures.value ∙ c.in_ok-ends.ensures ∙ ap (map (λ (end : WorkerEnd). end.end)) (c.deref.ensures.value ∙ c.in_ok-parted.ensures.ends) in
+    c.deref-4.ensures.value ∙ c.in_ok-ends.ensures ∙ ap (map (λ (end : WorkerEnd). end.end)) (c.deref.ensures.value ∙ c.in_ok-parted.ensures.ends) in
     ready_of g.F.S.Source.left g.F.S.Source.origin g.F.S.Source.faults held (map string_bytes c.args.names.now) before after config c.read_files.new.counters runs _
     (subst (λ (h : History). ReadsFiles g.F.S.Source.left g.F.S.Source.origin g.F.S.Source.faults held (map string_bytes c.args.names.now) before after h c.read_files.new.counters runs) first c.in_ok-runs.ensures)
     (c.in_ok-report.ensures ∙ (λ i. record {
