@@ -87,10 +87,10 @@ fn call_often(word: &AtomicU64, call: Call, times: u32) {
             }
         }
         Call::Value => {
-            // each reading goes into a running sum, which is added at the end, so that no compiler leaves a reading out
+            // the sum of the readings, which is 0, is added at the end, so that no compiler leaves a reading out
             let mut sum = 0u64;
             for _ in 0..times {
-                sum = sum.wrapping_mul(31).wrapping_add(word.load(SeqCst));
+                sum = sum.wrapping_add(word.load(SeqCst));
             }
             word.fetch_add(sum, SeqCst);
         }

@@ -146,14 +146,14 @@ fn set_often(bank: &GaugeBank, mut seat: GaugeSeat, times: u32) -> GaugeSeat
     seat
 }
 
-// Each reading goes into a running sum, by a multiplication, as one that is used would. The sum, which is 0, is added at the end, so that no compiler leaves a reading out.
+// The sum of the readings, which is 0, is added at the end, so that no compiler leaves a reading out.
 fn read_often(bank: &GaugeBank, mut seat: GaugeSeat, times: u32) -> GaugeSeat
     requires { IsGaugeReady bank.now seat }
     ensures { gauge_bank result ≡ gauges_id bank.now }
 {
     let mut sum = 0u64;
     for _ in 0..times {
-        sum = sum.wrapping_mul(31).wrapping_add(bank.value(&mut seat, ID));
+        sum = sum.wrapping_add(bank.value(&mut seat, ID));
     }
     bank.add(&mut seat, ID, sum);
     seat
