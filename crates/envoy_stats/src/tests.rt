@@ -1,6 +1,6 @@
 use super::*;
 use stat_defs::{Delta, MetricId, Verdict};
-use stats_io::{MemFile, MemShelf, MemSink};
+use stats_io::{MemFile, MemShelf, MemSink, Shelf};
 use std::alloc::Global;
 use std::process::Abort;
 use std::test::Fail;
