@@ -1,3 +1,5 @@
+ghost use Rattle.std.specs.Prelude.{◌≤◌, IfOk};
+
 use super::*;
 use stat_defs::{Delta, MetricId, Verdict};
 use stats_io::{MemFile, MemShelf, MemSink, Shelf};
@@ -58,9 +60,11 @@ fn words_of(alloc: Global, text: &str) -> Result<Vec<String>, Fail> {
 }
 
 // A file that is given in pieces of 16 bytes, whose pull of that number fails.
-fn file_of(alloc: Global, name: String, bytes: &[u8], failing_pull: u64) -> Result<MemFile, Fail> {
+fn file_of(alloc: Global, name: &str, bytes: &[u8], failing_pull: u64) -> Result<MemFile, Fail>
+    ensures { IfOk result (λ file. 1 ≤ file.piece) }
+{
     Ok(MemFile {
-        name,
+        name: String::from_str(alloc, name)?,
         bytes: bytes.to_vec(alloc)?,
         piece: 16,
         fails: vec![in alloc; failing_pull]?,
@@ -69,7 +73,7 @@ fn file_of(alloc: Global, name: String, bytes: &[u8], failing_pull: u64) -> Resu
 
 // A shelf with the file `f1`.
 fn shelf_of(alloc: Global, file: &[u8], failing_pull: u64) -> Result<MemShelf, Fail> {
-    let file = file_of(alloc, String::from_str(alloc, "f1")?, file, failing_pull)?;
+    let file = file_of(alloc, "f1", file, failing_pull)?;
     Ok(MemShelf::new(vec![in alloc; file]?, Vec::new(alloc)))
 }
 
@@ -130,21 +134,32 @@ fn digit_of(text: &[u8]) -> u8 {
     }
 }
 
-// Adds the files `f1`, `f2` and so on of a row, and their names to the words.
-fn add_files(
+// A shelf with a bootstrap and the files of a row, up to three.
+fn shelf_with(
     alloc: Global,
-    files: &mut Vec<MemFile>,
-    words: &mut String,
+    boot: &[u8],
     bytes: &[u8],
     failing_pull: u64,
-) -> Result<(), Fail> {
-    for (i, file) in bytes.split(|b| *b == 3).enumerate() {
-        let name = format!(in alloc; "f{}", i.saturating_add(1))?;
-        words.push_str(" ")?;
-        words.push_str(name.as_str())?;
-        files.push(file_of(alloc, name, file, failing_pull)?)?;
+) -> Result<MemShelf, Fail> {
+    let mut parts = bytes.split(|b| *b == 3);
+    let first = parts.next().unwrap_or(b"");
+    let second = parts.next().unwrap_or(b"");
+    let third = parts.next().unwrap_or(b"");
+    let boot = file_of(alloc, "b", boot, 999)?;
+    let first = file_of(alloc, "f1", first, failing_pull)?;
+    let second = file_of(alloc, "f2", second, failing_pull)?;
+    let third = file_of(alloc, "f3", third, failing_pull)?;
+    Ok(MemShelf::new(vec![in alloc; boot, first, second, third]?, Vec::new(alloc)))
+}
+
+// The words of a row with so many files.
+fn words_for(usual: bool, files: usize) -> &'static str {
+    match (usual, files) {
+        (true, 1) => "replay - f1",
+        (true, 2) => "replay - f1 f2",
+        (true, _) => "replay - f1 f2 f3",
+        (false, _) => "replay b f1",
     }
-    Ok(())
 }
 
 fn assert_row(rt: &impl Abort, alloc: Global, row: &[u8]) -> Result<(), Fail> {
@@ -154,13 +169,10 @@ fn assert_row(rt: &impl Abort, alloc: Global, row: &[u8]) -> Result<(), Fail> {
     let failing_pull = u64::from(digit_of(part(&mut rest)));
     let status = digit_of(part(&mut rest));
     let out = part(&mut rest);
-    let mut files = Vec::new(alloc);
-    let usual = boot == b"-".as_slice();
-    files.push(file_of(alloc, String::from_str(alloc, "b")?, boot, 999)?)?;
-    let mut words = String::from_str(alloc, if usual { "replay -" } else { "replay b" })?;
-    add_files(alloc, &mut files, &mut words, bytes, failing_pull)?;
-    let shelf = MemShelf::new(files, Vec::new(alloc));
-    let played = play_over(alloc, words.as_str(), shelf, 7, 999)?;
+    let files = bytes.split(|b| *b == 3).count();
+    let words = words_for(boot == b"-".as_slice(), files);
+    let shelf = shelf_with(alloc, boot, bytes, failing_pull)?;
+    let played = play_over(alloc, words, shelf, 7, 999)?;
     assert_eq!(rt; played.outcome.status, status, "{row:?}");
     assert!(rt; played.out.bytes() == out, "{row:?}");
     assert!(rt; played.err.bytes() == rest, "{row:?}");
