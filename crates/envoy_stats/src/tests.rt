@@ -18,7 +18,7 @@ const ROWS: &[u8] = b"\
 -\x01inc root a 1\ninc root a 01\ninc root a 1\n\x019\x013\x01# last\nenvoy.a:1|c\n# worker 1: 1 accepted, 0 dropped\n\x01file 1 line 2: no event\n\x02\
 -\x01inc root a 1\ninc root b 2\n\x011\x014\x01# last\nenvoy.a:1|c\n# worker 1: 1 accepted, 0 dropped\n\x01file 1: read failed\n\x02\
 -\x01inc root a 1\x03inc root b 2\n# x\nbogus\ninc root c 1\x019\x013\x01# last\nenvoy.a:1|c\nenvoy.b:2|c\n# worker 1: 1 accepted, 0 dropped\n# worker 2: 1 accepted, 0 dropped\n\x01file 2 line 3: no event\n\x02\
--\x01inc root a 1\ninc root b 2\n\x03x\x03inc root a 4\x011\x014\x01# last\nenvoy.a:5|c\n# worker 1: 1 accepted, 0 dropped\n# worker 2: 0 accepted, 0 dropped\n# worker 3: 1 accepted, 0 dropped\n\x01file 1: read failed\nfile 2 line 1: no event\n\x02\
+-\x01x\n\x03inc root a 1\ninc root b 2\n\x011\x013\x01# last\nenvoy.a:1|c\n# worker 1: 0 accepted, 0 dropped\n# worker 2: 1 accepted, 0 dropped\n\x01file 1 line 1: no event\nfile 2: read failed\n\x02\
 {\"stats_config\":{\"stats_matcher\":{\"inclusion_list\":{\"patterns\":[{\"prefix\":\"cluster.\"}]}}}}\x01inc root cluster.x 1\ninc root server.y 1\x019\x010\x01# last\nenvoy.cluster.x:1|c\n# worker 1: 1 accepted, 1 dropped\n\x01\x02\
 {\"stats_run\":{\"flushes\":3,\"reads\":2,\"scopes\":[{\"label\":\"x\",\"prefix\":\"p\"},{\"label\":\"y\",\"prefix\":\"p.\"}]}}\x01inc x a 1\ninc y a 2\x019\x010\x01# last\nenvoy.p.a:3|c\n# worker 1: 2 accepted, 0 dropped\n\x01\x02\
 {\"stats_config\":{\"use_all_default_tags\":true,\"stats_tags\":[{\"tag_name\":\"region\",\"fixed_value\":\"eu-1\"}],\"stats_matcher\":{\"exclusion_list\":{\"patterns\":[{\"prefix\":\"cluster.api.internal.\"},{\"safe_regex\":{\"regex\":\".*\\\\.debug\"}}]}},\"histogram_bucket_settings\":[{\"match\":{\"suffix\":\"_ms\"},\"buckets\":[10,50,100,1000]}]},\"stats_sinks\":[{\"name\":\"envoy.stat_sinks.statsd\",\"typed_config\":{\"prefix\":\"edge\"}}],\"stats_run\":{\"scopes\":[{\"label\":\"web\",\"prefix\":\"http.web.\"},{\"label\":\"api\",\"prefix\":\"cluster.api\"}]}}\x01inc root a 1\ninc web rq 2\ninc api x 3\ninc api internal.y 4\ninc api z.debug 5\x019\x010\x01# last\nedge.a:1|c\nedge.cluster.api.x:3|c\nedge.http.web.rq:2|c\n# worker 1: 3 accepted, 2 dropped\n\x01\x02\
@@ -90,7 +90,7 @@ fn play(
     let words = words_of(alloc, words)?;
     let mut maker = RegexMaker::new(vec![in alloc; failing_pattern]?);
     let mut shelf = shelf;
-    let mut out = MemSink::new(alloc, 1000, piece.max(1), vec![in alloc; failing_push]?)?;
+    let mut out = MemSink::new(alloc, 2000, piece.max(1), vec![in alloc; failing_push]?)?;
     let mut err = MemSink::new(alloc, 1000, 100, Vec::new(alloc))?;
     let outcome = quiet_stats(alloc, &words, &mut maker, &mut shelf, &mut out, &mut err);
     Ok(Played {
