@@ -8,7 +8,7 @@ use std::time::Instant;
 
 const COUNTED: u32 = 1_000;
 const TIMED: u32 = 4_000_000;
-const TIMED_LOADS: u32 = 400_000_000;
+const TIMED_LOADS: u32 = 100_000_000;
 /// Counters so far apart that no two are in one cache line.
 const APART: usize = 16;
 
@@ -58,59 +58,74 @@ enum Call {
     Add,
     Sub,
     Set,
+    /// Each reading says which gauge is read next, so that no reading begins before the last one has its word.
     Value,
+    /// Readings that wait for nothing, so that several are under way at once. They are only added up.
+    ValuesInARow,
 }
 
-const CALLS: [(Call, &str, u32); 4] = [
+const GAUGES: u32 = 16;
+
+const CALLS: [(Call, &str, u32); 5] = [
     (Call::Add, "gauge add", TIMED),
     (Call::Sub, "gauge sub", TIMED),
     (Call::Set, "gauge set", TIMED),
     (Call::Value, "gauge value", TIMED_LOADS),
+    (Call::ValuesInARow, "gauge values in a row", TIMED_LOADS),
 ];
 
 #[inline(never)]
-fn call_often(word: &AtomicU64, call: Call, times: u32) {
+fn call_often(words: &[AtomicU64; GAUGES as usize], call: Call, times: u32) {
     match call {
         Call::Add => {
             for _ in 0..times {
-                word.fetch_add(1, SeqCst);
+                words[0].fetch_add(1, SeqCst);
             }
         }
         Call::Sub => {
             for _ in 0..times {
-                word.fetch_sub(1, SeqCst);
+                words[0].fetch_sub(1, SeqCst);
             }
         }
         Call::Set => {
             for _ in 0..times {
-                word.swap(7, SeqCst);
+                words[0].swap(7, SeqCst);
             }
         }
         Call::Value => {
+            // all words are 0 and so name gauge 0, which no compiler knows; the last one is added at the end, so that it is used
+            let mut word = 0u64;
+            for _ in 0..times {
+                let id = (word % GAUGES as u64) as u32;
+                word = words[id as usize].load(SeqCst);
+            }
+            words[0].fetch_add(word, SeqCst);
+        }
+        Call::ValuesInARow => {
             // the sum of the readings, which is 0, is added at the end, so that no compiler leaves a reading out
             let mut sum = 0u64;
             for _ in 0..times {
-                sum = sum.wrapping_add(word.load(SeqCst));
+                sum = sum.wrapping_add(words[0].load(SeqCst));
             }
-            word.fetch_add(sum, SeqCst);
+            words[0].fetch_add(sum, SeqCst);
         }
     }
 }
 
-fn run_gauge(call: Call, four: bool, times: u32) -> u64 {
-    let words = vec![AtomicU64::new(0)];
-    let word = &words[0];
+fn run_gauges(call: Call, four: bool, times: u32) -> u64 {
+    let words: Box<[AtomicU64; GAUGES as usize]> = Box::default();
     if four {
         thread::scope(|scope| {
             for _ in 1..4 {
-                scope.spawn(move || call_often(word, call, times));
+                let words = &words;
+                scope.spawn(move || call_often(words, call, times));
             }
-            call_often(word, call, times);
+            call_often(&words, call, times);
         });
     } else {
-        call_often(word, call, times);
+        call_often(&words, call, times);
     }
-    word.load(SeqCst)
+    words[0].load(SeqCst)
 }
 
 fn per_call(start: Instant, times: u32) -> u128 {
@@ -135,11 +150,11 @@ fn main() {
         for (call, name, times) in CALLS {
             if timed {
                 let start = Instant::now();
-                run_gauge(call, four, times);
+                run_gauges(call, four, times);
                 let picoseconds = per_call(start, times);
                 println!("{name}, {threads}: {}.{:03} ns", picoseconds / 1000, picoseconds % 1000);
             } else {
-                println!("{name}, {threads}: word {}", run_gauge(call, four, COUNTED));
+                println!("{name}, {threads}: word {}", run_gauges(call, four, COUNTED));
             }
         }
     }

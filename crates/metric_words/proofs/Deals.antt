@@ -4,8 +4,8 @@ use Rattle.std.proofs.lemmas.List.{length-replicate, map-append, map-id}
 use Rattle.std.proofs.lemmas.List.FromFn.{map-range_with_len_more}
 use Rattle.std.specs.List.{range_with_len}
 use Rattle.std.proofs.lemmas.List.Elements.{All-nil, All-cons}
-use Rattle.atomic_table.specs.Table.{Me, Splits, Joins, opening}
-use Rattle.seat_parts.specs.Parts.{total, parts_total, dealt, undealt, joined, spent}
+use Rattle.atomic_table.specs.Table.{State, Me, Splits, Joins, opening}
+use Rattle.seat_parts.specs.Parts.{total, parts_total, AllParts, dealt, undealt, joined, spent}
 use Rattle.seat_parts.proofs.Cuts.{split-total, split-all, join-total, join-all}
 use Rattle.metric_words.specs.declared.limits.TheConstants.{MAX_UNITS}
 use Rattle.metric_words.specs.declared.view.SeatRole.{SeatRole}
@@ -55,9 +55,11 @@ opens key words is narrow =
       each = All-cons (λ (v : View). All (FitsBank key.workers words) v.parts) (bank_view key) [] all (All-nil _);
     }
 
-pub splits : (key : BankKey) (id : ℕ) (v : View) → Splits (Counted key) id v (undealt v) (dealt v)
-splits key id v s r at =
-    let same : (f : CountPart → ℕ) → parts_total f (set s.views id (undealt v) ++ dealt v ∷ []) ≡ parts_total f s.views = λ f. split-total f s.views id v at in
+-- views with the same sums keep the rule
+regrouped : (key : BankKey) (s : State (Unit {0}) View) (views : List View) → Counted key s
+    → ((f : CountPart → ℕ) → parts_total f views ≡ parts_total f s.views) → AllParts (FitsBank key.workers s.words) views
+    → Counted key (record { words = s.words; homes = s.homes; views = views })
+regrouped key s views r same each =
     record {
       wide = r.wide;
       narrow = r.narrow;
@@ -65,21 +67,18 @@ splits key id v s r at =
       flusher = same (λ p. flusher_weight p.role) ∙ r.flusher;
       value = λ k. r.value k ∙ sym (same (λ p. firsts k p.steps));
       pending = λ k. (let e = r.pending k in let a = same (λ p. latches k p.steps) in let b = same (λ p. seconds k p.steps) in omega arith);
-      each = split-all (FitsBank key.workers s.words) s.views id v at r.each;
+      each = each;
     }
+
+pub splits : (key : BankKey) (id : ℕ) (v : View) → Splits (Counted key) id v (undealt v) (dealt v)
+splits key id v s r at =
+    regrouped key s (set s.views id (undealt v) ++ dealt v ∷ []) r (λ f. split-total f s.views id v at)
+    (split-all (FitsBank key.workers s.words) s.views id v at r.each)
 
 pub joins : (key : BankKey) (id other : ℕ) (v w : View) → Joins (Counted key) id v other w (joined v w) spent
 joins key id other v w s r at ne at' =
-    let same : (f : CountPart → ℕ) → parts_total f (set (set s.views id (joined v w)) other spent) ≡ parts_total f s.views = λ f. join-total f s.views id other v w at at' in
-    record {
-      wide = r.wide;
-      narrow = r.narrow;
-      workers = same (λ p. worker_weight p.role) ∙ r.workers;
-      flusher = same (λ p. flusher_weight p.role) ∙ r.flusher;
-      value = λ k. r.value k ∙ sym (same (λ p. firsts k p.steps));
-      pending = λ k. (let e = r.pending k in let a = same (λ p. latches k p.steps) in let b = same (λ p. seconds k p.steps) in omega arith);
-      each = join-all (FitsBank key.workers s.words) s.views id other v w at ne at' r.each;
-    }
+    regrouped key s (set (set s.views id (joined v w)) other spent) r (λ f. join-total f s.views id other v w at at')
+    (join-all (FitsBank key.workers s.words) s.views id other v w at ne at' r.each)
 
 abbrev Sat : Type 0
 Sat = Me (Unit {0}) View

@@ -3,8 +3,8 @@ use Rattle.std.proofs.Common.{◌≡◌, ℕ, zero, suc, ◌+◌, ◌-◌, ◌%�
 use Rattle.std.proofs.lemmas.List.{length-replicate, map-append}
 use Rattle.std.specs.List.{range_with_len}
 use Rattle.std.proofs.lemmas.List.Elements.{All-nil, All-cons}
-use Rattle.atomic_table.specs.Table.{Me, Splits, Joins, opening}
-use Rattle.seat_parts.specs.Parts.{total, parts_total, dealt, undealt, joined, spent}
+use Rattle.atomic_table.specs.Table.{State, Me, Splits, Joins, opening}
+use Rattle.seat_parts.specs.Parts.{total, parts_total, AllParts, AnyPart, dealt, undealt, joined, spent}
 use Rattle.seat_parts.proofs.Cuts.{split-total, split-all, join-total, join-all, parts-mapped}
 use Rattle.seat_parts.proofs.Anys.{split-any, join-any}
 use Rattle.metric_words.specs.declared.gauge_view.GaugePart.{GaugePart}
@@ -39,33 +39,35 @@ opens key words is =
       last = λ k. inl (none (λ p. written k p.steps) (λ _. refl));
     }
 
-pub splits : (key : GaugeKey) (id : ℕ) (v : View) → Splits (Gauged key) id v (undealt v) (dealt v)
-splits key id v s r at =
-    let views : List View = set s.views id (undealt v) ++ dealt v ∷ [] in
-    let same : (f : GaugePart → ℕ) → parts_total f views ≡ parts_total f s.views = λ f. split-total f s.views id v at in
-    let A : GaugePart → Type 0 = Alone s.words (λ id. parts_total (λ (p : GaugePart). written id p.steps) s.views) in
-    let B : GaugePart → Type 0 = Alone s.words (λ id. parts_total (λ (p : GaugePart). written id p.steps) views) in
+-- no other seat has written the gauges that this one has
+abbrev LonePart : List ℕ → List View → GaugePart → Type 0
+LonePart words views = Alone words (λ id. parts_total (λ (p : GaugePart). written id p.steps) views)
+
+-- views with the same sums, in which some part still wrote last, keep the rule
+regrouped : (key : GaugeKey) (s : State (Unit {0}) View) (views : List View) → Gauged key s
+    → ((f : GaugePart → ℕ) → parts_total f views ≡ parts_total f s.views) → AllParts (LonePart s.words s.views) views
+    → ((k : ℕ) → AnyPart (WroteLast k (get_or s.words k 0)) s.views → AnyPart (WroteLast k (get_or s.words k 0)) views)
+    → Gauged key (record { words = s.words; homes = s.homes; views = views })
+regrouped key s views r same alone some =
     record {
       wide = r.wide;
       seats = same (λ _. 1) ∙ r.seats;
       value = λ k. r.value k ∙ ap (λ (z : ℕ). z % 2 ^ 64) (sym (same (λ p. net k p.steps)));
-      alone = parts-mapped A B (λ p f k only. f k (sym (same (λ q. written k q.steps)) ∙ only)) views (split-all A s.views id v at r.alone);
-      last = λ k. ⊎_elim (λ z. inl (same (λ p. written k p.steps) ∙ z)) (λ a. inr (split-any (WroteLast k (get_or s.words k 0)) s.views id v at a)) (r.last k);
+      alone = parts-mapped (LonePart s.words s.views) (LonePart s.words views) (λ p f k only. f k (sym (same (λ q. written k q.steps)) ∙ only)) views alone;
+      last = λ k. ⊎_elim (λ z. inl (same (λ p. written k p.steps) ∙ z)) (λ a. inr (some k a)) (r.last k);
     }
+
+pub splits : (key : GaugeKey) (id : ℕ) (v : View) → Splits (Gauged key) id v (undealt v) (dealt v)
+splits key id v s r at =
+    regrouped key s (set s.views id (undealt v) ++ dealt v ∷ []) r (λ f. split-total f s.views id v at)
+    (split-all (LonePart s.words s.views) s.views id v at r.alone)
+    (λ k. split-any (WroteLast k (get_or s.words k 0)) s.views id v at)
 
 pub joins : (key : GaugeKey) (id other : ℕ) (v w : View) → Joins (Gauged key) id v other w (joined v w) spent
 joins key id other v w s r at ne at' =
-    let views : List View = set (set s.views id (joined v w)) other spent in
-    let same : (f : GaugePart → ℕ) → parts_total f views ≡ parts_total f s.views = λ f. join-total f s.views id other v w at at' in
-    let A : GaugePart → Type 0 = Alone s.words (λ id. parts_total (λ (p : GaugePart). written id p.steps) s.views) in
-    let B : GaugePart → Type 0 = Alone s.words (λ id. parts_total (λ (p : GaugePart). written id p.steps) views) in
-    record {
-      wide = r.wide;
-      seats = same (λ _. 1) ∙ r.seats;
-      value = λ k. r.value k ∙ ap (λ (z : ℕ). z % 2 ^ 64) (sym (same (λ p. net k p.steps)));
-      alone = parts-mapped A B (λ p f k only. f k (sym (same (λ q. written k q.steps)) ∙ only)) views (join-all A s.views id other v w at ne at' r.alone);
-      last = λ k. ⊎_elim (λ z. inl (same (λ p. written k p.steps) ∙ z)) (λ a. inr (join-any (WroteLast k (get_or s.words k 0)) s.views id other v w at ne at' a)) (r.last k);
-    }
+    regrouped key s (set (set s.views id (joined v w)) other spent) r (λ f. join-total f s.views id other v w at at')
+    (join-all (LonePart s.words s.views) s.views id other v w at ne at' r.alone)
+    (λ k. join-any (WroteLast k (get_or s.words k 0)) s.views id other v w at ne at')
 
 abbrev Sat : Type 0
 Sat = Me (Unit {0}) View

@@ -11,6 +11,6 @@ use Rattle.metric_words.specs.GaugeLedger.{gauges_id, gauges_size, gauge_bank}
 abbrev pub IsReady : CounterBank → WorkerSeat → ℕ → Type 0
 IsReady bank seat id = (worker_bank seat ≡ bank_id bank) × (worker_steps seat ≡ []) × (id < size_of bank)
 
--- a seat of the bank, which has a gauge
+-- a seat of the bank, which has 16 gauges
 abbrev pub IsGaugeReady : GaugeBank → GaugeSeat → Type 0
-IsGaugeReady bank seat = (gauge_bank seat ≡ gauges_id bank) × (0 < gauges_size bank)
+IsGaugeReady bank seat = (gauge_bank seat ≡ gauges_id bank) × (gauges_size bank ≡ 16)

@@ -3,6 +3,7 @@ ghost use Rattle.std.specs.Prelude.{◌≡◌, ◌+◌, ◌<◌, ◌≤◌, leng
 ghost use Rattle.metric_words.specs.Seats.{bank_id, size_of, worker_bank, IsNewWorker};
 ghost use Rattle.words_bench.specs.Ready.{IsReady};
 
+use crate::four::four_of;
 use metric_words::{CounterBank, WordSeats, WorkerSeat};
 use stat_defs::{MetricId, NoMemory};
 use std::alloc::Global;
@@ -35,15 +36,11 @@ pub fn run<R: Threads + Sync>(
 ) -> Result<Totals, NoMemory> {
     let (bank, seats) = CounterBank::new(alloc, 4, 4 * APART)?;
     let WordSeats {
-        mut workers,
+        workers,
         flusher,
         reader,
     } = seats;
-    let fourth = pop_new(&bank, &mut workers);
-    let third = pop_new(&bank, &mut workers);
-    let second = pop_new(&bank, &mut workers);
-    let first = pop_new(&bank, &mut workers);
-    let four = (first, second, third, fourth);
+    let four = four_of(workers);
     let (first, second, third, fourth) = match shape {
         Shape::OneThread => (
             add_often(&bank, four.0, MetricId(0), times),
@@ -64,14 +61,6 @@ pub fn run<R: Threads + Sync>(
         value: sum_of(closed.values.items()),
         pending: sum_of(closed.pending.items()),
     })
-}
-
-fn pop_new(bank: &CounterBank, workers: &mut Vec<WorkerSeat>) -> WorkerSeat
-    requires { All (IsNewWorker (bank_id bank.now)) workers.old.items × (0 < length workers.old.items) }
-    ensures seat { IsNewWorker (bank_id bank.now) result }
-    ensures rest { All (IsNewWorker (bank_id bank.now)) workers.new.items × (length workers.new.items + 1 ≡ length workers.old.items) }
-{
-    workers.pop().unwrap()
 }
 
 fn sum_of(words: &[u64]) -> u64 {

@@ -3,19 +3,25 @@ ghost use Rattle.std.specs.Prelude.{◌≡◌, ◌+◌, ◌<◌, length, All};
 ghost use Rattle.metric_words.specs.GaugeLedger.{gauges_id, gauge_bank, IsNewGauge};
 ghost use Rattle.words_bench.specs.Ready.{IsGaugeReady};
 
+use crate::four::four_of;
 use metric_words::{GaugeBank, GaugeSeat, GaugeSeats};
 use stat_defs::{MetricId, NoMemory};
 use std::alloc::Global;
 use std::thread::{Threads, join};
 
-/// What is called.
+/// What is called, on gauge 0 where the call does not say another.
 #[derive(Clone, Copy)]
 pub enum Call {
     Add,
     Sub,
     Set,
+    /// Each reading says which gauge is read next, so that no reading begins before the last one has its word.
     Value,
+    /// Readings that wait for nothing, so that several are under way at once. They are only added up.
+    ValuesInARow,
 }
+
+const SIZE: u32 = 16;
 
 const ID: MetricId = MetricId(0);
 
@@ -27,16 +33,13 @@ pub fn run<R: Threads + Sync>(
     four: bool,
     times: u32,
 ) -> Result<u64, NoMemory> {
-    let (bank, seats) = GaugeBank::new(alloc, 4, 1)?;
+    let (bank, seats) = GaugeBank::new(alloc, 4, SIZE)?;
     let GaugeSeats {
-        mut workers,
+        workers,
         flusher,
         reader,
     } = seats;
-    let fourth = pop_new(&bank, &mut workers);
-    let third = pop_new(&bank, &mut workers);
-    let second = pop_new(&bank, &mut workers);
-    let first = pop_new(&bank, &mut workers);
+    let (first, second, third, fourth) = four_of(workers);
     let (first, second, third, fourth) = if four {
         call_by_four(rt, &bank, (first, second, third, fourth), call, times)
     } else {
@@ -49,14 +52,6 @@ pub fn run<R: Threads + Sync>(
     };
     let words = bank.close(alloc, seats)?;
     Ok(words.items()[0])
-}
-
-fn pop_new(bank: &GaugeBank, workers: &mut Vec<GaugeSeat>) -> GaugeSeat
-    requires { All (IsNewGauge (gauges_id bank.now)) workers.old.items × (0 < length workers.old.items) }
-    ensures seat { IsNewGauge (gauges_id bank.now) result }
-    ensures rest { All (IsNewGauge (gauges_id bank.now)) workers.new.items × (length workers.new.items + 1 ≡ length workers.old.items) }
-{
-    workers.pop().unwrap()
 }
 
 type Four = (GaugeSeat, GaugeSeat, GaugeSeat, GaugeSeat);
@@ -112,7 +107,8 @@ fn call_often(bank: &GaugeBank, seat: GaugeSeat, call: Call, times: u32) -> Gaug
         Call::Add => add_often(bank, seat, times),
         Call::Sub => sub_often(bank, seat, times),
         Call::Set => set_often(bank, seat, times),
-        Call::Value => read_often(bank, seat, times),
+        Call::Value => follow_often(bank, seat, times),
+        Call::ValuesInARow => read_often(bank, seat, times),
     }
 }
 
@@ -143,6 +139,20 @@ fn set_often(bank: &GaugeBank, mut seat: GaugeSeat, times: u32) -> GaugeSeat
     for _ in 0..times {
         bank.set(&mut seat, ID, 7);
     }
+    seat
+}
+
+// All words are 0 and so name gauge 0, which no compiler knows. The last one is added at the end, so that it is used.
+fn follow_often(bank: &GaugeBank, mut seat: GaugeSeat, times: u32) -> GaugeSeat
+    requires { IsGaugeReady bank.now seat }
+    ensures { gauge_bank result ≡ gauges_id bank.now }
+{
+    let mut word = 0u64;
+    for _ in 0..times {
+        let id = MetricId((word % SIZE as u64) as u32);
+        word = bank.value(&mut seat, id);
+    }
+    bank.add(&mut seat, ID, word);
     seat
 }
 

@@ -4,6 +4,7 @@
 ghost use Rattle.std.specs.Prelude.{◌≤◌};
 
 mod counters;
+mod four;
 mod gauges;
 
 use counters::Shape;
@@ -19,7 +20,7 @@ const COUNTED: u32 = 1_000;
 const TIMED: u32 = 4_000_000;
 
 /// The same of loads, which take much less.
-const TIMED_LOADS: u32 = 400_000_000;
+const TIMED_LOADS: u32 = 100_000_000;
 
 const SHAPES: [(Shape, &str); 3] = [
     (Shape::OneThread, "add, one thread"),
@@ -27,11 +28,12 @@ const SHAPES: [(Shape, &str); 3] = [
     (Shape::FourCounters, "add, four threads on four counters"),
 ];
 
-const CALLS: [(Call, &str, u32); 4] = [
+const CALLS: [(Call, &str, u32); 5] = [
     (Call::Add, "gauge add", TIMED),
     (Call::Sub, "gauge sub", TIMED),
     (Call::Set, "gauge set", TIMED),
     (Call::Value, "gauge value", TIMED_LOADS),
+    (Call::ValuesInARow, "gauge values in a row", TIMED_LOADS),
 ];
 
 fn main(rt: HostRuntime) -> io::Result<()> {
