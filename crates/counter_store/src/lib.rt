@@ -5,7 +5,6 @@
 #![tactic(auto)]
 
 mod finding;
-mod past;
 mod seen;
 mod store;
 mod units;
