@@ -7,6 +7,8 @@
 mod finding;
 mod seen;
 mod store;
+#[cfg(test)]
+mod tests;
 mod units;
 
 pub use store::Counters;
