@@ -6,11 +6,11 @@ use Rattle.counter_store.specs.Counting.{History, Rules, counters, units, tally}
 use Rattle.counter_store.specs.Held.{rules_of, AreSettled}
 
 abbrev pub history_of : Inside → History
-history_of c = record { rules = rules_of c.scopes c.matcher; events = c.past.events }
+history_of c = record { rules = rules_of c.scopes c.matcher; events = c.past.items }
 
 -- the totals are what the events come to, and no verdict that is held has changed
 pub record IsLedger (rules : Rules) (c : Inside) : Type 0 where
   pub scopes : AreScopes rules.scopes
-  pub totals : c.totals.entries ≡ tally rules c.past.events
-  pub settled : AreSettled rules (counters rules c.past.events) c.seen.entries
-  pub small : (id : ℕ) → units rules c.past.events id ≤ length c.past.events * 2 ^ 32
+  pub totals : c.totals.entries ≡ tally rules c.past.items
+  pub settled : AreSettled rules (counters rules c.past.items) c.seen.entries
+  pub small : (id : ℕ) → units rules c.past.items id ≤ length c.past.items * 2 ^ 32

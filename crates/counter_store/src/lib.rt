@@ -5,9 +5,10 @@
 #![tactic(auto)]
 
 mod finding;
-mod past;
 mod seen;
 mod store;
+#[cfg(test)]
+mod tests;
 mod units;
 
 pub use store::Counters;

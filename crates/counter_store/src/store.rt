@@ -4,9 +4,9 @@ ghost use Rattle.stat_defs.specs.Configs.{AreScopes};
 ghost use Rattle.counter_store.specs.Counting.{IsNamed, counters, verdict_of, tally};
 
 use crate::finding::count;
-use crate::past::Past;
 use crate::seen::{Seen, increment};
 use crate::units::Totals;
+use ghost_list::GhostList;
 use indexmap::IndexMap;
 use stat_defs::{Event, List, NoMemory, ScopeSpec, Verdict};
 use std::alloc::Global;
@@ -20,7 +20,7 @@ pub struct Counters {
     seen: Seen,
     scopes: List<ScopeSpec>,
     matcher: Matcher,
-    past: Past,
+    past: GhostList<Event>,
 }
 
 impl Model for Counters {
@@ -47,7 +47,7 @@ impl Counters {
             seen: IndexMap::new(alloc),
             scopes,
             matcher,
-            past: Past::new(),
+            past: GhostList::new(),
         })
     }
 

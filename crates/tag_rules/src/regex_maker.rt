@@ -6,7 +6,7 @@ use crate::fault::MakeFault;
 use crate::maker::PatternMaker;
 use crate::pat::Pat;
 use crate::text::as_text;
-use http_server::Log;
+use ghost_list::GhostList;
 use regex::Error;
 use stat_defs::Txt;
 use std::alloc::Global;
@@ -20,12 +20,11 @@ pub struct RegexMaker {
     calls: u64,
     refusals: u64,
     last: Option<Txt>,
-    // The texts of the patterns that it made. Contracts alone read it, and it takes no memory.
-    made: Log<Txt, ()>,
+    // The texts of the patterns that it made.
+    made: GhostList<Txt>,
 }
 
 impl Model for RegexMaker {
-    ghost use Rattle.std.specs.Prelude.{map};
     ghost use Rattle.tag_rules.specs.Making.{MakerState, last_of};
 
     ghost Value = { MakerState };
@@ -35,7 +34,7 @@ impl Model for RegexMaker {
       calls = m.calls;
       refusals = m.refusals;
       last = last_of m.last;
-      made = map (λ entry. entry.0) m.made.items;
+      made = m.made.items;
     } };
 }
 
@@ -49,7 +48,7 @@ impl RegexMaker {
             calls: 0,
             refusals: 0,
             last: None,
-            made: Log::new(),
+            made: GhostList::new(),
         }
     }
 
@@ -91,7 +90,7 @@ impl PatternMaker for RegexMaker {
         match Pat::new(alloc, as_text(text)) {
             Ok(pattern) => {
                 self.calls = call.saturating_add(1);
-                self.made = self.made.and(&copy, &());
+                self.made = self.made.and(&copy);
                 Ok(pattern)
             }
             Err(Error::OutOfMemory) => Err(MakeFault::NoMemory),
