@@ -1,21 +1,22 @@
 -- What the bytes of a bootstrap say of statistics: the configuration, or the first fault (Envoy's statistics configuration
 -- reference; the order of faults is this project's own). The parts are looked at in the order of the lines below, the
 -- members of a list in order, and a part's own parts in the order of its definition.
-use Rattle.std.specs.Prelude.{List, ℕ, map, codes, Some, Result, Ok}
+use Rattle.std.specs.Prelude.{List, ℕ, map, codes, Option, None, Some, Result, Ok, Err}
 use Rattle.stat_defs.specs.declared.configs.Config.{Config}
 use Rattle.stat_defs.specs.declared.configs.MatchSpec.{MatchSpec}
 use Rattle.stat_defs.specs.declared.configs.BucketSpec.{BucketSpec}
-use Rattle.serde_json.specs.Data.{Data}
+use Rattle.serde_json.specs.Data.{Data, object}
 use Rattle.boot_file.specs.declared.default_tags.PlacedTag.{PlacedTag}
-use Rattle.boot_file.specs.declared.fault.BootFault.{BootFault}
+use Rattle.boot_values.specs.declared.fault.BootFault.{BootFault}
+use Rattle.boot_values.specs.declared.fault.BootFault.TheVariants.{NotJson, BadKey}
 use Rattle.boot_file.specs.declared.run.Run.{Run}
-use Rattle.boot_file.specs.Bucketing.{settings_of}
-use Rattle.boot_file.specs.Gives.{and_then}
-use Rattle.boot_file.specs.Matching.{matcher_of}
+use Rattle.boot_values.specs.Bucketing.{settings_of}
+use Rattle.boot_values.specs.Gives.{and_then}
+use Rattle.boot_values.specs.Matching.{matcher_of}
 use Rattle.boot_file.specs.Scoping.{run_of}
 use Rattle.boot_file.specs.Sinking.{prefix_of}
 use Rattle.boot_file.specs.Tags.{tags_of}
-use Rattle.boot_file.specs.Values.{json_of, top_of, member, section_at}
+use Rattle.boot_values.specs.Values.{json_of, member, section_at}
 
 abbrev pub config_of : List PlacedTag → MatchSpec → List BucketSpec → List ℕ → Run → Config
 config_of tags matcher buckets prefix run = record {
@@ -29,6 +30,12 @@ config_of tags matcher buckets prefix run = record {
   flush_every = run.flush_every;
   reads = run.reads;
 }
+
+-- the whole value is an object
+abbrev pub top_of : Option Data → Result Data BootFault
+top_of None = Err NotJson
+top_of (Some (object ms)) = Ok (object ms)
+top_of (Some _) = Err (BadKey (codes "top"))
 
 abbrev pub boot_of : Data → Result Config BootFault
 boot_of top =

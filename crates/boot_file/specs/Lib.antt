@@ -1,11 +1,5 @@
-pub mod Gives
-pub mod Paths
-pub mod Values
 pub mod Tags
 pub mod Lawful
-pub mod Patterns
-pub mod Matching
-pub mod Bucketing
 pub mod Sinking
 pub mod Scoping
 pub mod Boot

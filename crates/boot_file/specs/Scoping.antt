@@ -10,14 +10,14 @@ use Rattle.stat_defs.specs.declared.configs.TheConstants.{MAX_FLUSHES, MAX_FLUSH
 use Rattle.stat_defs.specs.declared.events.TheConstants.{MAX_LABEL_BYTES, MAX_NAME_BYTES}
 use Rattle.stat_defs.specs.Names.{is_label_byte, is_name_byte}
 use Rattle.serde_json.specs.Data.{Items, no_items, item, Data, string}
-use Rattle.boot_file.specs.declared.fault.BootFault.{BootFault}
-use Rattle.boot_file.specs.declared.fault.BootFault.TheVariants.{BadKey}
-use Rattle.boot_file.specs.declared.json.Limits.{Limits}
-use Rattle.boot_file.specs.declared.place.Place.TheVariants.{Scope}
+use Rattle.boot_values.specs.declared.fault.BootFault.{BootFault}
+use Rattle.boot_values.specs.declared.fault.BootFault.TheVariants.{BadKey}
+use Rattle.boot_values.specs.declared.json.Limits.{Limits}
+use Rattle.boot_values.specs.declared.place.Place.TheVariants.{Scope}
 use Rattle.boot_file.specs.declared.run.Run.{Run}
-use Rattle.boot_file.specs.Gives.{and_then}
-use Rattle.boot_file.specs.Paths.{path_of}
-use Rattle.boot_file.specs.Values.{member, section_at, whole_at, items_at}
+use Rattle.boot_values.specs.Gives.{and_then}
+use Rattle.boot_values.specs.Paths.{path_of}
+use Rattle.boot_values.specs.Values.{member, section_at, whole_at, items_at}
 
 abbrev pub is_label : List ℕ → Bool
 is_label text = nat_le 1 (length text) && (nat_le (length text) MAX_LABEL_BYTES && list_all is_label_byte text)

@@ -3,14 +3,14 @@
 -- spaces; absent or empty is `envoy`. Other members of the list, whatever they are, are passed over.
 use Rattle.std.specs.Prelude.{ℕ, ◌+◌, ◌==◌, Bool, false, List, [], ◌∷◌, codes, Option, Some, None, Result, Ok, Err, if◌then◌else◌}
 use lib.Pointwise.{pointwise}
-use Rattle.serde_json.specs.Data.{Items, no_items, item, Data, string, array, object}
-use Rattle.boot_file.specs.declared.fault.BootFault.{BootFault}
-use Rattle.boot_file.specs.declared.fault.BootFault.TheVariants.{BadKey}
-use Rattle.boot_file.specs.declared.place.Place.TheVariants.{Sink}
-use Rattle.boot_file.specs.Gives.{and_then}
-use Rattle.boot_file.specs.Paths.{path_of}
+use Rattle.serde_json.specs.Data.{Items, no_items, item, Data, string, array}
+use Rattle.boot_values.specs.declared.fault.BootFault.{BootFault}
+use Rattle.boot_values.specs.declared.fault.BootFault.TheVariants.{BadKey}
+use Rattle.boot_values.specs.declared.place.Place.TheVariants.{Sink}
+use Rattle.boot_values.specs.Gives.{and_then}
+use Rattle.boot_values.specs.Paths.{path_of}
 use Rattle.boot_file.specs.Tags.{is_local_name}
-use Rattle.boot_file.specs.Values.{member}
+use Rattle.boot_values.specs.Values.{member, section_at}
 
 abbrev pub is_statsd : Option Data → Bool
 is_statsd (Some (string name)) = pointwise ◌==◌ name (codes "envoy.stat_sinks.statsd")
@@ -18,9 +18,7 @@ is_statsd _ = false
 
 -- an object; absent is empty
 abbrev pub typed_config_at : ℕ → Option Data → Result (Option Data) BootFault
-typed_config_at i None = Ok None
-typed_config_at i (Some (object ms)) = Ok (Some (object ms))
-typed_config_at i (Some _) = Err (BadKey (path_of (Sink i) (codes ".typed_config")))
+typed_config_at i = section_at (path_of (Sink i) (codes ".typed_config"))
 
 abbrev pub prefix_text_at : ℕ → List ℕ → Result (List ℕ) BootFault
 prefix_text_at i [] = Ok (codes "envoy")

@@ -14,12 +14,12 @@ use Rattle.serde_json.specs.Data.{Items, no_items, item, Data, string}
 use Rattle.boot_file.specs.declared.default_tags.DefaultTag.{DefaultTag}
 use Rattle.boot_file.specs.declared.default_tags.DefaultTag.TheVariants.{ResponseCode, ResponseCodeClass, ClusterName, ConnManagerPrefix}
 use Rattle.boot_file.specs.declared.default_tags.PlacedTag.{PlacedTag}
-use Rattle.boot_file.specs.declared.fault.BootFault.{BootFault}
-use Rattle.boot_file.specs.declared.fault.BootFault.TheVariants.{BadTag}
-use Rattle.boot_file.specs.declared.place.Place.TheVariants.{Default, Tag}
-use Rattle.boot_file.specs.Gives.{and_then}
-use Rattle.boot_file.specs.Paths.{path_of}
-use Rattle.boot_file.specs.Values.{member, switch_at, items_at}
+use Rattle.boot_values.specs.declared.fault.BootFault.{BootFault}
+use Rattle.boot_values.specs.declared.fault.BootFault.TheVariants.{BadTag}
+use Rattle.boot_values.specs.declared.place.Place.TheVariants.{Default, Tag}
+use Rattle.boot_values.specs.Gives.{and_then}
+use Rattle.boot_values.specs.Paths.{path_of}
+use Rattle.boot_values.specs.Values.{member, switch_at, items_at}
 
 -- the default tag rules
 

@@ -3,20 +3,15 @@ ghost use Rattle.std.specs.Prelude.{◌≡◌, ◌≢◌, ◌<◌, ◌≤◌, �
 ghost use Rattle.std.specs.List.{AllZip};
 ghost use Rattle.serde_json.specs.View.{view};
 ghost use Rattle.stat_defs.specs.Configs.{IsConfig, IsTagSpec, HasPath};
-ghost use Rattle.boot_file.specs.Gives.{Gives};
+ghost use Rattle.boot_values.specs.Gives.{Gives};
 ghost use Rattle.boot_file.specs.Lawful.{IsPlacedTag};
-ghost use Rattle.boot_file.specs.Boot.{boot, boot_of};
-ghost use Rattle.boot_file.specs.Values.{top_of};
+ghost use Rattle.boot_file.specs.Boot.{boot, boot_of, top_of};
 
-use crate::buckets::settings_of;
 use crate::default_tags::PlacedTag;
-use crate::fault::BootFault;
-use crate::json::{json_of, member, section_at};
-use crate::matcher::matcher_of;
-use crate::place::bad_key;
 use crate::run::run_of;
 use crate::sinks::prefix_of;
 use crate::tags::tags_of;
+use boot_values::{BootFault, bad_key, json_of, matcher_of, member, section_at, settings_of};
 use serde_json::Value;
 use stat_defs::{Config, List, NoMemory, TagSpec, Txt};
 use std::alloc::Global;

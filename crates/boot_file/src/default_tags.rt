@@ -3,7 +3,7 @@ ghost use Rattle.std.specs.Prelude.{◌≡◌, ◌≢◌, ◌<◌, ◌≤◌, �
 ghost use lib.Pointwise.{pointwise};
 ghost use Rattle.boot_file.specs.Tags.{name_of, regex_of, place_of, placed, called};
 
-use crate::place::{Place, path_of};
+use boot_values::{Place, path_of};
 use stat_defs::{NoMemory, Rule, TagSpec, Txt};
 use std::alloc::Global;
 

@@ -5,13 +5,7 @@
 #![tactic(auto)]
 
 mod boot;
-mod buckets;
 mod default_tags;
-mod fault;
-mod json;
-mod matcher;
-mod patterns;
-mod place;
 mod run;
 mod scopes;
 mod sinks;
@@ -20,4 +14,4 @@ mod tags;
 mod tests;
 
 pub use boot::{read, usual};
-pub use fault::BootFault;
+pub use boot_values::BootFault;

@@ -2,13 +2,12 @@
 ghost use Rattle.std.specs.Prelude.{◌≡◌, ◌≢◌, ◌<◌, ◌≤◌, ◌^◌, codes, Option, Some, None, Ok, Err, MatchResult, IfOk, option_map};
 ghost use Rattle.serde_json.specs.View.{view};
 ghost use Rattle.stat_defs.specs.Configs.{AreScopes};
-ghost use Rattle.boot_file.specs.Gives.{Gives};
+ghost use Rattle.boot_values.specs.Gives.{Gives};
 ghost use Rattle.boot_file.specs.Lawful.{IsRun};
 ghost use Rattle.boot_file.specs.Scoping.{run_of};
 
-use crate::fault::BootFault;
-use crate::json::{Limits, member, section_at, whole_at};
 use crate::scopes::scopes_of;
+use boot_values::{BootFault, Limits, member, section_at, whole_at};
 use serde_json::Value;
 use stat_defs::{List, MAX_FLUSH_EVERY, MAX_FLUSHES, ScopeSpec};
 use std::alloc::Global;

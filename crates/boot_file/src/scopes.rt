@@ -4,13 +4,11 @@ ghost use Rattle.std.specs.List.{list_all};
 ghost use Rattle.serde_json.specs.View.{view, items_view};
 ghost use Rattle.stat_defs.specs.Configs.{IsScopeSpec, AreScopes};
 ghost use Rattle.stat_defs.specs.Names.{is_label_byte, IsLabel, IsScopePrefix};
-ghost use Rattle.boot_file.specs.Gives.{Gives};
+ghost use Rattle.boot_values.specs.Gives.{Gives};
 ghost use Rattle.boot_file.specs.Scoping.{is_label, is_scope_prefix, without_dot, is_taken, label_at, prefix_at, scope_at, root, scopes_from, scopes_of};
 
-use crate::fault::BootFault;
-use crate::json::{items_at, member};
-use crate::place::{Place, bad_part};
 use crate::tags::has_name_bytes;
+use boot_values::{BootFault, Place, bad_part, items_at, member};
 use serde_json::Value;
 use stat_defs::{List, MAX_LABEL_BYTES, MAX_NAME_BYTES, MAX_SCOPES, NoMemory, ScopeSpec, Txt};
 use std::alloc::Global;

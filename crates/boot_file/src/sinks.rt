@@ -2,13 +2,11 @@
 ghost use Rattle.std.specs.Prelude.{◌≡◌, ◌≢◌, ◌<◌, ◌≤◌, ◌^◌, codes, length, [], Option, Some, None, Ok, Err, MatchResult, IfOk, option_map};
 ghost use Rattle.serde_json.specs.View.{view, items_view};
 ghost use Rattle.stat_defs.specs.Names.{IsLocalName};
-ghost use Rattle.boot_file.specs.Gives.{Gives};
+ghost use Rattle.boot_values.specs.Gives.{Gives};
 ghost use Rattle.boot_file.specs.Sinking.{is_statsd, typed_config_at, prefix_text_at, prefix_at, sink_at, prefix_from, prefix_of};
 
-use crate::fault::BootFault;
-use crate::json::member;
-use crate::place::{Place, bad_key, bad_part};
 use crate::tags::is_local_name;
+use boot_values::{BootFault, Place, bad_key, bad_part, is_section, member};
 use serde_json::Value;
 use stat_defs::{NoMemory, Txt};
 use std::alloc::Global;
@@ -41,15 +39,10 @@ fn typed_config_at<'v>(
         (λ o. typed_config_at i (option_map (λ v. view v.now) found.entry) ≡ Ok (option_map (λ v. view v.now) o))
         (λ f. f ≢ BootFault.NoMemory → typed_config_at i (option_map (λ v. view v.now) found.entry) ≡ Err f) }
 {
-    match found {
-        None => Ok(None),
-        Some(value) => {
-            if value.is_object() {
-                Ok(Some(value))
-            } else {
-                Err(bad_part(alloc, Place::Sink(i), ".typed_config"))
-            }
-        }
+    if is_section(found) {
+        Ok(found)
+    } else {
+        Err(bad_part(alloc, Place::Sink(i), ".typed_config"))
     }
 }
 

@@ -4,14 +4,12 @@ ghost use Rattle.std.specs.List.{list_all};
 ghost use Rattle.serde_json.specs.View.{view, items_view};
 ghost use Rattle.stat_defs.specs.Configs.{is_printable_byte, IsRule};
 ghost use Rattle.stat_defs.specs.Names.{is_name_byte, IsLocalName};
-ghost use Rattle.boot_file.specs.Gives.{Gives};
+ghost use Rattle.boot_values.specs.Gives.{Gives};
 ghost use Rattle.boot_file.specs.Lawful.{IsPlacedTag};
 ghost use Rattle.boot_file.specs.Tags.{called, placed, defaults_where, is_local_name, is_regex_text, is_fixed_text, tag_name_at, default_at, regex_at, fixed_at, rule_at, tag_at, tags_from, tags_of};
 
 use crate::default_tags::{DefaultTag, PlacedTag, called, placed};
-use crate::fault::BootFault;
-use crate::json::{items_at, member, switch_at};
-use crate::place::{Place, path_of};
+use boot_values::{BootFault, Place, items_at, member, path_of, switch_at};
 use serde_json::Value;
 use stat_defs::{
     MAX_NAME_BYTES, MAX_PATTERN_BYTES, MAX_TAG_RULES, MAX_TAG_VALUE_BYTES, NoMemory, Rule, TagSpec,

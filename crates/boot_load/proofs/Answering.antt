@@ -3,8 +3,8 @@ use Rattle.std.proofs.Common.{ℕ, ◌≡◌, ◌≢◌, ◌<◌, ◌+◌, List,
 use Rattle.std.proofs.lemmas.List.{length-append}
 use Rattle.tag_rules.specs.Making.{Memory}
 use Rattle.boot_file.specs.Boot.{boot}
-use Rattle.boot_file.specs.declared.fault.BootFault.{BootFault}
-use Rattle.boot_file.specs.declared.fault.BootFault.TheVariants as wrong
+use Rattle.boot_values.specs.declared.fault.BootFault.{BootFault}
+use Rattle.boot_values.specs.declared.fault.BootFault.TheVariants as wrong
 use Rattle.boot_load.specs.declared.fault.LoadFault.{LoadFault}
 use Rattle.boot_load.specs.declared.fault.LoadFault.TheVariants as load
 use Rattle.stats_io.specs.Limits.{Grows}

@@ -3,7 +3,7 @@ use Rattle.std.proofs.Common.{ℕ, ◌≡◌, ◌+◌, List, [], ◌∷◌, ◌+
 use Rattle.std.proofs.lemmas.List.FromFn.{map-range_with_len_more, length-map-range_with_len}
 use Rattle.stat_defs.specs.declared.configs.MatchSpec.{MatchSpec}
 use Rattle.stat_defs.specs.declared.configs.MatchSpec.TheVariants as matcher
-use Rattle.boot_file.specs.Paths.{indexed}
+use Rattle.boot_values.specs.Paths.{indexed}
 use Rattle.tag_rules.specs.Admission.{patterns_of}
 use Rattle.boot_load.specs.Asking.{paths_in, matcher_paths}
 

@@ -7,7 +7,7 @@ use Rattle.stat_defs.specs.declared.configs.MatchSpec.{MatchSpec}
 use Rattle.stat_defs.specs.declared.configs.MatchSpec.TheVariants as matcher
 use Rattle.stat_defs.specs.declared.configs.BucketSpec.{BucketSpec}
 use Rattle.stat_defs.specs.declared.configs.Config.{Config}
-use Rattle.boot_file.specs.Paths.{indexed}
+use Rattle.boot_values.specs.Paths.{indexed}
 use Rattle.tag_rules.specs.Admission.{patterns_of}
 use Rattle.tag_rules.specs.Building.{rule_texts, pattern_texts, setting_texts}
 

@@ -2,8 +2,8 @@
 use Rattle.std.specs.Prelude.{◌≡◌, ◌≢◌, ◌<◌, ◌≤◌, ◌⊎◌, ℕ, Option, Result, Ok, Err, List, ◌∷◌, ◌++◌, length, map, codes}
 use Rattle.stat_defs.specs.Faults.{Rose}
 use Rattle.stat_defs.specs.declared.configs.Config.{Config}
-use Rattle.boot_file.specs.declared.fault.BootFault.{BootFault}
-use Rattle.boot_file.specs.declared.fault.BootFault.TheVariants as wrong
+use Rattle.boot_values.specs.declared.fault.BootFault.{BootFault}
+use Rattle.boot_values.specs.declared.fault.BootFault.TheVariants as wrong
 use Rattle.boot_file.specs.Boot.{boot}
 use Rattle.tag_rules.specs.Making.{Memory, Refuses}
 use Rattle.stats_io.specs.Told.{MayBe}

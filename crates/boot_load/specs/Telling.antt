@@ -1,8 +1,8 @@
 -- What is said of a bootstrap that was not loaded. This project's own.
 use Rattle.std.specs.Prelude.{ℕ, List, ◌++◌, codes}
 use Rattle.std.specs.Fmt.{decimal}
-use Rattle.boot_file.specs.declared.fault.BootFault.{BootFault}
-use Rattle.boot_file.specs.declared.fault.BootFault.TheVariants as wrong
+use Rattle.boot_values.specs.declared.fault.BootFault.{BootFault}
+use Rattle.boot_values.specs.declared.fault.BootFault.TheVariants as wrong
 use Rattle.boot_load.specs.declared.fault.LoadFault.{LoadFault}
 use Rattle.boot_load.specs.declared.fault.LoadFault.TheVariants.{TooBig, Faulty, BadPattern, ReadFailed, NoMemory}
 

@@ -1,7 +1,7 @@
 //! The patterns of a configuration, built in their order.
 ghost use Rattle.std.specs.Prelude.{◌≡◌, ◌<◌, ◌^◌, All, IfOk, length, map};
 ghost use Rattle.stat_defs.specs.Configs.{IsConfig};
-ghost use Rattle.boot_file.specs.Paths.{indexed};
+ghost use Rattle.boot_values.specs.Paths.{indexed};
 ghost use Rattle.tag_rules.specs.Admission.{IsReadable, patterns_of};
 ghost use Rattle.tag_rules.specs.Tagging.{IsReadableRule};
 ghost use Rattle.boot_load.specs.Asking.{paths_in, matcher_paths, of_tags, of_matcher, of_buckets, asked};
