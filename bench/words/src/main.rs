@@ -3,12 +3,13 @@
 
 use std::env;
 use std::sync::atomic::{AtomicU64, Ordering::SeqCst};
+use std::sync::Arc;
 use std::thread;
 use std::time::Instant;
 
 const COUNTED: u32 = 1_000;
 const TIMED: u32 = 4_000_000;
-const TIMED_LOADS: u32 = 100_000_000;
+const TIMED_LOADS: u32 = 400_000_000;
 /// Counters so far apart that no two are in one cache line.
 const APART: usize = 16;
 
@@ -49,7 +50,14 @@ fn run(shape: Shape, times: u32) -> (u64, u64) {
             add_often(&words, 0, times);
         }),
     }
-    let sum = |first: usize| words.iter().skip(first).step_by(2).map(|w| w.load(SeqCst)).sum();
+    let sum = |first: usize| {
+        words
+            .iter()
+            .skip(first)
+            .step_by(2)
+            .map(|w| w.load(SeqCst))
+            .sum()
+    };
     (sum(0), sum(1))
 }
 
@@ -128,6 +136,21 @@ fn run_gauges(call: Call, four: bool, times: u32) -> u64 {
     words[0].load(SeqCst)
 }
 
+/// The readings in a row of a thread that shares the bank by an `Arc`, as a thread of its own start does.
+#[inline(never)]
+fn read_shared(words: Arc<Vec<AtomicU64>>, id: usize, times: u32) -> u64 {
+    let mut sum = 0u64;
+    for _ in 0..times {
+        sum = sum.wrapping_add(words[id].load(SeqCst));
+    }
+    sum
+}
+
+fn run_shared(times: u32) -> u64 {
+    let words = Arc::new((0..GAUGES).map(|_| AtomicU64::new(0)).collect());
+    read_shared(words, 0, times)
+}
+
 fn per_call(start: Instant, times: u32) -> u128 {
     start.elapsed().as_nanos() / (times as u128 / 1000)
 }
@@ -139,11 +162,25 @@ fn main() {
             let start = Instant::now();
             run(shape, TIMED);
             let picoseconds = per_call(start, TIMED);
-            println!("{name}: {}.{:03} ns", picoseconds / 1000, picoseconds % 1000);
+            println!(
+                "{name}: {}.{:03} ns",
+                picoseconds / 1000,
+                picoseconds % 1000
+            );
         } else {
             let (value, pending) = run(shape, COUNTED);
             println!("{name}: value {value}, pending {pending}");
         }
+    }
+    if timed {
+        let start = Instant::now();
+        let sum = run_shared(TIMED_LOADS);
+        let picoseconds = per_call(start, TIMED_LOADS) + sum as u128;
+        println!(
+            "gauge values in a row, through an Arc: {}.{:03} ns",
+            picoseconds / 1000,
+            picoseconds % 1000
+        );
     }
     for four in [false, true] {
         let threads = if four { "four threads" } else { "one thread" };
@@ -152,9 +189,16 @@ fn main() {
                 let start = Instant::now();
                 run_gauges(call, four, times);
                 let picoseconds = per_call(start, times);
-                println!("{name}, {threads}: {}.{:03} ns", picoseconds / 1000, picoseconds % 1000);
+                println!(
+                    "{name}, {threads}: {}.{:03} ns",
+                    picoseconds / 1000,
+                    picoseconds % 1000
+                );
             } else {
-                println!("{name}, {threads}: word {}", run_gauges(call, four, COUNTED));
+                println!(
+                    "{name}, {threads}: word {}",
+                    run_gauges(call, four, COUNTED)
+                );
             }
         }
     }

@@ -20,7 +20,7 @@ const COUNTED: u32 = 1_000;
 const TIMED: u32 = 4_000_000;
 
 /// The same of loads, which take much less.
-const TIMED_LOADS: u32 = 100_000_000;
+const TIMED_LOADS: u32 = 400_000_000;
 
 const SHAPES: [(Shape, &str); 3] = [
     (Shape::OneThread, "add, one thread"),
