@@ -8,6 +8,7 @@ use Rattle.stat_defs.specs.declared.events.Event.{Event}
 use Rattle.stat_defs.specs.declared.reports.FileEnd.{FileEnd}
 use Rattle.stat_defs.specs.declared.reports.FileEnd.TheVariants.{Whole, BadLine, LineTooLong, TooBig, TooMany, ReadFault, NotOpened}
 use Rattle.stat_defs.specs.declared.reports.WorkerEnd.{WorkerEnd}
+use Rattle.event_script.specs.declared.pulling.TheConstants.{MAX_FILE_BYTES}
 use Rattle.event_script.specs.Run.{IsRun}
 use Rattle.boot_load.specs.Loading.{ShelfMemory}
 use Rattle.counter_store.specs.Counting.{Rules, History, verdicts}
@@ -119,7 +120,7 @@ module _ {S : Type 0} (left : S → Option (List ℕ)) (origin : S → List ℕ)
     -- the files before leave room for one more
     pub room_for_file : (names rest : List (List ℕ)) (total : ℕ) (before between : ShelfMemory) (earlier later : History) (runs : List FileRun)
         → ReadsFiles left origin faults holds names before between earlier later runs → length names + 1 + length rest ≡ total
-        → length earlier.events + total * 8388608 < 2 ^ 31 → length later.events + 8388608 < 2 ^ 31
+        → length earlier.events + total * MAX_FILE_BYTES < 2 ^ 31 → length later.events + MAX_FILE_BYTES < 2 ^ 31
     room_for_file names rest total before between earlier later runs so are room =
         omega (arith, so.few, are, room, length-append earlier.events (all_events so.files), ap (λ h. length h.events) so.applied)
 

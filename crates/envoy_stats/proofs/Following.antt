@@ -9,6 +9,7 @@ use Rattle.stat_defs.specs.declared.events.Event.{Event}
 use Rattle.stat_defs.specs.declared.events.Event.TheVariants.{Inc, Gauge, Rec, SetText, OpenScope, Release}
 use Rattle.stat_defs.specs.declared.history.Verdict.{Verdict}
 use Rattle.stat_defs.specs.declared.history.Verdict.TheVariants.{Accepted, Opened, Released, LabelTaken, NoScope, Rejected, OverLimit, NoRoom}
+use Rattle.event_script.specs.declared.pulling.TheConstants.{MAX_FILE_BYTES}
 use Rattle.event_script.specs.Grammar.{IsLawful}
 use Rattle.event_script.specs.Reading.{Reading, Moves}
 use Rattle.event_script.proofs.Filling.{moves_trans}
@@ -79,7 +80,7 @@ pub record SoFar {S : Type 0} (left : S → Option (List ℕ)) (origin : S → L
   pub applied : later ≡ record earlier { events = earlier.events ++ events }
   pub verdicts_are : given ≡ verdicts earlier.rules earlier.events events
   pub few : length events + 1 ≤ now.number
-  pub bound : now.number ≤ 8388609
+  pub bound : now.number ≤ MAX_FILE_BYTES + 1
   pub first : now.first_faults ≡ init.first_faults
   pub same_origin : origin now.source ≡ origin init.source
 
@@ -108,7 +109,7 @@ module _ {S : Type 0} (left : S → Option (List ℕ)) (origin : S → List ℕ)
 
   -- one event more
   pub so_far_more : (init old new : Reading S) (earlier later latest : History) (given : List Verdict) (verdict : Verdict) → SoFar left origin init old earlier later given
-      → (event : Event) (got : List ℕ) → Moves left old new got (event ∷ []) → old.number < new.number → new.number ≤ 8388609 → new.first_faults ≡ old.first_faults → origin new.source ≡ origin old.source
+      → (event : Event) (got : List ℕ) → Moves left old new got (event ∷ []) → old.number < new.number → new.number ≤ MAX_FILE_BYTES + 1 → new.first_faults ≡ old.first_faults → origin new.source ≡ origin old.source
       → verdict ≡ verdict_of later.rules (counters later.rules later.events) event → latest ≡ record later { events = later.events ++ event ∷ [] }
       → SoFar left origin init new earlier latest (given ++ verdict ∷ [])
   so_far_more init old new earlier later latest given verdict so event got step on bound first same_origin is_verdict is_applied = record {
@@ -128,5 +129,5 @@ module _ {S : Type 0} (left : S → Option (List ℕ)) (origin : S → List ℕ)
 
   -- the events behind the earlier ones are few
   pub room_so_far : (init now : Reading S) (earlier later : History) (given : List Verdict) → SoFar left origin init now earlier later given
-      → length earlier.events + 8388608 < 2 ^ 31 → length later.events < 2 ^ 31
+      → length earlier.events + MAX_FILE_BYTES < 2 ^ 31 → length later.events < 2 ^ 31
   room_so_far init now earlier later given so room = omega (arith, so.few, so.bound, room, length-append earlier.events so.events, ap (λ h. length h.events) so.applied)

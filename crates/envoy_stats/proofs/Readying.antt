@@ -1,7 +1,8 @@
 -- What is made of files that were read.
-use Rattle.std.proofs.Common.{◌≡◌, ◌≢◌, ◌<◌, ◌==◌, ℕ, Bool, true, false, cond, Option, List, [], ◌∷◌, map, refl, ap, ◌∙◌, subst, arith}
+use Rattle.std.proofs.Common.{◌≡◌, ◌≢◌, ◌<◌, ◌≤◌, ◌^◌, ◌==◌, ℕ, Bool, true, false, cond, Option, Result, Ok, Err, IfOk, List, [], ◌∷◌, length, map, refl, ap, ◌∙◌, subst, arith}
 use Rattle.std.proofs.lemmas.Simd.{map-map}
 use Rattle.stat_defs.specs.declared.configs.Config.{Config}
+use Rattle.stat_defs.specs.declared.memory.NoMemory.{NoMemory}
 use Rattle.stat_defs.specs.declared.reports.FileEnd.{FileEnd}
 use Rattle.stat_defs.specs.declared.reports.FileEnd.TheVariants.{Whole, BadLine, LineTooLong, TooBig, TooMany, ReadFault, NotOpened}
 use Rattle.stat_defs.specs.declared.reports.WorkerEnd.{WorkerEnd}
@@ -13,9 +14,11 @@ use Rattle.envoy_stats.specs.Output.{Shows, worker_lines}
 use Rattle.envoy_stats.specs.Telling.{fault_lines}
 use Rattle.envoy_stats.specs.Outcomes.{status_of, status_of_all}
 use Rattle.envoy_stats.specs.Reading.{ReadsFiles}
-use Rattle.envoy_stats.proofs.Files.{files_alike}
-use Rattle.envoy_stats.specs.Readiness.{IsReady}
+use Rattle.envoy_stats.specs.Readiness.{nothing_counted, IsMadeOf, IsReady}
+use Rattle.envoy_stats.proofs.Files.{as_many_runs, files_alike}
 use Rattle.envoy_stats.specs.declared.reading.FileRun.{FileRun}
+use Rattle.envoy_stats.specs.declared.command.TheConstants.{MAX_FILES}
+use Rattle.envoy_stats.specs.declared.replay.Counted.{Counted}
 use Rattle.envoy_stats.specs.declared.replay.Ready.{Ready}
 
 status_small : (end : FileEnd) → status_of end < 5
@@ -68,36 +71,40 @@ ready_alike left origin faults one other same names before after config ready is
   status_is = is.status_is;
 }
 
-module _ {S : Type 0} (left : S → Option (List ℕ)) (origin : S → List ℕ) (faults : S → ℕ) (holds : List ℕ → Option (List ℕ)) where
-  pub ready_of : (names : List (List ℕ)) (before after : ShelfMemory) (config : Config) (later : History) (runs : List FileRun) (ready : Ready)
-      → ReadsFiles left origin faults holds names before after (record { rules = rules_of config; events = [] }) later runs
-      → ready.report ≡ record {
-        verdicts = map (λ run. run.verdicts.items) runs;
-        flushes = (record { at = 0; deltas = deltas (tally later.rules later.events); gauges = []; parts = [] }) ∷ [];
-        log = [];
-        reads = [];
-        ends = map (λ run. run.end) runs;
-      } → Shows (tally later.rules later.events) ready.view → ready.prefix ≡ config.statsd_prefix
-      → ready.lines.items ≡ worker_lines 1 (map (λ run. run.verdicts.items) runs) → ready.faults.items ≡ fault_lines 1 (map (λ end. end.end) (map (λ run. run.end) runs))
-      → ready.status ≡ status_of_all (map (λ end. end.end) (map (λ run. run.end) runs)) → IsReady left origin faults holds names before after config ready
-  ready_of names before after config later runs ready read report shows prefix lines told status =
-      let counted : tally later.rules later.events ≡ tally (rules_of config) (all_events read.files) = ap (λ h. tally h.rules h.events) read.applied in
-      let ends : map (λ (end : WorkerEnd). end.end) (map (λ (run : FileRun). run.end) runs) ≡ map (λ (file : FileRead). file.end.end) read.files =
+module _ {S : Type 0} (left : S → Option (List ℕ)) (origin : S → List ℕ) (faults : S → ℕ) (holds : List ℕ → Option (List ℕ)) (names : List (List ℕ))
+    (before after : ShelfMemory) (config : Config) (counted : Counted)
+    (read : ReadsFiles left origin faults holds names before after (nothing_counted config) counted.counters counted.runs.items) where
+  -- each name has one run
+  pub few_runs : length names ≤ MAX_FILES → length counted.runs.items < 2 ^ 32
+  few_runs few = omega (arith, few, as_many_runs left origin faults holds names before after (nothing_counted config) counted.counters counted.runs.items read)
+
+  -- so many events at most stand in so many files
+  pub few_events : length names ≤ MAX_FILES → length counted.counters.events < 2 ^ 32
+  few_events few = omega (arith, few, read.few, ap (λ (h : History). length h.events) read.applied)
+
+  ready_of : (ready : Ready) → IsMadeOf counted config.statsd_prefix ready → IsReady left origin faults holds names before after config ready
+  ready_of ready made =
+      let total : tally counted.counters.rules counted.counters.events ≡ tally (rules_of config) (all_events read.files) = ap (λ (h : History). tally h.rules h.events) read.applied in
+      let ends : map (λ (end : WorkerEnd). end.end) (map (λ (run : FileRun). run.end) counted.runs.items) ≡ map (λ (file : FileRead). file.end.end) read.files =
       ap (map (λ (end : WorkerEnd). end.end)) read.ends_are
       ∙ map-map (λ (end : WorkerEnd). end.end) (λ (file : FileRead). file.end) read.files in
       record {
         files = read.files;
         are_files = read.are_files;
-        report_is = report ∙ (λ i. record {
+        report_is = made.report_is ∙ (λ i. record {
           verdicts = read.verdicts_are i;
-          flushes = (record { at = 0; deltas = deltas (counted i); gauges = []; parts = [] }) ∷ [];
+          flushes = (record { at = 0; deltas = deltas (total i); gauges = []; parts = [] }) ∷ [];
           log = [];
           reads = [];
           ends = read.ends_are i;
         });
-        shows = subst (λ (es : List (List ℕ × ℕ)). Shows es ready.view) counted shows;
-        prefix_is = prefix;
-        lines_are = lines ∙ ap (worker_lines 1) read.verdicts_are;
-        faults_are = told ∙ ap (fault_lines 1) ends;
-        status_is = status ∙ ap status_of_all ends;
+        shows = subst (λ (es : List (List ℕ × ℕ)). Shows es ready.view) total made.shows;
+        prefix_is = made.prefix_is;
+        lines_are = made.lines_are ∙ ap (worker_lines 1) read.verdicts_are;
+        faults_are = made.faults_are ∙ ap (fault_lines 1) ends;
+        status_is = made.status_is ∙ ap status_of_all ends;
       }
+
+  pub all_ready : (made : Result Ready NoMemory) → IfOk made (IsMadeOf counted config.statsd_prefix) → IfOk made (IsReady left origin faults holds names before after config)
+  all_ready (Ok ready) is = ready_of ready is
+  all_ready (Err fault) is = tt

@@ -17,11 +17,12 @@ mod tests;
 mod writing;
 
 pub use replay::{Outcome, quiet_stats};
-use stats_io::{FolderShelf, Sink, StdSink};
+use stats_io::{FolderShelf, Shelf, Sink, StdSink};
+use std::alloc::Global;
 use std::io;
 use std::process::ExitCode;
 use std::rt::Env;
-use tag_rules::RegexMaker;
+use tag_rules::{PatternMaker, RegexMaker};
 use telling::{OUT_OF_MEMORY, USAGE, say};
 
 // The words of the command line without the program's name.
@@ -48,22 +49,33 @@ fn refuse<E: Sink>(err: &mut E, fault: io::Error) -> u8
     1
 }
 
+// The status of the command that these words are, where they could be read.
+fn serve<K: PatternMaker, F: Shelf, O: Sink, E: Sink>(
+    alloc: Global,
+    words: io::Result<Vec<String>>,
+    maker: &mut K,
+    shelf: &mut F,
+    out: &mut O,
+    err: &mut E,
+) -> u8 {
+    match words {
+        Ok(words) => quiet_stats(alloc, &words, maker, shelf, out, err).status,
+        Err(fault) => refuse(err, fault),
+    }
+}
+
 fn main(rt: HostRuntime) -> ExitCode {
     let mut maker = RegexMaker::new(Vec::new(rt.alloc()));
     let mut shelf = FolderShelf::new(&rt);
     let mut out = StdSink::new(rt.stdout());
     let mut err = StdSink::new(rt.stderr());
-    let status = match words_of(&rt) {
-        Ok(words) => quiet_stats(
-            rt.alloc(),
-            &words,
-            &mut maker,
-            &mut shelf,
-            &mut out,
-            &mut err,
-        )
-        .status,
-        Err(fault) => refuse(&mut err, fault),
-    };
-    ExitCode::from(status)
+    let words = words_of(&rt);
+    ExitCode::from(serve(
+        rt.alloc(),
+        words,
+        &mut maker,
+        &mut shelf,
+        &mut out,
+        &mut err,
+    ))
 }

@@ -1,5 +1,5 @@
 //! `replay BOOT FILE..`.
-ghost use Rattle.std.specs.Prelude.{◌≡◌, ◌≢◌, ◌≤◌, ◌<◌, ◌⊎◌, ◌↔◌, ℕ, List, None, IfOk, length, map, string_bytes, codes};
+ghost use Rattle.std.specs.Prelude.{◌≡◌, ◌≢◌, ◌≤◌, ◌<◌, ◌^◌, ◌⊎◌, ◌↔◌, ℕ, List, None, IfOk, length, map, string_bytes, codes};
 ghost use Rattle.stat_defs.specs.Faults.{Rose};
 ghost use Rattle.stat_defs.specs.Configs.{IsConfig};
 ghost use Rattle.boot_load.specs.declared.fault.LoadFault.TheVariants as unloaded;
@@ -8,20 +8,21 @@ ghost use Rattle.envoy_stats.specs.Command.{IsReplay, IsCommand};
 ghost use Rattle.envoy_stats.specs.declared.command.TheConstants as limits;
 ghost use Rattle.envoy_stats.specs.Outcomes.{Says, status_of, status_of_all, status_of_boot, Replays};
 ghost use Rattle.envoy_stats.specs.Telling.{usage, out_of_memory};
-ghost use Rattle.envoy_stats.specs.Readiness.{IsReady, Finishes, said_with};
+ghost use Rattle.envoy_stats.specs.Reading.{ReadsFiles};
+ghost use Rattle.envoy_stats.specs.Readiness.{nothing_counted, Tells, IsMadeOf, IsReady, Finishes, said_with};
 
 use crate::command::replay_of;
-use crate::reading::read_files;
-use crate::reporting::{ends_of, part, report_of, view_of};
+use crate::reading::{FileRun, read_files};
+use crate::reporting::{Parted, ends_of, part, report_of, view_of};
 use crate::telling::{OUT_OF_MEMORY, USAGE, fault_lines, say};
 use crate::writing::{worker_lines, write_output};
 use boot_load::{Boot, LoadFault, boot_line, load};
 use counter_store::Counters;
-use stat_defs::{FileEnd, FlushView, NoMemory, Report, Txt};
+use stat_defs::{Config, FileEnd, FlushView, NoMemory, Report, Txt};
 use stats_io::{Shelf, Sink};
 use statsd_text::TextFault;
 use std::alloc::Global;
-use tag_rules::PatternMaker;
+use tag_rules::{Matcher, PatternMaker};
 
 /// How a call ended: its status, and what it recorded where it got so far.
 #[derive(Drop, Debug)]
@@ -74,6 +75,76 @@ fn status_of_boot(fault: &LoadFault) -> u8
     }
 }
 
+/// Files that were read, and what was counted of them.
+#[derive(Drop)]
+pub struct Counted {
+    pub runs: Vec<FileRun>,
+    pub counters: Counters,
+}
+
+/// What is to be written and said of how the events and the files ended, and the status.
+#[derive(Drop)]
+pub struct Told {
+    pub lines: Vec<u8>,
+    pub faults: Vec<u8>,
+    pub status: u8,
+}
+
+// Reads the files and counts their events.
+fn count_files<F: Shelf>(
+    alloc: Global,
+    config: &Config,
+    matcher: Matcher,
+    names: &[String],
+    shelf: &mut F,
+) -> Result<Counted, NoMemory>
+    requires lawful { IsConfig config.now }
+    requires matcher { matcher ≡ config.now.matcher }
+    requires few { length names.now ≤ limits.MAX_FILES }
+    ensures { IfOk result (λ counted. ReadsFiles F.S.left F.S.origin F.S.faults (F.holds shelf.old) (map string_bytes names.now)
+        (record { faults = F.faults shelf.old; failed = F.failed shelf.old }) (record { faults = F.faults shelf.new; failed = F.failed shelf.new })
+        (nothing_counted config.now) counted.counters counted.runs.items) }
+{
+    let mut counters = Counters::new(alloc, config.scopes.items(), matcher)?;
+    let runs = read_files(alloc, shelf, names, &mut counters)?;
+    Ok(Counted { runs, counters })
+}
+
+// The lines on files, and their status.
+fn tell(alloc: Global, parted: &Parted) -> Result<Told, NoMemory>
+    requires verdicts { length parted.now.verdicts.items < 2 ^ 32 }
+    requires ends { length parted.now.ends.items < 2 ^ 32 }
+    ensures { IfOk result (Tells parted.now) }
+{
+    let ends = ends_of(alloc, &parted.ends)?;
+    Ok(Told {
+        lines: worker_lines(alloc, &parted.verdicts)?,
+        faults: fault_lines(alloc, &ends)?,
+        status: status_of_all(&ends),
+    })
+}
+
+// Makes what is to be written and said of files that were counted.
+fn make_ready(alloc: Global, counted: Counted, prefix: Txt) -> Result<Ready, NoMemory>
+    requires few { length counted.runs.items < 2 ^ 32 }
+    requires room { length counted.counters.events < 2 ^ 32 }
+    ensures { IfOk result (IsMadeOf counted prefix) }
+{
+    let Counted { runs, counters } = counted;
+    let parted = part(alloc, runs)?;
+    let told = tell(alloc, &parted)?;
+    let report = report_of(alloc, parted, counters.totals())?;
+    let view = view_of(alloc, counters.into_totals())?;
+    Ok(Ready {
+        report,
+        view,
+        prefix,
+        lines: told.lines,
+        faults: told.faults,
+        status: told.status,
+    })
+}
+
 // Reads the files, and makes what is to be written and said of them.
 fn prepare<F: Shelf>(
     alloc: Global,
@@ -94,22 +165,8 @@ fn prepare<F: Shelf>(
         matcher,
         buckets: _,
     } = boot;
-    let mut counters = Counters::new(alloc, config.scopes.items(), matcher)?;
-    let runs = read_files(alloc, shelf, names, &mut counters)?;
-    let parted = part(alloc, runs)?;
-    let ends = ends_of(alloc, &parted.ends)?;
-    let faults = fault_lines(alloc, &ends)?;
-    let lines = worker_lines(alloc, &parted.verdicts)?;
-    let report = report_of(alloc, parted, counters.totals())?;
-    let view = view_of(alloc, counters.into_totals())?;
-    Ok(Ready {
-        report,
-        view,
-        prefix: config.statsd_prefix,
-        lines,
-        faults,
-        status: status_of_all(&ends),
-    })
+    let counted = count_files(alloc, &config, matcher, names, shelf)?;
+    make_ready(alloc, counted, config.statsd_prefix)
 }
 
 // Says that memory was wanting.

@@ -1,5 +1,6 @@
 //! What is said on `err`.
-ghost use Rattle.std.specs.Prelude.{◌≡◌, ◌≤◌, ◌+◌, ◌^◌, ◌<◌, IfOk, length, string_bytes};
+ghost use Rattle.std.specs.Prelude.{◌≡◌, ◌≤◌, ◌+◌, ◌^◌, ◌<◌, ◌++◌, IfOk, length, string_bytes, codes};
+ghost use Rattle.std.specs.Fmt.{decimal};
 ghost use Rattle.std.specs.Io.KnownBytes.{Appends};
 ghost use Rattle.stat_defs.specs.Faults.{Rose};
 ghost use Rattle.envoy_stats.specs.Telling.{fault_line, fault_lines};
@@ -23,20 +24,32 @@ pub fn say<E: Sink>(err: &mut E, text: &[u8])
     let _ = push_all(err, text);
 }
 
+// A line on the file of that number.
+fn file_line(alloc: Global, number: usize, told: &str) -> Result<String, NoMemory>
+    ensures { IfOk result (λ text. string_bytes text ≡ codes "file " ++ (decimal number ++ (codes ": " ++ (told.now ++ codes "\n")))) }
+{
+    Ok(format!(in alloc; "file {number}: {told}\n")?)
+}
+
+// A line on a line of that file.
+fn place_line(alloc: Global, number: usize, line: u64, told: &str) -> Result<String, NoMemory>
+    ensures { IfOk result (λ text. string_bytes text ≡ codes "file " ++ (decimal number ++ (codes " line " ++ (decimal line ++ (codes ": " ++ (told.now ++ codes "\n")))))) }
+{
+    Ok(format!(in alloc; "file {number} line {line}: {told}\n")?)
+}
+
 // The line as text.
 fn fault_line(alloc: Global, number: usize, end: FileEnd) -> Result<String, NoMemory>
     ensures { IfOk result (λ text. string_bytes text ≡ fault_line number end) }
 {
     match end {
         FileEnd::Whole => Ok(String::new(alloc)),
-        FileEnd::BadLine(n) => Ok(format!(in alloc; "file {number} line {n}: no event\n")?),
-        FileEnd::LineTooLong(n) => Ok(format!(in alloc;
-            "file {number} line {n}: line too long\n"
-        )?),
-        FileEnd::TooBig => Ok(format!(in alloc; "file {number}: too big\n")?),
-        FileEnd::TooMany => Ok(format!(in alloc; "file {number}: too many events\n")?),
-        FileEnd::ReadFault => Ok(format!(in alloc; "file {number}: read failed\n")?),
-        FileEnd::NotOpened => Ok(format!(in alloc; "file {number}: not opened\n")?),
+        FileEnd::BadLine(n) => place_line(alloc, number, n, "no event"),
+        FileEnd::LineTooLong(n) => place_line(alloc, number, n, "line too long"),
+        FileEnd::TooBig => file_line(alloc, number, "too big"),
+        FileEnd::TooMany => file_line(alloc, number, "too many events"),
+        FileEnd::ReadFault => file_line(alloc, number, "read failed"),
+        FileEnd::NotOpened => file_line(alloc, number, "not opened"),
     }
 }
 

@@ -77,6 +77,18 @@ fn shelf_of(alloc: Global, file: &[u8], failing_pull: u64) -> Result<MemShelf, F
     Ok(MemShelf::new(vec![in alloc; file]?, Vec::new(alloc)))
 }
 
+// Calls the top call. The tests run what it promises.
+fn call<K: PatternMaker, F: Shelf, O: Sink, E: Sink>(
+    alloc: Global,
+    words: &[String],
+    maker: &mut K,
+    shelf: &mut F,
+    out: &mut O,
+    err: &mut E,
+) -> Outcome {
+    quiet_stats(alloc, words, maker, shelf, out, err)
+}
+
 // Calls the top call over that shelf and a maker whose call of that number fails, with an output sink of pieces of that length
 // whose push of that number fails.
 fn play(
@@ -92,7 +104,7 @@ fn play(
     let mut shelf = shelf;
     let mut out = MemSink::new(alloc, 2000, piece.max(1), vec![in alloc; failing_push]?)?;
     let mut err = MemSink::new(alloc, 1000, 100, Vec::new(alloc))?;
-    let outcome = quiet_stats(alloc, &words, &mut maker, &mut shelf, &mut out, &mut err);
+    let outcome = call(alloc, &words, &mut maker, &mut shelf, &mut out, &mut err);
     Ok(Played {
         outcome,
         out,
@@ -327,7 +339,7 @@ fn one_counter_too_many(rt: HostRuntime) -> Result<(), Fail> {
     let mut shelf = shelf_of(alloc, &new_names(alloc, 16_385)?, 999_999)?;
     let mut out = MemSink::new(alloc, 300_000, 300_000, Vec::new(alloc))?;
     let mut err = MemSink::new(alloc, 100, 100, Vec::new(alloc))?;
-    let outcome = quiet_stats(alloc, &words, &mut maker, &mut shelf, &mut out, &mut err);
+    let outcome = call(alloc, &words, &mut maker, &mut shelf, &mut out, &mut err);
     assert_eq!(rt; outcome.status, 0);
     assert!(rt;
         out.bytes()
