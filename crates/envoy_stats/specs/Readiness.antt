@@ -15,6 +15,7 @@ use Rattle.envoy_stats.specs.Telling.{fault_lines, out_of_memory}
 use Rattle.envoy_stats.specs.Outcomes.{SinkState, status_of_all}
 use Rattle.envoy_stats.specs.declared.replay.Counted.{Counted}
 use Rattle.envoy_stats.specs.declared.replay.Told.{Told}
+use Rattle.envoy_stats.specs.declared.replay.Shown.{Shown}
 use Rattle.envoy_stats.specs.declared.reporting.Parted.{Parted}
 use Rattle.envoy_stats.specs.declared.replay.Outcome.{Outcome}
 use Rattle.envoy_stats.specs.declared.replay.Ready.{Ready}
@@ -28,6 +29,17 @@ pub record Tells (parted : Parted) (told : Told) : Type 0 where
   pub lines_are : told.lines.items ≡ worker_lines 1 parted.verdicts.items
   pub faults_are : told.faults.items ≡ fault_lines 1 (map (λ end. end.end) parted.ends.items)
   pub status_is : told.status ≡ status_of_all (map (λ end. end.end) parted.ends.items)
+
+-- the report on files with these verdicts and ends, and the view of what was counted
+pub record IsShown (parted : Parted) (counted : History) (shown : Shown) : Type 0 where
+  pub report_is : shown.report ≡ record {
+    verdicts = parted.verdicts.items;
+    flushes = (record { at = 0; deltas = deltas (tally counted.rules counted.events); gauges = []; parts = [] }) ∷ [];
+    log = [];
+    reads = [];
+    ends = parted.ends.items;
+  }
+  pub shows : Shows (tally counted.rules counted.events) shown.view
 
 -- all that is made of files that were counted
 pub record IsMadeOf (counted : Counted) (prefix : List ℕ) (ready : Ready) : Type 0 where

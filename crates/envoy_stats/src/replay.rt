@@ -9,7 +9,7 @@ ghost use Rattle.envoy_stats.specs.declared.command.TheConstants as limits;
 ghost use Rattle.envoy_stats.specs.Outcomes.{Says, status_of, status_of_all, status_of_boot, Replays};
 ghost use Rattle.envoy_stats.specs.Telling.{usage, out_of_memory};
 ghost use Rattle.envoy_stats.specs.Reading.{ReadsFiles};
-ghost use Rattle.envoy_stats.specs.Readiness.{nothing_counted, Tells, IsMadeOf, IsReady, Finishes, said_with};
+ghost use Rattle.envoy_stats.specs.Readiness.{nothing_counted, Tells, IsShown, IsMadeOf, IsReady, Finishes, said_with};
 
 use crate::command::replay_of;
 use crate::reading::{FileRun, read_files};
@@ -90,6 +90,13 @@ pub struct Told {
     pub status: u8,
 }
 
+/// What is reported of files, and what their one flush shows.
+#[derive(Drop)]
+pub struct Shown {
+    pub report: Report,
+    pub view: FlushView,
+}
+
 // Reads the files and counts their events.
 fn count_files<F: Shelf>(
     alloc: Global,
@@ -124,20 +131,28 @@ fn tell(alloc: Global, parted: &Parted) -> Result<Told, NoMemory>
     })
 }
 
+// The report on files, and what their one flush shows.
+fn show(alloc: Global, parted: Parted, counters: Counters) -> Result<Shown, NoMemory>
+    requires { length counters.events < 2 ^ 32 }
+    ensures { IfOk result (IsShown parted counters) }
+{
+    let report = report_of(alloc, parted, counters.totals())?;
+    let view = view_of(alloc, counters.into_totals())?;
+    Ok(Shown { report, view })
+}
+
 // Makes what is to be written and said of files that were counted.
 fn make_ready(alloc: Global, counted: Counted, prefix: Txt) -> Result<Ready, NoMemory>
     requires few { length counted.runs.items < 2 ^ 32 }
     requires room { length counted.counters.events < 2 ^ 32 }
     ensures { IfOk result (IsMadeOf counted prefix) }
 {
-    let Counted { runs, counters } = counted;
-    let parted = part(alloc, runs)?;
+    let parted = part(alloc, counted.runs)?;
     let told = tell(alloc, &parted)?;
-    let report = report_of(alloc, parted, counters.totals())?;
-    let view = view_of(alloc, counters.into_totals())?;
+    let shown = show(alloc, parted, counted.counters)?;
     Ok(Ready {
-        report,
-        view,
+        report: shown.report,
+        view: shown.view,
         prefix,
         lines: told.lines,
         faults: told.faults,

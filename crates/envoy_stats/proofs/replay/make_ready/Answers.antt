@@ -1,12 +1,12 @@
-use Rattle.std.proofs.Common.{◌∙◌, ℕ, List, [], ◌∷◌, length, map, ap, refl, subst, arith}
+use Rattle.std.proofs.Common.{◌∙◌, [], ◌∷◌, length, map, ap, refl, arith}
 use Rattle.std.proofs.lemmas.List.{length-map}
 use Rattle.stat_defs.specs.declared.reports.WorkerEnd.{WorkerEnd}
+use Rattle.counter_store.specs.Counting.{tally}
 use Rattle.envoy_stats.specs.Reporting.{deltas}
-use Rattle.envoy_stats.specs.Output.{Shows, worker_lines}
+use Rattle.envoy_stats.specs.Output.{worker_lines}
 use Rattle.envoy_stats.specs.Telling.{fault_lines}
 use Rattle.envoy_stats.specs.Outcomes.{status_of_all}
 use Rattle.envoy_stats.specs.declared.reading.FileRun.{FileRun}
-use Rattle.envoy_stats.proofs.Following.{few_counters}
 use Rattle.envoy_stats.proofs.replay.make_ready.Goals as goal
 
 pub tell-requires : goal.tell-requires
@@ -17,24 +17,20 @@ tell-requires c =
       ends = omega (arith, ap length c.in_ok-parted.ensures.ends, length-map runs (λ (run : FileRun). run.end), c.requires.few);
     }
 
-pub report_of-requires : goal.report_of-requires
-report_of-requires c =
-    let counted = c.args.counted.counters in
-    record { few = omega (arith, ap length c.totals.ensures, few_counters counted.rules counted.events, c.requires.room) }
-
 pub returns : goal.returns
 returns c =
     let verdicts = c.in_ok-parted.ensures.verdicts in
     let ends = c.in_ok-parted.ensures.ends in
+    let counted = c.args.counted.counters in
     record {
-      report_is = c.in_ok-report.ensures ∙ (λ i. record {
+      report_is = c.in_ok-shown.ensures.report_is ∙ (λ i. record {
         verdicts = verdicts i;
-        flushes = (record { at = 0; deltas = deltas (c.totals.ensures i); gauges = []; parts = [] }) ∷ [];
+        flushes = (record { at = 0; deltas = deltas (tally counted.rules counted.events); gauges = []; parts = [] }) ∷ [];
         log = [];
         reads = [];
         ends = ends i;
       });
-      shows = subst (λ (es : List (List ℕ × ℕ)). Shows es c.in_ok-view.view) c.into_totals.ensures c.in_ok-view.ensures;
+      shows = c.in_ok-shown.ensures.shows;
       prefix_is = refl;
       lines_are = c.in_ok-told.ensures.lines_are ∙ ap (worker_lines 1) verdicts;
       faults_are = c.in_ok-told.ensures.faults_are ∙ ap (λ es. fault_lines 1 (map (λ (end : WorkerEnd). end.end) es)) ends;
