@@ -1,7 +1,7 @@
 ghost use Rattle.std.specs.Prelude.{◌≤◌, IfOk};
 
 use super::*;
-use stat_defs::{Delta, MetricId, Verdict};
+use stat_defs::{Delta, MetricId, Report, Verdict};
 use stats_io::{MemFile, MemShelf, MemSink, Shelf};
 use std::alloc::Global;
 use std::process::Abort;
@@ -38,6 +38,10 @@ const USAGE: &[u8] =
 const TWO_INCS: &[u8] = b"inc root a 3\ninc root a 4\n";
 
 const TWO_INCS_OUTPUT: &[u8] = b"# last\nenvoy.a:7|c\n# worker 1: 2 accepted, 0 dropped\n";
+
+const NO_EVENTS_OUTPUT: &[u8] = b"# last\n# worker 1: 0 accepted, 0 dropped\n";
+
+const THREE_NAMES: &[u8] = b"inc root z 5\ninc web z 1\ninc root a 2\ninc root z 6\n";
 
 // What a call left.
 #[derive(Drop)]
@@ -124,6 +128,36 @@ fn play_over(
     play(alloc, words, shelf, 999, piece, failing_push)
 }
 
+// What a call is to come to.
+#[derive(Clone, Copy)]
+struct Wanted<'a> {
+    status: u8,
+    reports: bool,
+    out: &'a [u8],
+    err: &'a [u8],
+}
+
+// Of that case.
+fn assert_played(rt: &impl Abort, case: &[u8], played: &Played, wanted: Wanted<'_>) {
+    assert_eq!(rt; played.outcome.status, wanted.status, "{case:?}");
+    assert_eq!(rt; played.outcome.report.is_some(), wanted.reports, "{case:?}");
+    assert!(rt; played.out.bytes() == wanted.out, "{case:?}");
+    assert!(rt; played.err.bytes() == wanted.err, "{case:?}");
+}
+
+// The call over that shelf comes to this.
+fn assert_call(
+    rt: &impl Abort,
+    alloc: Global,
+    words: &str,
+    shelf: MemShelf,
+    wanted: Wanted<'_>,
+) -> Result<(), Fail> {
+    let played = play_over(alloc, words, shelf, 100, 999)?;
+    assert_played(rt, words.as_bytes(), &played, wanted);
+    Ok(())
+}
+
 // The next part of a row, before the byte 1.
 fn part<'a>(row: &mut &'a [u8]) -> &'a [u8] {
     let all = *row;
@@ -180,15 +214,17 @@ fn assert_row(rt: &impl Abort, alloc: Global, row: &[u8]) -> Result<(), Fail> {
     let bytes = part(&mut rest);
     let failing_pull = u64::from(digit_of(part(&mut rest)));
     let status = digit_of(part(&mut rest));
-    let out = part(&mut rest);
+    let wanted = Wanted {
+        status,
+        reports: status != 2,
+        out: part(&mut rest),
+        err: rest,
+    };
     let files = bytes.split(|b| *b == 3).count();
     let words = words_for(boot == b"-".as_slice(), files);
     let shelf = shelf_with(alloc, boot, bytes, failing_pull)?;
     let played = play_over(alloc, words, shelf, 7, 999)?;
-    assert_eq!(rt; played.outcome.status, status, "{row:?}");
-    assert!(rt; played.out.bytes() == out, "{row:?}");
-    assert!(rt; played.err.bytes() == rest, "{row:?}");
-    assert_eq!(rt; played.outcome.report.is_some(), status != 2, "{row:?}");
+    assert_played(rt, row, &played, wanted);
     Ok(())
 }
 
@@ -201,39 +237,43 @@ fn rows_and_what_is_written(rt: HostRuntime) -> Result<(), Fail> {
 }
 
 #[test]
-fn missing_files_and_a_refused_pattern(rt: HostRuntime) -> Result<(), Fail> {
+fn a_missing_file(rt: HostRuntime) -> Result<(), Fail> {
     let alloc = rt.alloc();
-    let played = play_over(
-        alloc,
-        "replay - f1",
-        MemShelf::new(Vec::new(alloc), Vec::new(alloc)),
-        100,
-        999,
-    )?;
-    assert_eq!(rt; played.outcome.status, 4);
-    assert!(rt; played.out.bytes() == b"# last\n# worker 1: 0 accepted, 0 dropped\n".as_slice());
-    assert!(rt; played.err.bytes() == b"file 1: not opened\n".as_slice());
-    let played = play_over(
-        alloc,
-        "replay b f1",
-        shelf_of(alloc, TWO_INCS, 9)?,
-        100,
-        999,
-    )?;
-    assert_eq!(rt; played.outcome.status, 4);
-    assert!(rt; played.out.bytes().is_empty());
-    assert!(rt; played.err.bytes() == b"boot: read failed\n".as_slice());
-    let played = play(
-        alloc,
-        "replay - f1",
-        MemShelf::new(Vec::new(alloc), Vec::new(alloc)),
-        0,
-        100,
-        999,
-    )?;
-    assert_eq!(rt; played.outcome.status, 2);
-    assert!(rt; played.out.bytes().is_empty());
-    assert!(rt; played.err.bytes() == b"boot: bad pattern at default_tags[0]\n".as_slice());
+    let wanted = Wanted {
+        status: 4,
+        reports: true,
+        out: NO_EVENTS_OUTPUT,
+        err: b"file 1: not opened\n",
+    };
+    let shelf = MemShelf::new(Vec::new(alloc), Vec::new(alloc));
+    assert_call(&rt, alloc, "replay - f1", shelf, wanted)
+}
+
+#[test]
+fn a_missing_bootstrap(rt: HostRuntime) -> Result<(), Fail> {
+    let alloc = rt.alloc();
+    let wanted = Wanted {
+        status: 4,
+        reports: false,
+        out: b"",
+        err: b"boot: read failed\n",
+    };
+    let shelf = shelf_of(alloc, TWO_INCS, 9)?;
+    assert_call(&rt, alloc, "replay b f1", shelf, wanted)
+}
+
+#[test]
+fn a_refused_pattern(rt: HostRuntime) -> Result<(), Fail> {
+    let alloc = rt.alloc();
+    let wanted = Wanted {
+        status: 2,
+        reports: false,
+        out: b"",
+        err: b"boot: bad pattern at default_tags[0]\n",
+    };
+    let shelf = MemShelf::new(Vec::new(alloc), Vec::new(alloc));
+    let played = play(alloc, "replay - f1", shelf, 0, 100, 999)?;
+    assert_played(&rt, b"replay - f1", &played, wanted);
     assert_eq!(rt; played.shelf.fault_count(), 0);
     Ok(())
 }
@@ -241,11 +281,15 @@ fn missing_files_and_a_refused_pattern(rt: HostRuntime) -> Result<(), Fail> {
 #[test]
 fn words_that_are_no_command(rt: HostRuntime) -> Result<(), Fail> {
     let alloc = rt.alloc();
+    let wanted = Wanted {
+        status: 1,
+        reports: false,
+        out: b"",
+        err: USAGE,
+    };
     for words in NO_COMMANDS.split('\n') {
-        let played = play_over(alloc, words, shelf_of(alloc, TWO_INCS, 9)?, 7, 999)?;
-        assert_eq!(rt; played.outcome.status, 1, "{words}");
-        assert!(rt; played.out.bytes().is_empty(), "{words}");
-        assert!(rt; played.err.bytes() == USAGE, "{words}");
+        let shelf = shelf_of(alloc, TWO_INCS, 9)?;
+        assert_call(&rt, alloc, words, shelf, wanted)?;
     }
     Ok(())
 }
@@ -276,28 +320,41 @@ fn as_many_files_as_are_allowed(rt: HostRuntime) -> Result<(), Fail> {
     Ok(())
 }
 
-#[test]
-fn each_push_failing(rt: HostRuntime) -> Result<(), Fail> {
-    let alloc = rt.alloc();
-    for k in 0..53u64 {
-        let played = play_over(alloc, "replay - f1", shelf_of(alloc, TWO_INCS, 9)?, 1, k)?;
-        assert_eq!(rt; played.outcome.status, 5, "{k}");
-        assert_eq!(rt; played.out.bytes().len() as u64, k);
-        assert!(rt; TWO_INCS_OUTPUT.starts_with(played.out.bytes()), "{k}");
-        assert!(rt; played.err.bytes() == b"write failed\n".as_slice(), "{k}");
-    }
-    let played = play_over(alloc, "replay - f1", shelf_of(alloc, TWO_INCS, 9)?, 1, 53)?;
-    assert_eq!(rt; played.outcome.status, 0);
-    assert!(rt; played.out.bytes() == TWO_INCS_OUTPUT);
+// With the push of that number failing, so many bytes are written.
+fn assert_cut(
+    rt: &impl Abort,
+    alloc: Global,
+    failing_push: u64,
+    status: u8,
+    told: &[u8],
+) -> Result<(), Fail> {
+    let shelf = shelf_of(alloc, TWO_INCS, 9)?;
+    let played = play_over(alloc, "replay - f1", shelf, 1, failing_push)?;
+    assert_eq!(rt; played.outcome.status, status, "{failing_push}");
+    assert_eq!(rt; played.out.bytes().len() as u64, failing_push);
+    assert!(rt; TWO_INCS_OUTPUT.starts_with(played.out.bytes()));
+    assert!(rt; played.err.bytes() == told, "{failing_push}");
     Ok(())
 }
 
 #[test]
-fn a_report_has_numbers_in_order_of_first_use(rt: HostRuntime) -> Result<(), Fail> {
+fn each_push_failing(rt: HostRuntime) -> Result<(), Fail> {
     let alloc = rt.alloc();
-    let file = b"inc root z 5\ninc web z 1\ninc root a 2\ninc root z 6\n";
+    for k in 0..53u64 {
+        assert_cut(&rt, alloc, k, 5, b"write failed\n")?;
+    }
+    assert_cut(&rt, alloc, 53, 0, b"")
+}
+
+// The report on a file.
+fn report_on(alloc: Global, file: &[u8]) -> Result<Report, Fail> {
     let played = play_over(alloc, "replay - f1", shelf_of(alloc, file, 9)?, 100, 999)?;
-    let report = played.outcome.report.ok_or("no report")?;
+    Ok(played.outcome.report.ok_or("no report")?)
+}
+
+#[test]
+fn verdicts_have_numbers_in_order_of_first_use(rt: HostRuntime) -> Result<(), Fail> {
+    let report = report_on(rt.alloc(), THREE_NAMES)?;
     let verdicts = report.verdicts.items().first().ok_or("no file")?;
     let wanted = [
         Verdict::Accepted(MetricId(0)),
@@ -306,6 +363,12 @@ fn a_report_has_numbers_in_order_of_first_use(rt: HostRuntime) -> Result<(), Fai
         Verdict::Accepted(MetricId(0)),
     ];
     assert!(rt; verdicts.items() == wanted.as_slice());
+    Ok(())
+}
+
+#[test]
+fn a_flush_has_the_sums_under_their_numbers(rt: HostRuntime) -> Result<(), Fail> {
+    let report = report_on(rt.alloc(), THREE_NAMES)?;
     let flush = report.flushes.items().first().ok_or("no flush")?;
     let sums = [
         Delta {
@@ -331,21 +394,35 @@ fn new_names(alloc: Global, count: u64) -> Result<Vec<u8>, Fail> {
     Ok(bytes)
 }
 
-#[test]
-fn one_counter_too_many(rt: HostRuntime) -> Result<(), Fail> {
-    let alloc = rt.alloc();
-    let words = words_of(alloc, "replay - f1")?;
+// A call over that shelf with a wide output sink.
+fn play_wide(alloc: Global, words: &str, shelf: MemShelf) -> Result<Played, Fail> {
+    let words = words_of(alloc, words)?;
     let mut maker = RegexMaker::new(Vec::new(alloc));
-    let mut shelf = shelf_of(alloc, &new_names(alloc, 16_385)?, 999_999)?;
+    let mut shelf = shelf;
     let mut out = MemSink::new(alloc, 300_000, 300_000, Vec::new(alloc))?;
     let mut err = MemSink::new(alloc, 100, 100, Vec::new(alloc))?;
     let outcome = call(alloc, &words, &mut maker, &mut shelf, &mut out, &mut err);
-    assert_eq!(rt; outcome.status, 0);
+    Ok(Played {
+        outcome,
+        out,
+        err,
+        shelf,
+    })
+}
+
+#[test]
+fn one_counter_too_many(rt: HostRuntime) -> Result<(), Fail> {
+    let alloc = rt.alloc();
+    let shelf = shelf_of(alloc, &new_names(alloc, 16_385)?, 999_999)?;
+    let played = play_wide(alloc, "replay - f1", shelf)?;
+    assert_eq!(rt; played.outcome.status, 0);
     assert!(rt;
-        out.bytes()
+        played
+            .out
+            .bytes()
             .ends_with(b"# worker 1: 16384 accepted, 1 dropped\n")
     );
-    let report = outcome.report.ok_or("no report")?;
+    let report = played.outcome.report.ok_or("no report")?;
     let verdicts = report.verdicts.items().first().ok_or("no file")?;
     assert!(rt; verdicts.items().last() == Some(&Verdict::NoRoom));
     Ok(())
@@ -364,36 +441,37 @@ fn repeated(alloc: Global, byte: u8, count: u64) -> Result<Vec<u8>, Fail> {
 fn lines_at_the_greatest_length(rt: HostRuntime) -> Result<(), Fail> {
     let alloc = rt.alloc();
     for (count, status, told) in [(1_024, 0, ""), (1_025, 3, "file 1 line 1: line too long\n")] {
-        let file = repeated(alloc, b'#', count)?;
-        let played = play_over(
-            alloc,
-            "replay - f1",
-            shelf_of(alloc, &file, 9_999)?,
-            100,
-            999,
-        )?;
-        assert_eq!(rt; played.outcome.status, status);
-        assert!(rt; played.err.bytes() == told.as_bytes());
+        let wanted = Wanted {
+            status,
+            reports: true,
+            out: NO_EVENTS_OUTPUT,
+            err: told.as_bytes(),
+        };
+        let shelf = shelf_of(alloc, &repeated(alloc, b'#', count)?, 9_999)?;
+        assert_call(&rt, alloc, "replay - f1", shelf, wanted)?;
     }
     Ok(())
+}
+
+// So many lists, one in another.
+fn nested(alloc: Global, depth: u64) -> Result<Vec<u8>, Fail> {
+    let mut bytes = repeated(alloc, b'[', depth)?;
+    bytes.extend_from_slice(&repeated(alloc, b']', depth)?)?;
+    Ok(bytes)
 }
 
 #[test]
 fn the_deepest_bootstrap(rt: HostRuntime) -> Result<(), Fail> {
     let alloc = rt.alloc();
     for (depth, told) in [(127, "boot: bad key at top\n"), (128, "boot: not json\n")] {
-        let mut boot = repeated(alloc, b'[', depth)?;
-        boot.extend_from_slice(&repeated(alloc, b']', depth)?)?;
-        let played = play_over(
-            alloc,
-            "replay f1 f1",
-            shelf_of(alloc, &boot, 999)?,
-            100,
-            999,
-        )?;
-        assert_eq!(rt; played.outcome.status, 2);
-        assert!(rt; played.err.bytes() == told.as_bytes());
-        assert!(rt; played.out.bytes().is_empty());
+        let wanted = Wanted {
+            status: 2,
+            reports: false,
+            out: b"",
+            err: told.as_bytes(),
+        };
+        let shelf = shelf_of(alloc, &nested(alloc, depth)?, 999)?;
+        assert_call(&rt, alloc, "replay f1 f1", shelf, wanted)?;
     }
     Ok(())
 }
@@ -412,26 +490,27 @@ fn comments(alloc: Global, lines: u64, more: &[u8]) -> Result<Vec<u8>, Fail> {
 }
 
 #[test]
-fn files_at_the_greatest_size(rt: HostRuntime) -> Result<(), Fail> {
+fn a_file_at_the_greatest_size(rt: HostRuntime) -> Result<(), Fail> {
     let alloc = rt.alloc();
-    let whole = comments(alloc, 8_192, b"")?;
-    let played = play_over(
-        alloc,
-        "replay - f1",
-        shelf_of(alloc, &whole, 999_999)?,
-        100,
-        999,
-    )?;
-    assert_eq!(rt; played.outcome.status, 0);
-    let longer = comments(alloc, 8_192, b"#")?;
-    let played = play_over(
-        alloc,
-        "replay - f1",
-        shelf_of(alloc, &longer, 999_999)?,
-        100,
-        999,
-    )?;
-    assert_eq!(rt; played.outcome.status, 3);
-    assert!(rt; played.err.bytes() == b"file 1: too big\n".as_slice());
-    Ok(())
+    let wanted = Wanted {
+        status: 0,
+        reports: true,
+        out: NO_EVENTS_OUTPUT,
+        err: b"",
+    };
+    let shelf = shelf_of(alloc, &comments(alloc, 8_192, b"")?, 999_999)?;
+    assert_call(&rt, alloc, "replay - f1", shelf, wanted)
+}
+
+#[test]
+fn a_file_past_the_greatest_size(rt: HostRuntime) -> Result<(), Fail> {
+    let alloc = rt.alloc();
+    let wanted = Wanted {
+        status: 3,
+        reports: true,
+        out: NO_EVENTS_OUTPUT,
+        err: b"file 1: too big\n",
+    };
+    let shelf = shelf_of(alloc, &comments(alloc, 8_192, b"#")?, 999_999)?;
+    assert_call(&rt, alloc, "replay - f1", shelf, wanted)
 }
