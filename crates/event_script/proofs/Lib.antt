@@ -5,4 +5,6 @@ pub mod Filling
 pub mod Stepping
 pub mod Runs
 pub mod Single
+pub mod Decided
+pub mod Total
 pub mod Lawful

@@ -28,14 +28,17 @@ and_true : (a b : Bool) → (a && b) ≡ true → (a ≡ true) × (b ≡ true)
 and_true true b h = (refl, h)
 and_true false b h = cc
 
-lacks_cons : (p : ℕ → Bool) (byte x : ℕ) (xs : List ℕ) → p byte ≡ false → p x ≡ true → Lacks byte xs → Lacks byte (x ∷ xs)
-lacks_cons p byte x xs not passes lacks zero lt = λ same. let same' : p x ≡ p byte = ap p same in cc
-lacks_cons p byte x xs not passes lacks (suc k) lt = lacks k (omega arith)
+pub lacks_cons : (byte x : ℕ) (xs : List ℕ) → x ≢ byte → Lacks byte xs → Lacks byte (x ∷ xs)
+lacks_cons byte x xs apart lacks zero lt = apart
+lacks_cons byte x xs apart lacks (suc k) lt = lacks k (omega arith)
 
 -- a list of bytes that pass a test lacks each byte that doesn't
 pub lacks_all : (p : ℕ → Bool) (byte : ℕ) (xs : List ℕ) → p byte ≡ false → list_all p xs ≡ true → Lacks byte xs
 lacks_all p byte [] not h = λ k lt. absurd (omega arith)
-lacks_all p byte (x ∷ xs) not h = lacks_cons p byte x xs not (and_true (p x) (list_all p xs) h).0 (lacks_all p byte xs not (and_true (p x) (list_all p xs) h).1)
+lacks_all p byte (x ∷ xs) not h =
+    let both = and_true (p x) (list_all p xs) h in
+    let passes : p x ≡ true = both.0 in
+    lacks_cons byte x xs (λ same. let same' : p x ≡ p byte = ap p same in cc) (lacks_all p byte xs not both.1)
 
 pub label_lacks : (label : List ℕ) → IsLabel label → Lacks 32 label
 label_lacks label h = lacks_all is_label_byte 32 label refl h.bytes

@@ -16,6 +16,14 @@ pub fn file_is_single_valued()
     ensures { (bytes : List ℕ) (events others : List Event) (end other : FileEnd) → File bytes events end → File bytes others other → (events ≡ others) × (end ≡ other) }
 {}
 
+/// Every file has a list of events and an end: with the law above, exactly one. The bytes from any place in a file on have them
+/// too, however they stop.
+pub fn every_file_has_a_reading()
+    ensures whole_file { (bytes : List ℕ) → (events : List Event) × (end : FileEnd) × File bytes events end }
+    ensures from_any_place { (number given offset : ℕ) (bytes : List ℕ) (stop : Stop) → (events : List Event) × (end : FileEnd)
+        × FileFrom number given offset bytes stop events end }
+{}
+
 /// The fault at the least byte stands: one that is found before a read fault is that of the whole file, whatever else the file
 /// holds.
 pub fn first_fault_stands()

@@ -12,7 +12,10 @@ mod tests;
 
 pub use cutting::MAX_EVENTS;
 pub use grammar::MAX_LINE_BYTES;
-pub use laws::{answers_are_a_run, file_is_single_valued, first_fault_stands, moves_compose};
+pub use laws::{
+    answers_are_a_run, every_file_has_a_reading, file_is_single_valued, first_fault_stands,
+    moves_compose,
+};
 pub use lines::Lines;
 pub use pulling::MAX_FILE_BYTES;
 pub use step::{Step, Stop};
