@@ -81,7 +81,7 @@ fn shelf_of(alloc: Global, file: &[u8], failing_pull: u64) -> Result<MemShelf, F
     Ok(MemShelf::new(vec![in alloc; file]?, Vec::new(alloc)))
 }
 
-// Calls the top call. The tests run what it promises.
+// Calls the top call. It has no clauses, so that no test's proof carries those of the top call.
 fn call<K: PatternMaker, F: Shelf, O: Sink, E: Sink>(
     alloc: Global,
     words: &[String],
@@ -91,6 +91,25 @@ fn call<K: PatternMaker, F: Shelf, O: Sink, E: Sink>(
     err: &mut E,
 ) -> Outcome {
     quiet_stats(alloc, words, maker, shelf, out, err)
+}
+
+// What a call over these comes to.
+fn play_with(
+    alloc: Global,
+    words: &str,
+    mut maker: RegexMaker,
+    mut shelf: MemShelf,
+    mut out: MemSink,
+    mut err: MemSink,
+) -> Result<Played, Fail> {
+    let words = words_of(alloc, words)?;
+    let outcome = call(alloc, &words, &mut maker, &mut shelf, &mut out, &mut err);
+    Ok(Played {
+        outcome,
+        out,
+        err,
+        shelf,
+    })
 }
 
 // Calls the top call over that shelf and a maker whose call of that number fails, with an output sink of pieces of that length
@@ -103,18 +122,10 @@ fn play(
     piece: usize,
     failing_push: u64,
 ) -> Result<Played, Fail> {
-    let words = words_of(alloc, words)?;
-    let mut maker = RegexMaker::new(vec![in alloc; failing_pattern]?);
-    let mut shelf = shelf;
-    let mut out = MemSink::new(alloc, 2000, piece.max(1), vec![in alloc; failing_push]?)?;
-    let mut err = MemSink::new(alloc, 1000, 100, Vec::new(alloc))?;
-    let outcome = call(alloc, &words, &mut maker, &mut shelf, &mut out, &mut err);
-    Ok(Played {
-        outcome,
-        out,
-        err,
-        shelf,
-    })
+    let maker = RegexMaker::new(vec![in alloc; failing_pattern]?);
+    let out = MemSink::new(alloc, 2000, piece.max(1), vec![in alloc; failing_push]?)?;
+    let err = MemSink::new(alloc, 1000, 100, Vec::new(alloc))?;
+    play_with(alloc, words, maker, shelf, out, err)
 }
 
 // The same without a failing pattern.
@@ -396,18 +407,10 @@ fn new_names(alloc: Global, count: u64) -> Result<Vec<u8>, Fail> {
 
 // A call over that shelf with a wide output sink.
 fn play_wide(alloc: Global, words: &str, shelf: MemShelf) -> Result<Played, Fail> {
-    let words = words_of(alloc, words)?;
-    let mut maker = RegexMaker::new(Vec::new(alloc));
-    let mut shelf = shelf;
-    let mut out = MemSink::new(alloc, 300_000, 300_000, Vec::new(alloc))?;
-    let mut err = MemSink::new(alloc, 100, 100, Vec::new(alloc))?;
-    let outcome = call(alloc, &words, &mut maker, &mut shelf, &mut out, &mut err);
-    Ok(Played {
-        outcome,
-        out,
-        err,
-        shelf,
-    })
+    let maker = RegexMaker::new(Vec::new(alloc));
+    let out = MemSink::new(alloc, 300_000, 300_000, Vec::new(alloc))?;
+    let err = MemSink::new(alloc, 100, 100, Vec::new(alloc))?;
+    play_with(alloc, words, maker, shelf, out, err)
 }
 
 #[test]
