@@ -6,7 +6,7 @@ use Rattle.stat_defs.specs.declared.events.Event.{Event}
 use Rattle.stat_defs.specs.declared.reports.FileEnd.{FileEnd}
 use Rattle.event_script.specs.declared.step.Stop.{Stop}
 use Rattle.event_script.specs.declared.step.Stop.TheVariants.{Whole, TooBig, ReadFault}
-use Rattle.event_script.specs.declared.pulling.TheConstants.{MAX_FILE_BYTES}
+use Rattle.event_script.specs.declared.limits.TheConstants.{MAX_FILE_BYTES}
 use Rattle.event_script.specs.Script.{Reads, lines_until, FileFrom}
 use Rattle.stats_io.specs.Limits.{Grows}
 use Rattle.event_script.specs.Pulled.{Stops}

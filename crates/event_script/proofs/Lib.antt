@@ -1,5 +1,8 @@
-pub mod Parts
-pub mod Digits
+pub mod Rulings
+pub mod Decoding
+pub mod Spelled
+pub mod FirstLine
+pub mod Splits
 pub mod CutLines
 pub mod Filling
 pub mod Stepping
@@ -7,4 +10,4 @@ pub mod Runs
 pub mod Single
 pub mod Decided
 pub mod Total
-pub mod Lawful
+pub mod LaneLemmas

@@ -11,8 +11,8 @@ use Rattle.stat_defs.specs.declared.reports.FileEnd.{FileEnd}
 use Rattle.stat_defs.specs.declared.reports.FileEnd.TheVariants as file
 use Rattle.event_script.specs.declared.step.Stop.{Stop}
 use Rattle.event_script.specs.declared.step.Stop.TheVariants.{Whole, TooBig, ReadFault}
-use Rattle.event_script.specs.declared.pulling.TheConstants.{MAX_FILE_BYTES}
-use Rattle.event_script.specs.declared.grammar.TheConstants.{MAX_LINE_BYTES}
+use Rattle.event_script.specs.declared.limits.TheConstants.{MAX_FILE_BYTES}
+use Rattle.event_script.specs.declared.limits.TheConstants.{MAX_LINE_BYTES}
 use Rattle.event_script.specs.Script.{Reads, is_line, lines_of, lines_until, FileFrom, File, end_by}
 use Rattle.event_script.proofs.CutLines.{is_newline, first_of}
 use Rattle.event_script.specs.Reading.{Reading, Comes, MayFollow, Moves}

@@ -1,5 +1,5 @@
 -- A file has one list of events and one end.
-use Rattle.std.proofs.Common.{◌≡◌, ◌+◌, ℕ, List, [], ◌∷◌, ◌++◌, inl, inr, ⊎_elim, length, codes, refl, sym, ap, ◌∙◌, arith}
+use Rattle.std.proofs.Common.{◌≡◌, ◌<◌, ◌+◌, ℕ, List, [], ◌∷◌, ◌++◌, inl, inr, ⊎_elim, length, get_or, codes, refl, sym, ap, ◌∙◌, arith}
 use Rattle.std.specs.Str.Parse.{digits_value}
 use Rattle.std.proofs.lemmas.Bool.{cases_lt}
 use Rattle.stat_defs.specs.declared.events.Event.{Event}
@@ -7,45 +7,50 @@ use Rattle.stat_defs.specs.declared.events.Event.TheVariants as event
 use Rattle.stat_defs.specs.declared.reports.FileEnd.{FileEnd}
 use Rattle.event_script.specs.declared.step.Stop.{Stop}
 use Rattle.event_script.specs.declared.step.Stop.TheVariants.{Whole}
-use Rattle.event_script.specs.declared.pulling.TheConstants.{MAX_FILE_BYTES}
-use Rattle.event_script.specs.Grammar.{IsIncLine, IsLineOf, IsPassedOver}
+use Rattle.event_script.specs.declared.limits.TheConstants.{MAX_FILE_BYTES}
+use Rattle.event_script.specs.Grammar.{IsLineOf, IsPassedOver}
+use Rattle.event_script.specs.Decoded.{word_bytes, event_in}
+use Rattle.event_script.specs.declared.words.Word.{Word}
+use Rattle.event_script.specs.declared.words.Word.TheVariants as word
 use Rattle.event_script.specs.Script.{Reads, FileFrom}
-use Rattle.event_script.proofs.Parts.{same_parts}
+use Rattle.event_script.proofs.Spelled.{found_in, begins}
+use Rattle.std.proofs.lemmas.List.{get_or_append_left}
 
--- the parts of a line are its own
-one_inc : (line label name : List ℕ) (n : ℕ) (label' name' : List ℕ) (n' : ℕ) → IsIncLine line label name n → IsIncLine line label' name' n'
-    → (label ≡ label') × (name ≡ name') × (n ≡ n')
-one_inc line label name n label' name' n' is is' =
-    let same = same_parts line (label' ++ 32 ∷ (name' ++ 32 ∷ is'.digits)) is'.parts label name n is label' (name' ++ 32 ∷ is'.digits) refl is'.label_fits
-    name' is'.digits refl is'.name_fits in
-    (sym same.0, sym same.1, sym is.number.value ∙ ap (digits_value 10) (sym same.2) ∙ is'.number.value)
+-- a line says one event
+pub one_event : (line : List ℕ) (e e' : Event) → IsLineOf line e → IsLineOf line e' → e ≡ e'
+one_event line e e' is is' = let same = sym (found_in line e is) ∙ found_in line e' is' in cc
 
-one_event : (line : List ℕ) (e e' : Event) → IsLineOf line e → IsLineOf line e' → e ≡ e'
-one_event line (event.Inc label name n) (event.Inc label' name' n') is is' =
-    let same = one_inc line label name n label' name' n' is is' in rw (same.0, same.1, same.2) refl
-one_event line (event.Inc label name n) (event.Gauge l m mode op k) is is' = absurd is'
-one_event line (event.Inc label name n) (event.Rec l m v) is is' = absurd is'
-one_event line (event.Inc label name n) (event.SetText l m text) is is' = absurd is'
-one_event line (event.Inc label name n) (event.OpenScope l p) is is' = absurd is'
-one_event line (event.Inc label name n) (event.Release l) is is' = absurd is'
-one_event line (event.Gauge l m mode op k) e' is is' = absurd is
-one_event line (event.Rec l m v) e' is is' = absurd is
-one_event line (event.SetText l m text) e' is is' = absurd is
-one_event line (event.OpenScope l p) e' is is' = absurd is
-one_event line (event.Release l) e' is is' = absurd is
+first_byte : (w : Word) → 35 < get_or (word_bytes w) 0 0
+first_byte word.Inc = omega arith
+first_byte word.Add = omega arith
+first_byte word.Sub = omega arith
+first_byte word.Set = omega arith
+first_byte word.Rec = omega arith
+first_byte word.Text = omega arith
+first_byte word.Open = omega arith
+first_byte word.Release = omega arith
+
+some_byte : (w : Word) → 0 < length (word_bytes w)
+some_byte word.Inc = omega arith
+some_byte word.Add = omega arith
+some_byte word.Sub = omega arith
+some_byte word.Set = omega arith
+some_byte word.Rec = omega arith
+some_byte word.Text = omega arith
+some_byte word.Open = omega arith
+some_byte word.Release = omega arith
 
 -- an event's line is not passed over
-inc_first : (line rest : List ℕ) → line ≡ codes "inc " ++ rest → IsPassedOver line → ⊥
-inc_first [] rest e passed = cc
-inc_first (b ∷ bs) rest e passed = let same : b ≡ 105 = cc in omega (arith, same, passed)
-
-not_both : (line : List ℕ) (e : Event) → IsLineOf line e → IsPassedOver line → ⊥
-not_both line (event.Inc label name n) is passed = inc_first line (label ++ 32 ∷ (name ++ 32 ∷ is.digits)) is.parts passed
-not_both line (event.Gauge l m mode op k) is passed = is
-not_both line (event.Rec l m v) is passed = is
-not_both line (event.SetText l m text) is passed = is
-not_both line (event.OpenScope l p) is passed = is
-not_both line (event.Release l) is passed = is
+pub not_both : (line : List ℕ) (e : Event) → IsLineOf line e → IsPassedOver line → ⊥
+not_both line e is passed = by line refl passed
+  where
+    by : (l : List ℕ) → line ≡ l → IsPassedOver l → ⊥
+    by [] same passed = let found = sym (found_in line e is) ∙ ap event_in same in absurd cc
+    by (b ∷ bs) same passed =
+        let w = begins line e is in
+        let first : get_or (b ∷ bs) 0 0 ≡ get_or (word_bytes w.0) 0 0 =
+            ap (λ (l : List ℕ). get_or l 0 0) (sym same ∙ w.2) ∙ get_or_append_left (word_bytes w.0) (32 ∷ w.1) 0 0 (some_byte w.0) in
+        omega (arith, first_byte w.0, first, passed)
 
 reads_single : (number given : ℕ) (lines : List (List ℕ)) (stop : Stop) (events others : List Event) (end other : FileEnd) → Reads number given lines stop events end
     → Reads number given lines stop others other → (events ≡ others) × (end ≡ other)

@@ -6,8 +6,8 @@ use Rattle.stat_defs.specs.declared.reports.FileEnd.{FileEnd}
 use Rattle.event_script.specs.declared.step.Stop.{Stop}
 use Rattle.event_script.specs.declared.cutting.Place.{Place}
 use Rattle.event_script.specs.Script.{Reads, lines_until}
-use Rattle.stat_defs.specs.declared.reports.FileEnd.TheVariants.{Whole, BadLine, LineTooLong, TooBig, TooMany, ReadFault, NotOpened}
-use Rattle.event_script.specs.Steps.{CanAnswer, StoppedBy}
+use Rattle.stat_defs.specs.declared.reports.FileEnd.TheVariants.{NotOpened}
+use Rattle.event_script.specs.Steps.{StoppedBy}
 use Rattle.event_script.specs.Reading.{Reading, Moves}
 
 module _ {S : Type 0} (left : S → Option (List ℕ)) (source : S) (bytes : List ℕ) (stop : Stop) (place new_place : Place) (taken first : ℕ) (events : List Event) (new_ended : Option FileEnd)
@@ -33,16 +33,10 @@ module _ {S : Type 0} (left : S → Option (List ℕ)) (source : S) (bytes : Lis
       [] events
   moves_step stopped ended is none = rw (is, none) core
 
--- the end that stands can be answered
-pub can_answer : (stopped : Option Stop) (end : FileEnd) → StoppedBy stopped end → CanAnswer end
-can_answer None end by = absurd by
-can_answer (Some stop) Whole by = tt
-can_answer (Some stop) (BadLine n) by = tt
-can_answer (Some stop) (LineTooLong n) by = tt
-can_answer (Some stop) TooBig by = tt
-can_answer (Some stop) TooMany by = tt
-can_answer (Some stop) ReadFault by = tt
-can_answer (Some stop) NotOpened by = absurd by
+-- a file that was not opened has no reader that ended
+pub was_opened : (stopped : Option Stop) → StoppedBy stopped NotOpened → ⊥
+was_opened None by = by
+was_opened (Some stop) by = by
 
 -- nothing moves
 pub moves_none : {S : Type 0} (left : S → Option (List ℕ)) (r : Reading S) → Moves left r r [] []

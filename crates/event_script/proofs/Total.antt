@@ -7,9 +7,9 @@ use Rattle.stat_defs.specs.declared.reports.FileEnd.{FileEnd}
 use Rattle.stat_defs.specs.declared.reports.FileEnd.TheVariants as file
 use Rattle.event_script.specs.declared.step.Stop.{Stop}
 use Rattle.event_script.specs.declared.step.Stop.TheVariants.{TooBig}
-use Rattle.event_script.specs.declared.pulling.TheConstants.{MAX_FILE_BYTES}
-use Rattle.event_script.specs.declared.grammar.TheConstants.{MAX_LINE_BYTES}
-use Rattle.event_script.specs.declared.cutting.TheConstants.{MAX_EVENTS}
+use Rattle.event_script.specs.declared.limits.TheConstants.{MAX_FILE_BYTES}
+use Rattle.event_script.specs.declared.limits.TheConstants.{MAX_LINE_BYTES}
+use Rattle.event_script.specs.declared.limits.TheConstants.{MAX_EVENTS}
 use Rattle.event_script.specs.Grammar.{IsLineOf}
 use Rattle.event_script.specs.Script.{Reads, end_by, lines_until, FileFrom}
 use Rattle.event_script.proofs.Decided.{event_decided, passed_decided}

@@ -5,8 +5,8 @@ use Rattle.stat_defs.specs.Faults.{Rose}
 use Rattle.stat_defs.specs.declared.reports.FileEnd.{FileEnd}
 use Rattle.event_script.specs.declared.step.Stop.{Stop}
 use Rattle.event_script.specs.declared.step.Stop.TheVariants.{Whole, ReadFault}
-use Rattle.event_script.specs.declared.pulling.TheConstants.{MAX_FILE_BYTES}
-use Rattle.event_script.specs.declared.cutting.TheConstants.{MAX_EVENTS}
+use Rattle.event_script.specs.declared.limits.TheConstants.{MAX_FILE_BYTES}
+use Rattle.event_script.specs.declared.limits.TheConstants.{MAX_EVENTS}
 use Rattle.event_script.specs.declared.cutting.Place.{Place}
 use Rattle.event_script.specs.Steps.{Explains, StoppedBy}
 

@@ -4,7 +4,7 @@ use Rattle.std.specs.Io.KnownBytes.{IsAtEnd}
 use Rattle.stat_defs.specs.Faults.{Rose}
 use Rattle.event_script.specs.declared.step.Stop.{Stop}
 use Rattle.event_script.specs.declared.step.Stop.TheVariants.{Whole, TooBig, ReadFault}
-use Rattle.event_script.specs.declared.pulling.TheConstants.{MAX_FILE_BYTES}
+use Rattle.event_script.specs.declared.limits.TheConstants.{MAX_FILE_BYTES}
 
 -- why the pulling stopped
 abbrev pub Stops : Option (List ℕ) → ℕ → ℕ → ℕ → Stop → Type 0

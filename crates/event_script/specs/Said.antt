@@ -1,10 +1,14 @@
 -- What the reader says of a line.
-use Rattle.std.specs.Prelude.{◌≡◌, ◌≢◌, ◌<◌, ◌≤◌, ℕ, Bool, true, false, List, ◌∷◌, ◌++◌, length, take, slice_index}
+use Rattle.std.specs.Prelude.{◌≡◌, ◌≢◌, ◌<◌, ◌≤◌, ℕ, Bool, true, false, List, ◌∷◌, ◌++◌, length, take, drop, slice_index}
 use Rattle.std.specs.List.{list_all}
 use Rattle.event_script.specs.Grammar.{IsPassedOver, IsLineOf, IsNoLine}
-use Rattle.event_script.specs.declared.grammar.Said.{Said}
-use Rattle.event_script.specs.declared.grammar.Said.TheVariants.{Nothing, Event, NoLine, TooLong}
-use Rattle.event_script.specs.declared.grammar.TheConstants.{MAX_LINE_BYTES}
+use Rattle.event_script.specs.Found.{is_end}
+use Rattle.event_script.specs.Decoded.{first_line}
+use Rattle.event_script.specs.Script.{lines_until}
+use Rattle.event_script.specs.declared.step.Stop.{Stop}
+use Rattle.event_script.specs.declared.cutting.Said.{Said}
+use Rattle.event_script.specs.declared.cutting.Said.TheVariants.{Nothing, Event, NoLine, TooLong}
+use Rattle.event_script.specs.declared.limits.TheConstants.{MAX_LINE_BYTES}
 
 abbrev pub Says : List ℕ → Said → Type 0
 Says line Nothing = (length line ≤ MAX_LINE_BYTES) × IsPassedOver line
@@ -28,3 +32,28 @@ pub record IsPart (text : List ℕ) (at most : ℕ) (part rest : List ℕ) : Typ
 -- no space stands at that place, or there are none or too many bytes before it
 abbrev pub IsNoPart : List ℕ → ℕ → ℕ → Type 0
 IsNoPart text at most = 1 ≤ at → at ≤ most → at < length text → slice_index text at ≢ 32
+
+-- the text's first bytes, 1 to so many, with which a line ends, and those behind it
+pub record IsLast (text : List ℕ) (at most : ℕ) (part after : List ℕ) : Type 0 where
+  pub first : part ≡ take at text
+  pub behind : after ≡ drop at text
+  pub some : 1 ≤ length part
+  pub few : length part ≤ most
+  pub ends : is_end after ≡ true
+
+-- no line ends at that place, or there are none or too many bytes before it
+abbrev pub IsNoLast : List ℕ → ℕ → ℕ → Type 0
+IsNoLast text at most = 1 ≤ at → at ≤ most → is_end (drop at text) ≡ false
+
+-- the first line, and how many bytes it takes
+pub record IsCut (stop : Stop) (bytes line : List ℕ) (count : ℕ) : Type 0 where
+  pub first : line ≡ first_line bytes
+  pub some : 0 < count
+  pub within : count ≤ length bytes
+  pub cut : lines_until stop bytes ≡ line ∷ lines_until stop (drop count bytes)
+
+-- the first line says this, and takes so many bytes
+pub record SaysFirst (stop : Stop) (bytes : List ℕ) (said : Said) (count : ℕ) : Type 0 where
+  pub line : List ℕ
+  pub says : Says line said
+  pub is_cut : IsCut stop bytes line count

@@ -6,9 +6,9 @@ use Rattle.stat_defs.specs.declared.reports.FileEnd.{FileEnd}
 use Rattle.stat_defs.specs.declared.reports.FileEnd.TheVariants as file
 use Rattle.event_script.specs.declared.step.Stop.{Stop}
 use Rattle.event_script.specs.declared.step.Stop.TheVariants.{Whole, TooBig, ReadFault}
-use Rattle.event_script.specs.declared.pulling.TheConstants.{MAX_FILE_BYTES}
-use Rattle.event_script.specs.declared.grammar.TheConstants.{MAX_LINE_BYTES}
-use Rattle.event_script.specs.declared.cutting.TheConstants.{MAX_EVENTS}
+use Rattle.event_script.specs.declared.limits.TheConstants.{MAX_FILE_BYTES}
+use Rattle.event_script.specs.declared.limits.TheConstants.{MAX_LINE_BYTES}
+use Rattle.event_script.specs.declared.limits.TheConstants.{MAX_EVENTS}
 use Rattle.event_script.specs.Grammar.{IsPassedOver, IsLineOf, IsNoLine}
 
 -- A piece of so many bytes behind which no newline stands is a line at the end of the file, where it is not empty. Where the

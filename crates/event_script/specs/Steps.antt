@@ -1,5 +1,5 @@
 -- What the reader answers.
-use Rattle.std.specs.Prelude.{◌≡◌, ℕ, List, [], ◌∷◌, Option, Some, None, IfSome, Result, Ok, Err}
+use Rattle.std.specs.Prelude.{◌≡◌, ℕ, List, [], ◌∷◌, Option, Some, None, IfSome, MatchOption, Result, Ok, Err}
 use Rattle.std.specs.Io.KnownBytes.{IsAtEnd}
 use Rattle.stat_defs.specs.declared.events.Event.{Event}
 use Rattle.stat_defs.specs.declared.reports.FileEnd.{FileEnd}
@@ -10,8 +10,6 @@ use Rattle.event_script.specs.Script.{Reads, end_by}
 use Rattle.event_script.specs.declared.step.Stop.{Stop}
 use Rattle.event_script.specs.declared.step.Step.{Step}
 use Rattle.event_script.specs.declared.step.Step.TheVariants as step
-use Rattle.event_script.specs.declared.step.Found.{Found}
-use Rattle.event_script.specs.declared.step.Found.TheVariants as found
 
 -- the event that an answer gives, if it is one
 abbrev pub events_of : Result Step NoMemory → List Event
@@ -53,16 +51,6 @@ IfEvent (Err e) fact = Unit {0}
 abbrev pub Answers : Result Step NoMemory → FileEnd → Type 0
 Answers answer end = (events_of answer ≡ []) × (end_of answer ≡ Some end)
 
--- an end that the reader can answer
-abbrev pub CanAnswer : FileEnd → Type 0
-CanAnswer file.Whole = Unit {0}
-CanAnswer (file.BadLine n) = Unit {0}
-CanAnswer (file.LineTooLong n) = Unit {0}
-CanAnswer file.TooBig = Unit {0}
-CanAnswer file.TooMany = Unit {0}
-CanAnswer file.ReadFault = Unit {0}
-CanAnswer file.NotOpened = ⊥
-
 -- the end is that of the source, or a fault of a line
 abbrev pub EndsBy : Stop → FileEnd → Type 0
 EndsBy stop (file.BadLine n) = Unit {0}
@@ -88,24 +76,7 @@ abbrev pub StoppedBy : Option Stop → FileEnd → Type 0
 StoppedBy None end = ⊥
 StoppedBy (Some stop) end = EndsBy stop end
 
--- what was found in the lines
-abbrev pub events_found : Result Found NoMemory → List Event
-events_found (Ok (found.Event e)) = e ∷ []
-events_found (Ok (found.Ended end)) = []
-events_found (Err e) = []
-
-abbrev pub IfFoundEnd : Result Found NoMemory → (FileEnd → Type 0) → Type 0
-IfFoundEnd (Ok (found.Event e)) fact = Unit {0}
-IfFoundEnd (Ok (found.Ended end)) fact = fact end
-IfFoundEnd (Err e) fact = Unit {0}
-
-abbrev pub IfFoundEvent : Result Found NoMemory → Type 0 → Type 0
-IfFoundEvent (Ok (found.Event e)) fact = fact
-IfFoundEvent (Ok (found.Ended end)) fact = Unit {0}
-IfFoundEvent (Err e) fact = Unit {0}
-
--- what comes behind it: nothing behind an end
-abbrev pub Follows : Result Found NoMemory → ℕ → ℕ → List (List ℕ) → Stop → List Event → FileEnd → Type 0
-Follows (Ok (found.Event e)) number given lines stop events end = Reads number given lines stop events end
-Follows (Ok (found.Ended ended)) number given lines stop events end = (events ≡ []) × (end ≡ ended)
-Follows (Err e) number given lines stop events end = Reads number given lines stop events end
+-- what comes behind the answer: nothing behind an end
+abbrev pub Follows : Result Step NoMemory → ℕ → ℕ → List (List ℕ) → Stop → List Event → FileEnd → Type 0
+Follows answer number given lines stop events end =
+    MatchOption (end_of answer) (Reads number given lines stop events end) (λ ended. (events ≡ []) × (end ≡ ended))

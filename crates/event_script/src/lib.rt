@@ -2,20 +2,25 @@
 #![tactic(auto)]
 
 mod cutting;
-mod grammar;
+mod events;
+mod fronts;
+mod lanes;
 mod laws;
+mod limits;
 mod lines;
+mod numbers;
+mod parts;
 mod pulling;
+mod scratch;
 mod step;
 #[cfg(test)]
 mod tests;
+mod words;
 
-pub use cutting::MAX_EVENTS;
-pub use grammar::MAX_LINE_BYTES;
 pub use laws::{
     answers_are_a_run, every_file_has_a_reading, file_is_single_valued, first_fault_stands,
     moves_compose,
 };
+pub use limits::{MAX_EVENTS, MAX_FILE_BYTES, MAX_LINE_BYTES};
 pub use lines::Lines;
-pub use pulling::MAX_FILE_BYTES;
 pub use step::{Step, Stop};

@@ -1,17 +1,17 @@
 //! The events of a file, one after another.
 ghost use Rattle.std.specs.Prelude.{◌≡◌, ◌<◌, ◌≤◌, ◌+◌, [], ℕ, List, Some, None, All, IfOk};
 ghost use Rattle.event_script.specs.Reading.{Moves, unread};
-ghost use Rattle.event_script.specs.Grammar.{IsLawful, HasLine};
+ghost use Rattle.event_script.specs.Grammar.{IsLawful};
 ghost use Rattle.event_script.specs.Steps.{events_of, IfEnded, IfEvent, Answers, Explains, StoppedBy};
 ghost use Rattle.event_script.specs.declared.step.Stop.{Stop};
-ghost use Rattle.event_script.specs.declared.pulling.TheConstants as limits;
-ghost use Rattle.event_script.specs.declared.cutting.TheConstants as cutting;
+ghost use Rattle.event_script.specs.declared.limits.TheConstants as limits;
 ghost use Rattle.stat_defs.specs.declared.reports.FileEnd.{FileEnd};
 ghost use Rattle.std.specs.Io.KnownBytes.{IsAtEnd};
 
 use crate::cutting::{Place, read_on};
-use crate::pulling::{MAX_FILE_BYTES, pull_all};
-use crate::step::{Found, Step, Stop, answer_of};
+use crate::limits::MAX_FILE_BYTES;
+use crate::pulling::pull_all;
+use crate::step::{Step, Stop, end_of, step_of};
 use stat_defs::{FileEnd, NoMemory};
 use stats_io::Source;
 use std::alloc::Global;
@@ -120,6 +120,7 @@ impl<S: Source> Lines<S> {
     }
 
     // Reads on to the next event, or to the end.
+    #[inline(always)]
     fn step(&mut self, alloc: Global, stopped: Stop) -> Result<Step, NoMemory>
         requires stopped { self.old.stopped ≡ Some stopped }
         requires going { self.old.ended ≡ None }
@@ -127,8 +128,7 @@ impl<S: Source> Lines<S> {
         ensures ended { IfEnded result (λ end. self.new.ended ≡ Some end) }
         ensures event { IfEvent result (self.old.number < self.new.number) }
         ensures lawful { All IsLawful (events_of result) }
-        ensures line { All HasLine (events_of result) }
-        ensures few { self.new.given ≤ cutting.MAX_EVENTS }
+        ensures few { self.new.given ≤ limits.MAX_EVENTS }
         ensures bound { self.new.number ≤ limits.MAX_FILE_BYTES + 1 }
         ensures explained { IfEnded result (λ end. Explains (S.left self.new.source) self.new.first_faults (S.faults self.new.source) end) }
         ensures by { IfEnded result (λ end. StoppedBy self.new.stopped end) }
@@ -136,13 +136,9 @@ impl<S: Source> Lines<S> {
         ensures source { self.new.source ≡ self.old.source }
         ensures first { self.new.first_faults ≡ self.old.first_faults }
     {
-        match read_on(alloc, &self.bytes, stopped, &mut self.place)? {
-            Found::Event(event) => Ok(Step::Event(event)),
-            Found::Ended(end) => {
-                self.ended = Some(end);
-                Ok(answer_of(end))
-            }
-        }
+        let step = read_on(alloc, &self.bytes, stopped, &mut self.place)?;
+        self.ended = end_of(&step);
+        Ok(step)
     }
 
     /// The next event, or how the file ended.
@@ -151,8 +147,8 @@ impl<S: Source> Lines<S> {
     ///   they are those of `FileToFault` of the bytes that were taken, and the unfinished last line is dropped (`moved`).
     /// - The first fault of the file's bytes ends it: a line that is too long at the byte that it has too many, also where no
     ///   newline came behind it (`moved`).
-    /// - Every event is lawful, also of a source that does not tell its bytes, and has a line of its own of at most
-    ///   [`MAX_LINE_BYTES`](crate::MAX_LINE_BYTES); a file has at most [`MAX_FILE_BYTES`] lines (`lawful`, `line`, `event`, `bound`).
+    /// - Every event is lawful, also of a source that does not tell its bytes: a line of at most
+    ///   [`MAX_LINE_BYTES`](crate::MAX_LINE_BYTES) says it; a file has at most [`MAX_FILE_BYTES`] lines (`lawful`, `event`, `bound`).
     /// - At most [`MAX_EVENTS`](crate::MAX_EVENTS) events are given (`few`), which the reader counts (`moved`).
     /// - An end of the file is answered again by each later call, which changes nothing (`ended`, `again`).
     /// - `End` comes only where the source has nothing left, and `ReadFault` only where its count of faults rose since
@@ -160,14 +156,14 @@ impl<S: Source> Lines<S> {
     ///
     /// After `NoMemory` the bytes that were taken are kept, so `taken` may have grown, and the later answers are as if that call
     /// had not been made: `moved` holds of it with no event.
+    #[inline(always)]
     pub fn next(&mut self, alloc: Global) -> Result<Step, NoMemory>
         ensures moved { (got : List ℕ) × Moves S.left self.old self.new got (events_of result) }
         ensures ended { IfEnded result (λ end. self.new.ended ≡ Some end) }
         ensures again { (end : FileEnd) → self.old.ended ≡ Some end → Answers result end × (self.new ≡ self.old) }
         ensures event { IfEvent result (self.old.number < self.new.number) }
         ensures lawful { All IsLawful (events_of result) }
-        ensures line { All HasLine (events_of result) }
-        ensures few { self.new.given ≤ cutting.MAX_EVENTS }
+        ensures few { self.new.given ≤ limits.MAX_EVENTS }
         ensures bound { self.new.number ≤ limits.MAX_FILE_BYTES + 1 }
         ensures explained { IfEnded result (λ end. Explains (S.left self.new.source) self.new.first_faults (S.faults self.new.source) end) }
         ensures by { IfEnded result (λ end. StoppedBy self.new.stopped end) }
@@ -176,8 +172,8 @@ impl<S: Source> Lines<S> {
         ensures later { S.faults self.old.source ≤ S.faults self.new.source }
         ensures first { self.new.first_faults ≡ self.old.first_faults }
     {
-        if let Some(end) = self.ended {
-            return Ok(answer_of(end));
+        if let Some(step) = self.ended.and_then(step_of) {
+            return Ok(step);
         }
         if let Some(stopped) = self.stopped {
             return self.step(alloc, stopped);

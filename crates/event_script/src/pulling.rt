@@ -3,13 +3,11 @@ ghost use Rattle.std.specs.Prelude.{◌≡◌, ◌≤◌, IfOk, length};
 ghost use Rattle.stats_io.specs.Limits.{Grows};
 ghost use Rattle.event_script.specs.Pulled.{Stops};
 
+use crate::limits::MAX_FILE_BYTES;
 use crate::step::Stop;
 use stat_defs::NoMemory;
 use stats_io::{Pulled, Source, pull_up_to};
 use std::alloc::Global;
-
-/// An event file has at most so many bytes.
-pub const MAX_FILE_BYTES: usize = 8_388_608;
 
 // Pulls the source to its end, its first fault or the first byte that a file has too many, and adds what came. Without memory
 // the bytes that came before stay.

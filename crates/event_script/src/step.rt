@@ -1,6 +1,8 @@
 //! What the reader answers.
-ghost use Rattle.std.specs.Prelude.{Ok};
-ghost use Rattle.event_script.specs.Steps.{Answers, CanAnswer};
+ghost use Rattle.std.specs.Prelude.{◌≡◌, Ok, MatchOption};
+ghost use Rattle.stat_defs.specs.declared.reports.FileEnd.{FileEnd};
+ghost use Rattle.event_script.specs.Steps.{Answers};
+ghost use Rattle.event_script.specs.Steps as steps;
 
 use stat_defs::{Event, FileEnd};
 
@@ -33,25 +35,32 @@ pub enum Stop {
     ReadFault,
 }
 
-// What the lines hold next.
-#[derive(Drop, Debug)]
-pub enum Found {
-    Event(Event),
-    Ended(FileEnd),
-}
-
-// The answer that a file ended so.
-pub fn answer_of(end: FileEnd) -> Step
-    requires { CanAnswer end }
-    ensures { Answers (Ok result) end }
+// The answer that a file ended so. A file that was not opened has no reader.
+pub fn step_of(end: FileEnd) -> Option<Step>
+    ensures { MatchOption result (end ≡ FileEnd.NotOpened) (λ step. Answers (Ok step) end) }
 {
     match end {
-        FileEnd::Whole => Step::End,
-        FileEnd::BadLine(number) => Step::BadLine(number),
-        FileEnd::LineTooLong(number) => Step::LineTooLong(number),
-        FileEnd::TooBig => Step::TooBig,
-        FileEnd::TooMany => Step::TooMany,
-        FileEnd::ReadFault => Step::ReadFault,
-        FileEnd::NotOpened => unreachable!(),
+        FileEnd::Whole => Some(Step::End),
+        FileEnd::BadLine(number) => Some(Step::BadLine(number)),
+        FileEnd::LineTooLong(number) => Some(Step::LineTooLong(number)),
+        FileEnd::TooBig => Some(Step::TooBig),
+        FileEnd::TooMany => Some(Step::TooMany),
+        FileEnd::ReadFault => Some(Step::ReadFault),
+        FileEnd::NotOpened => None,
+    }
+}
+
+// How a file ended, where the answer tells it.
+pub fn end_of(step: &Step) -> Option<FileEnd>
+    ensures { result ≡ steps.end_of (Ok step.now) }
+{
+    match step {
+        Step::Event(_) => None,
+        Step::End => Some(FileEnd::Whole),
+        Step::BadLine(number) => Some(FileEnd::BadLine(*number)),
+        Step::LineTooLong(number) => Some(FileEnd::LineTooLong(*number)),
+        Step::TooBig => Some(FileEnd::TooBig),
+        Step::TooMany => Some(FileEnd::TooMany),
+        Step::ReadFault => Some(FileEnd::ReadFault),
     }
 }

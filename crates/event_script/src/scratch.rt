@@ -1,0 +1,6 @@
+//! Scratch.
+ghost use Rattle.std.specs.Prelude.{◌≡◌, ℕ};
+
+pub fn scratch()
+    ensures { (n : ℕ) → n ≡ n }
+{}
