@@ -2,6 +2,7 @@ pub mod States
 pub mod Pull
 pub mod Push
 pub mod Open
+pub mod OpenFault
 pub mod PullUpTo
 pub mod Told
 pub mod MemSource

@@ -7,7 +7,7 @@ ghost use Rattle.stats_io.specs.Open.{IsUnpulled, IsUnopened};
 use crate::source::Source;
 use std::alloc::{AllocError, Global};
 use std::error::Error;
-use std::fmt;
+use std::fmt::{Display, Formatter, Result as Written, Write};
 use std::marker::Send;
 
 /// Why no source was opened.
@@ -18,11 +18,16 @@ pub enum OpenFault {
     NoMemory,
 }
 
-impl fmt::Display for OpenFault {
-    fn fmt<W: fmt::Write>(&self, f: &mut fmt::Formatter<W>) -> fmt::Result {
+impl Display for OpenFault {
+    ghost use Rattle.std.specs.Prelude.{Some};
+    ghost use Rattle.stats_io.specs.OpenFault.{open_fault_text};
+
+    ghost output = { λ fault. Some (open_fault_text fault) };
+
+    fn fmt<W: Write>(&self, f: &mut Formatter<W>) -> Written {
         match self {
-            OpenFault::Failed => write!(f, "not opened"),
-            OpenFault::NoMemory => write!(f, "out of memory"),
+            OpenFault::Failed => f.write_str("not opened"),
+            OpenFault::NoMemory => f.write_str("out of memory"),
         }
     }
 }

@@ -5,7 +5,7 @@ ghost use Rattle.stats_io.specs.States.{SinkState};
 ghost use Rattle.stats_io.specs.Push.{FitsPiece, IfTook, Pushes, WritesWhole, WritesFront};
 
 use std::error::Error;
-use std::fmt;
+use std::fmt::{Display, Formatter, Result as Written, Write};
 
 /// What a push did: it took that many bytes, at least one, or failed.
 #[derive(Clone, Copy, Debug, PartialEq, Eq)]
@@ -18,9 +18,13 @@ pub enum Push {
 #[derive(Clone, Copy, Debug, PartialEq, Eq)]
 pub struct WriteFault;
 
-impl fmt::Display for WriteFault {
-    fn fmt<W: fmt::Write>(&self, f: &mut fmt::Formatter<W>) -> fmt::Result {
-        write!(f, "write failed")
+impl Display for WriteFault {
+    ghost use Rattle.std.specs.Prelude.{Some, codes};
+
+    ghost output = { λ _. Some (codes "write failed") };
+
+    fn fmt<W: Write>(&self, f: &mut Formatter<W>) -> Written {
+        f.write_str("write failed")
     }
 }
 

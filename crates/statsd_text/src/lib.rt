@@ -10,7 +10,7 @@ use stat_defs::{CounterRow, FlushView, Txt};
 use stats_io::{Sink, WriteFault, push_all};
 use std::alloc::{AllocError, Global};
 use std::error::Error;
-use std::fmt;
+use std::fmt::{Display, Formatter, Result as Written, Write};
 
 #[cfg(test)]
 mod tests;
@@ -24,11 +24,16 @@ pub enum TextFault {
     NoMemory,
 }
 
-impl fmt::Display for TextFault {
-    fn fmt<W: fmt::Write>(&self, f: &mut fmt::Formatter<W>) -> fmt::Result {
+impl Display for TextFault {
+    ghost use Rattle.std.specs.Prelude.{Some};
+    ghost use Rattle.statsd_text.specs.TextFault.{text_fault_text};
+
+    ghost output = { λ fault. Some (text_fault_text fault) };
+
+    fn fmt<W: Write>(&self, f: &mut Formatter<W>) -> Written {
         match self {
-            TextFault::WriteFault => write!(f, "write failed"),
-            TextFault::NoMemory => write!(f, "out of memory"),
+            TextFault::WriteFault => f.write_str("write failed"),
+            TextFault::NoMemory => f.write_str("out of memory"),
         }
     }
 }
