@@ -15,8 +15,8 @@ use Rattle.event_script.specs.Said.{Says, IsCut, SaysFirst}
 use Rattle.event_script.proofs.Splits.{lacks_cons}
 use Rattle.event_script.proofs.Decoding.{first_behind, line_parts}
 use Rattle.event_script.specs.Script.{is_line, lines_of, lines_until}
-use Rattle.event_script.specs.declared.step.Stop.{Stop}
-use Rattle.event_script.specs.declared.step.Stop.TheVariants.{Whole, TooBig, ReadFault}
+use Rattle.stats_io.specs.declared.pulling.Pulled.{Pulled}
+use Rattle.stats_io.specs.declared.pulling.Pulled.TheVariants.{End, TooMany, Failed}
 use Rattle.event_script.specs.declared.limits.TheConstants.{MAX_LINE_BYTES}
 
 -- no newline was found
@@ -41,12 +41,12 @@ none_passes : (bytes : List ℕ) → Lacks 10 bytes → All (λ b. is_newline b 
 none_passes bytes lacks k d within = ne_eqb (get_or bytes k d) 10 (λ same. lacks k within (sym (get_or_default_zero bytes k d within) ∙ same))
 
 -- a piece before another is a line
-pub first_of : (stop : Stop) (piece : List ℕ) (pieces : List (List ℕ)) → 1 ≤ length pieces → lines_of stop (piece ∷ pieces) ≡ piece ∷ lines_of stop pieces
+pub first_of : (stop : Pulled) (piece : List ℕ) (pieces : List (List ℕ)) → 1 ≤ length pieces → lines_of stop (piece ∷ pieces) ≡ piece ∷ lines_of stop pieces
 first_of stop piece [] some = absurd (omega arith)
 first_of stop piece (next ∷ pieces) some = refl
 
 -- a line with its newline comes off
-pub cut_until : (stop : Stop) (bytes line rest : List ℕ) → Lacks 10 line → bytes ≡ line ++ 10 ∷ rest
+pub cut_until : (stop : Pulled) (bytes line rest : List ℕ) → Lacks 10 line → bytes ≡ line ++ 10 ∷ rest
     → lines_until stop bytes ≡ line ∷ lines_until stop (drop (length line + 1) bytes)
 cut_until stop bytes line rest lacks e =
     let after : drop (length line + 1) bytes ≡ rest = ap (drop (length line + 1)) e ∙ drop_at_newline line rest in
@@ -59,28 +59,28 @@ cut_until stop bytes line rest lacks e =
         ap (drop (length line + 1)) (sym (append_assoc line (10 ∷ []) rest)) ∙ drop_at (line ++ 10 ∷ []) rest (length line + 1) (length-append line (10 ∷ []))
 
 -- the last piece alone
-last_piece : (stop : Stop) (bytes : List ℕ) → Lacks 10 bytes → lines_until stop bytes ≡ cond (is_line stop (length bytes)) (bytes ∷ []) []
+last_piece : (stop : Pulled) (bytes : List ℕ) → Lacks 10 bytes → lines_until stop bytes ≡ cond (is_line stop (length bytes)) (bytes ∷ []) []
 last_piece stop bytes lacks = ap (lines_of stop) (slice_split_none is_newline bytes (none_passes bytes lacks))
 
-pub none_until : (stop : Stop) (bytes : List ℕ) → Lacks 10 bytes → is_line stop (length bytes) ≡ false → lines_until stop bytes ≡ []
+pub none_until : (stop : Pulled) (bytes : List ℕ) → Lacks 10 bytes → is_line stop (length bytes) ≡ false → lines_until stop bytes ≡ []
 none_until stop bytes lacks none = last_piece stop bytes lacks ∙ ap (λ b. cond b (bytes ∷ []) []) none
 
-no_bytes : (stop : Stop) → lines_until stop [] ≡ []
-no_bytes Whole = refl
-no_bytes TooBig = refl
-no_bytes ReadFault = refl
+no_bytes : (stop : Pulled) → lines_until stop [] ≡ []
+no_bytes End = refl
+no_bytes TooMany = refl
+no_bytes Failed = refl
 
-pub last_until : (stop : Stop) (bytes : List ℕ) → Lacks 10 bytes → is_line stop (length bytes) ≡ true
+pub last_until : (stop : Pulled) (bytes : List ℕ) → Lacks 10 bytes → is_line stop (length bytes) ≡ true
     → lines_until stop bytes ≡ bytes ∷ lines_until stop (drop (length bytes) bytes)
 last_until stop bytes lacks is =
     last_piece stop bytes lacks ∙ ap (λ b. cond b (bytes ∷ []) []) is
     ∙ ap (λ l. bytes ∷ l) (sym (ap (lines_until stop) (drop_all (length bytes) bytes (omega arith)) ∙ no_bytes stop))
 
 -- a last piece that is a line has a byte
-pub line_has_bytes : (stop : Stop) (count : ℕ) → is_line stop count ≡ true → 0 < count
-line_has_bytes Whole count is = ltb-true 0 count is
-line_has_bytes TooBig count is = omega (arith, ltb-true MAX_LINE_BYTES count is)
-line_has_bytes ReadFault count is = omega (arith, ltb-true MAX_LINE_BYTES count is)
+pub line_has_bytes : (stop : Pulled) (count : ℕ) → is_line stop count ≡ true → 0 < count
+line_has_bytes End count is = ltb-true 0 count is
+line_has_bytes TooMany count is = omega (arith, ltb-true MAX_LINE_BYTES count is)
+line_has_bytes Failed count is = omega (arith, ltb-true MAX_LINE_BYTES count is)
 
 first_lacks : (text : List ℕ) → Lacks 10 (first_line text)
 first_lacks [] = λ k lt. absurd (omega arith)
@@ -100,7 +100,7 @@ newline_behind (x ∷ xs) b bs e = by (x == 10) refl (newline_behind xs b bs) e
     by false is more e = more e
 
 -- a line with its newline, and the last one without
-pub cut_at_newline : (stop : Stop) (bytes line rest : List ℕ) → Lacks 10 line → bytes ≡ line ++ 10 ∷ rest → IsCut stop bytes line (length line + 1)
+pub cut_at_newline : (stop : Pulled) (bytes line rest : List ℕ) → Lacks 10 line → bytes ≡ line ++ 10 ∷ rest → IsCut stop bytes line (length line + 1)
 cut_at_newline stop bytes line rest lacks e = record {
   first = sym (ap first_line e ∙ first_behind line (10 ∷ rest) lacks ∙ append-nil line);
   some = omega arith;
@@ -108,7 +108,7 @@ cut_at_newline stop bytes line rest lacks e = record {
   cut = cut_until stop bytes line rest lacks e;
 }
 
-pub cut_last : (stop : Stop) (bytes : List ℕ) → Lacks 10 bytes → is_line stop (length bytes) ≡ true → IsCut stop bytes bytes (length bytes)
+pub cut_last : (stop : Pulled) (bytes : List ℕ) → Lacks 10 bytes → is_line stop (length bytes) ≡ true → IsCut stop bytes bytes (length bytes)
 cut_last stop bytes lacks is = record {
   first = sym (ap first_line (sym (append-nil bytes)) ∙ first_behind bytes [] lacks ∙ append-nil bytes);
   some = line_has_bytes stop (length bytes) is;
@@ -117,7 +117,7 @@ cut_last stop bytes lacks is = record {
 }
 
 -- the line of an event, behind which these bytes stand
-module _ (stop : Stop) (bytes : List ℕ) (e : Event) (after : List ℕ) (has : HasLine event_in bytes e after) where
+module _ (stop : Pulled) (bytes : List ℕ) (e : Event) (after : List ℕ) (has : HasLine event_in bytes e after) where
   parts : bytes ≡ first_line bytes ++ after
   parts = line_parts bytes ∙ ap (λ l. first_line bytes ++ l) has.behind
 
@@ -161,7 +161,7 @@ module _ (stop : Stop) (bytes : List ℕ) (e : Event) (after : List ℕ) (has : 
       let counts : length bytes ≡ count = omega (arith, long, none) in
       none_until stop bytes (subst (Lacks 10) (sym (whole none)) (first_lacks bytes)) (subst (λ k. is_line stop k ≡ false) (sym counts) is)
 
-pub at_place : (stop : Stop) (bytes : List ℕ) (at : ℕ) (said : Said) (count : ℕ) → SaysFirst stop (take (length bytes - at) (drop at bytes)) said count → SaysFirst stop (drop at bytes) said count
+pub at_place : (stop : Pulled) (bytes : List ℕ) (at : ℕ) (said : Said) (count : ℕ) → SaysFirst stop (take (length bytes - at) (drop at bytes)) said count → SaysFirst stop (drop at bytes) said count
 at_place stop bytes at said count first = subst (λ (l : List ℕ). SaysFirst stop l said count) (take_rest bytes at) first
 
 pub some_bytes : (bytes : List ℕ) → (length bytes == 0) ≡ false → 0 < length bytes

@@ -9,7 +9,8 @@ use Rattle.std.proofs.lemmas.Str.Parse.{numerals_by_value, tells_digits, digits_
 use Rattle.std.proofs.lemmas.Bool.{ne_eqb, eqb-true, cases_lt}
 use Rattle.std.proofs.lemmas.List.{take-append-drop, drop_more, length-take-le, get_or-take, take_at, drop_all, get_or-drop, get_or_append_left}
 use Rattle.stat_defs.specs.declared.events.Event.{Event}
-use Rattle.event_script.specs.Grammar.{Lacks, is_text_byte}
+use Rattle.event_script.specs.Grammar.{Lacks}
+use Rattle.stat_defs.specs.Names.{is_printable_byte}
 use Rattle.event_script.specs.Decoded.{first_line, behind_line, part_then, text_of, number_of, readout_of, metric_in}
 use Rattle.event_script.specs.Found.{HasPart, LacksPart, HasMetric, LacksMetric, HasLine, LacksLine, is_end, HasDigits, HasMoreThan}
 use Rattle.event_script.specs.Said.{IsRunOf, IsPart, IsNoPart, IsLast, IsNoLast}
@@ -125,14 +126,14 @@ module _ (test : ℕ → Bool) (not_newline : test 10 ≡ false) (text : List �
       no_part test not_space text count most run none part rest (rw is.0 is.1) (rw is.0 is.2) (rw is.0 is.3) parted)
 
 -- the text of a readout
-module _ (text : List ℕ) (count : ℕ) (run : IsRunOf is_text_byte text count) where
+module _ (text : List ℕ) (count : ℕ) (run : IsRunOf is_printable_byte text count) where
   pub readout_reads : is_end (drop count text) ≡ true → HasLine readout_of text (take count text) (drop count text)
   readout_reads at_end =
-      let whole = line_whole text count (front_lacks is_text_byte refl text count run) at_end in
+      let whole = line_whole text count (front_lacks is_printable_byte refl text count run) at_end in
       record { found = ap readout_of whole.0 ∙ rw run.pass refl; behind = whole.1 }
 
   pub readout_lacks : is_end (drop count text) ≡ false → LacksLine readout_of text
-  readout_lacks no_end = rw (line_fails is_text_byte refl text count run no_end) refl
+  readout_lacks no_end = rw (line_fails is_printable_byte refl text count run no_end) refl
 
 -- digits hold no newline
 pub digits_lack : (digits : List ℕ) → AllDigits 10 digits → Lacks 10 digits

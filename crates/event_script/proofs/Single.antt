@@ -5,8 +5,8 @@ use Rattle.std.proofs.lemmas.Bool.{cases_lt}
 use Rattle.stat_defs.specs.declared.events.Event.{Event}
 use Rattle.stat_defs.specs.declared.events.Event.TheVariants as event
 use Rattle.stat_defs.specs.declared.reports.FileEnd.{FileEnd}
-use Rattle.event_script.specs.declared.step.Stop.{Stop}
-use Rattle.event_script.specs.declared.step.Stop.TheVariants.{Whole}
+use Rattle.stats_io.specs.declared.pulling.Pulled.{Pulled}
+use Rattle.stats_io.specs.declared.pulling.Pulled.TheVariants.{End}
 use Rattle.event_script.specs.declared.limits.TheConstants.{MAX_FILE_BYTES}
 use Rattle.event_script.specs.Grammar.{IsLineOf, IsPassedOver}
 use Rattle.event_script.specs.Decoded.{word_bytes, event_in}
@@ -52,7 +52,7 @@ not_both line e is passed = by line refl passed
             ap (λ (l : List ℕ). get_or l 0 0) (sym same ∙ w.2) ∙ get_or_append_left (word_bytes w.0) (32 ∷ w.1) 0 0 (some_byte w.0) in
         omega (arith, first_byte w.0, first, passed)
 
-reads_single : (number given : ℕ) (lines : List (List ℕ)) (stop : Stop) (events others : List Event) (end other : FileEnd) → Reads number given lines stop events end
+reads_single : (number given : ℕ) (lines : List (List ℕ)) (stop : Pulled) (events others : List Event) (end other : FileEnd) → Reads number given lines stop events end
     → Reads number given lines stop others other → (events ≡ others) × (end ≡ other)
 reads_single number given [] stop events others end other r s = (r.0 ∙ sym s.0, r.1 ∙ sym s.1)
 reads_single number given (l ∷ ls) stop events others end other (inl r) (inl s) = (r.1 ∙ sym s.1, r.2 ∙ sym s.2)
@@ -74,11 +74,11 @@ reads_single number given (l ∷ ls) stop events others end other (inr (f, inr (
 reads_single number given (l ∷ ls) stop events others end other (inr (f, inr (inr r))) (inr (g, inr (inl s))) = absurd (r.0.no_event s.0 s.1)
 reads_single number given (l ∷ ls) stop events others end other (inr (f, inr (inr r))) (inr (g, inr (inr s))) = (r.1 ∙ sym s.1, r.2 ∙ sym s.2)
 
-from_single : (number given offset : ℕ) (bytes : List ℕ) (stop : Stop) (events others : List Event) (end other : FileEnd) → FileFrom number given offset bytes stop events end
+from_single : (number given offset : ℕ) (bytes : List ℕ) (stop : Pulled) (events others : List Event) (end other : FileEnd) → FileFrom number given offset bytes stop events end
     → FileFrom number given offset bytes stop others other → (events ≡ others) × (end ≡ other)
 from_single number given offset bytes stop events others end other r s =
     ⊎_elim (λ big. reads_single _ _ _ _ events others end other (r.1 big) (s.1 big)) (λ fits. reads_single _ _ _ _ events others end other (r.0 fits) (s.0 fits)) (cases_lt MAX_FILE_BYTES (offset + length bytes))
 
-pub file_single : (bytes : List ℕ) (events others : List Event) (end other : FileEnd) → FileFrom 1 0 0 bytes Whole events end → FileFrom 1 0 0 bytes Whole others other
+pub file_single : (bytes : List ℕ) (events others : List Event) (end other : FileEnd) → FileFrom 1 0 0 bytes End events end → FileFrom 1 0 0 bytes End others other
     → (events ≡ others) × (end ≡ other)
-file_single bytes events others end other r s = from_single 1 0 0 bytes Whole events others end other r s
+file_single bytes events others end other r s = from_single 1 0 0 bytes End events others end other r s

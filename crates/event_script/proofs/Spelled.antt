@@ -11,10 +11,10 @@ use Rattle.stat_defs.specs.declared.events.GaugeOp.TheVariants as op
 use Rattle.stat_defs.specs.declared.ids.Mode.{Mode}
 use Rattle.stat_defs.specs.declared.ids.Mode.TheVariants.{Uninit, Accumulate, Never}
 use Rattle.stat_defs.specs.declared.events.TheConstants.{MAX_LABEL_BYTES, MAX_NAME_BYTES}
-use Rattle.stat_defs.specs.Names.{IsLabel, IsLocalName, is_label_byte, is_name_byte}
+use Rattle.stat_defs.specs.Names.{IsLabel, IsLocalName, is_label_byte, is_name_byte, is_printable_byte}
 use Rattle.event_script.specs.declared.words.Word.{Word}
 use Rattle.event_script.specs.declared.words.Word.TheVariants as word
-use Rattle.event_script.specs.Grammar.{Lacks, IsMetricLine, IsIncLine, IsLineOf, mode_word, op_word, is_text_byte, prefix_of}
+use Rattle.event_script.specs.Grammar.{Lacks, IsMetricLine, IsIncLine, IsLineOf, mode_word, op_word, prefix_of}
 use Rattle.event_script.specs.Decoded.{part_then, label_of, name_of, number_of, readout_of, modes, mode_of, words, word_of, word_bytes, metric_in, inc_in, gauge_in, rec_in, text_in, open_in, release_in, behind_word, event_in}
 use Rattle.event_script.specs.Found.{HasPart, LacksPart}
 use Rattle.event_script.proofs.Splits.{lacks_all, label_lacks, name_lacks}
@@ -82,10 +82,10 @@ label_reads label is = text_reads is_label_byte MAX_LABEL_BYTES label is.not_emp
 name_reads : (name : List ℕ) → IsLocalName name → name_of name ≡ Some name
 name_reads name is = text_reads is_name_byte MAX_NAME_BYTES name is.not_empty is.short is.bytes
 
-readout_is : (text readout : List ℕ) → readout_of text ≡ Some readout → (text ≡ readout) × (list_all is_text_byte readout ≡ true)
-readout_is text readout e = by (list_all is_text_byte text) refl e
+readout_is : (text readout : List ℕ) → readout_of text ≡ Some readout → (text ≡ readout) × (list_all is_printable_byte readout ≡ true)
+readout_is text readout e = by (list_all is_printable_byte text) refl e
   where
-    by : (b : Bool) → list_all is_text_byte text ≡ b → cond b (Some text) None ≡ Some readout → (text ≡ readout) × (list_all is_text_byte readout ≡ true)
+    by : (b : Bool) → list_all is_printable_byte text ≡ b → cond b (Some text) None ≡ Some readout → (text ≡ readout) × (list_all is_printable_byte readout ≡ true)
     by true all e = let same : text ≡ readout = cc in rw (← same) (refl, all)
     by false all e = absurd cc
 

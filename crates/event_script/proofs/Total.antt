@@ -5,8 +5,8 @@ use mathlib.Core.Logic.{dite}
 use Rattle.stat_defs.specs.declared.events.Event.{Event}
 use Rattle.stat_defs.specs.declared.reports.FileEnd.{FileEnd}
 use Rattle.stat_defs.specs.declared.reports.FileEnd.TheVariants as file
-use Rattle.event_script.specs.declared.step.Stop.{Stop}
-use Rattle.event_script.specs.declared.step.Stop.TheVariants.{TooBig}
+use Rattle.stats_io.specs.declared.pulling.Pulled.{Pulled}
+use Rattle.stats_io.specs.declared.pulling.Pulled.TheVariants.{TooMany}
 use Rattle.event_script.specs.declared.limits.TheConstants.{MAX_FILE_BYTES}
 use Rattle.event_script.specs.declared.limits.TheConstants.{MAX_LINE_BYTES}
 use Rattle.event_script.specs.declared.limits.TheConstants.{MAX_EVENTS}
@@ -14,7 +14,7 @@ use Rattle.event_script.specs.Grammar.{IsLineOf}
 use Rattle.event_script.specs.Script.{Reads, end_by, lines_until, FileFrom}
 use Rattle.event_script.proofs.Decided.{event_decided, passed_decided}
 
-module _ (stop : Stop) where
+module _ (stop : Pulled) where
   -- the lines have events and an end
   abbrev Told : ℕ → ℕ → List (List ℕ) → Type 0
   Told number given lines = (events : List Event) × (end : FileEnd) × Reads number given lines stop events end
@@ -40,8 +40,8 @@ module _ (stop : Stop) where
       (λ short. told_short number given line lines short (reads_total (number + 1) given lines) (reads_total (number + 1) (given + 1) lines))
       (cases_lt MAX_LINE_BYTES (length line))
 
-pub from_total : (number given offset : ℕ) (bytes : List ℕ) (stop : Stop) → (events : List Event) × (end : FileEnd) × FileFrom number given offset bytes stop events end
+pub from_total : (number given offset : ℕ) (bytes : List ℕ) (stop : Pulled) → (events : List Event) × (end : FileEnd) × FileFrom number given offset bytes stop events end
 from_total number given offset bytes stop = ⊎_elim
-    (λ big. let r = reads_total TooBig number given (lines_until TooBig (take (MAX_FILE_BYTES - offset) bytes)) in (r.0, r.1, ((λ fits. absurd (omega (arith, big, fits))), (λ _. r.2))))
+    (λ big. let r = reads_total TooMany number given (lines_until TooMany (take (MAX_FILE_BYTES - offset) bytes)) in (r.0, r.1, ((λ fits. absurd (omega (arith, big, fits))), (λ _. r.2))))
     (λ fits. let r = reads_total stop number given (lines_until stop bytes) in (r.0, r.1, ((λ _. r.2), (λ big. absurd (omega (arith, big, fits))))))
     (cases_lt MAX_FILE_BYTES (offset + length bytes))

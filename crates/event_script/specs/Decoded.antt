@@ -11,10 +11,10 @@ use Rattle.stat_defs.specs.declared.events.GaugeOp.TheVariants as op
 use Rattle.stat_defs.specs.declared.ids.Mode.{Mode}
 use Rattle.stat_defs.specs.declared.ids.Mode.TheVariants.{Uninit, Accumulate, Never}
 use Rattle.stat_defs.specs.declared.events.TheConstants.{MAX_LABEL_BYTES, MAX_NAME_BYTES}
-use Rattle.stat_defs.specs.Names.{is_label_byte, is_name_byte}
+use Rattle.stat_defs.specs.Names.{is_label_byte, is_name_byte, is_printable_byte}
 use Rattle.event_script.specs.declared.words.Word.{Word}
 use Rattle.event_script.specs.declared.words.Word.TheVariants.{Inc, Add, Sub, Set, Rec, Text, Open, Release}
-use Rattle.event_script.specs.Grammar.{mode_word, is_text_byte, prefix_of}
+use Rattle.event_script.specs.Grammar.{mode_word, prefix_of}
 
 -- the bytes before the first newline
 abbrev pub first_line : List ℕ → List ℕ
@@ -51,7 +51,7 @@ number_of most text =
     if nat_le (digits_value 10 text) most && bytes_eq text (decimal (digits_value 10 text)) then Some (digits_value 10 text) else None
 
 abbrev pub readout_of : List ℕ → Option (List ℕ)
-readout_of text = if list_all is_text_byte text then Some text else None
+readout_of text = if list_all is_printable_byte text then Some text else None
 
 abbrev pub modes : List Mode
 modes = Uninit ∷ Accumulate ∷ Never ∷ []

@@ -10,6 +10,7 @@ use Rattle.stat_defs.specs.declared.events.GaugeOp.TheVariants.{Add, Sub, Set}
 use Rattle.stat_defs.specs.declared.ids.Mode.{Mode}
 use Rattle.stat_defs.specs.declared.ids.Mode.TheVariants.{Uninit, Accumulate, Never}
 use Rattle.stat_defs.specs.Names.{IsLabel, IsLocalName}
+use Rattle.stat_defs.specs.Events.{IsReadout}
 use Rattle.event_script.specs.declared.limits.TheConstants.{MAX_LINE_BYTES}
 
 -- `WORD L N TAIL`: a label and a local name, each part behind exactly one space
@@ -43,13 +44,9 @@ pub record IsRecLine (line label name : List ℕ) (v : ℕ) : Type 0 where
   pub v_fits : v < 2 ^ 64
   pub metric : IsMetricLine (codes "rec") (decimal v) line label name
 
--- printable, or a space
-abbrev pub is_text_byte : ℕ → Bool
-is_text_byte b = nat_le 32 b && nat_le b 126
-
 -- `text L N TEXT`; the text is the rest of the line behind its space, and may be empty
 pub record IsTextLine (line label name text : List ℕ) : Type 0 where
-  pub text_fits : list_all is_text_byte text ≡ true
+  pub text_fits : IsReadout text
   pub metric : IsMetricLine (codes "text") text line label name
 
 -- without one final dot

@@ -3,8 +3,9 @@ use Rattle.std.specs.Prelude.{◌≡◌, ◌+◌, ℕ, Option, Some, None, Match
 use Rattle.std.specs.Io.KnownBytes.{Consumes}
 use Rattle.stat_defs.specs.declared.events.Event.{Event}
 use Rattle.stat_defs.specs.declared.reports.FileEnd.{FileEnd}
-use Rattle.event_script.specs.declared.step.Stop.{Stop}
-use Rattle.event_script.specs.declared.step.Stop.TheVariants.{Whole, TooBig, ReadFault}
+use Rattle.stats_io.specs.States.{SourceState, IsLater}
+use Rattle.stats_io.specs.declared.pulling.Pulled.{Pulled}
+use Rattle.stats_io.specs.declared.pulling.Pulled.TheVariants.{End, TooMany, Failed}
 use Rattle.event_script.specs.Script.{Reads, lines_until, FileFrom}
 
 -- the source, the number of the next line, the numbers of events and of bytes before it, the bytes that were taken and not yet
@@ -18,7 +19,7 @@ pub record Reading (S : Type 0) : Type 0 where
   pub pending : List ℕ
   pub taken : ℕ
   pub first_faults : ℕ
-  pub stopped : Option Stop
+  pub stopped : Option Pulled
   pub ended : Option FileEnd
 
 -- nothing was taken from the source yet, whose count of faults is this
@@ -26,7 +27,7 @@ abbrev pub unread : {S : Type 0} → S → ℕ → Reading S
 unread source faults = record { source = source; number = 1; given = 0; offset = 0; pending = []; taken = 0; first_faults = faults; stopped = None; ended = None }
 
 -- the events and the end that are still to come, where these bytes are still to be taken and the source then stops so
-abbrev pub Comes : {S : Type 0} → Reading S → List ℕ → Stop → List Event → FileEnd → Type 0
+abbrev pub Comes : {S : Type 0} → Reading S → List ℕ → Pulled → List Event → FileEnd → Type 0
 Comes r more last events end =
     MatchOption r.ended
     (MatchOption r.stopped
@@ -35,18 +36,20 @@ Comes r more last events end =
     (λ ended. (events ≡ []) × (end ≡ ended))
 
 -- nothing comes behind the end, or behind a fault
-abbrev pub MayFollow : Option Stop → List ℕ → Stop → Type 0
+abbrev pub MayFollow : Option Pulled → List ℕ → Pulled → Type 0
 MayFollow None more last = Unit {0}
-MayFollow (Some Whole) more last = (more ≡ []) × (last ≡ Whole)
-MayFollow (Some ReadFault) more last = (more ≡ []) × (last ≡ ReadFault)
-MayFollow (Some TooBig) more last = Unit {0}
+MayFollow (Some End) more last = (more ≡ []) × (last ≡ End)
+MayFollow (Some Failed) more last = (more ≡ []) × (last ≡ Failed)
+MayFollow (Some TooMany) more last = Unit {0}
 
 -- From old to new these bytes were taken from the source and these events given, and what comes from new on is what was to
 -- come behind them.
-pub record Moves {S : Type 0} (left : S → Option (List ℕ)) (old new : Reading S) (got : List ℕ) (events : List Event) : Type 0 where
-  pub consumed : Consumes (left old.source) (left new.source) got
+pub record Moves {S : Type 0} (state : S → SourceState) (old new : Reading S) (got : List ℕ) (events : List Event) : Type 0 where
+  pub consumed : Consumes (state old.source).left (state new.source).left got
+  pub later : IsLater (state old.source) (state new.source)
+  pub first : new.first_faults ≡ old.first_faults
   pub taken : new.taken ≡ old.taken + length got
   pub given : new.given ≡ old.given + length events
-  pub follows : (more : List ℕ) (last : Stop) → MayFollow new.stopped more last → MayFollow old.stopped (got ++ more) last
-  pub answers : (more : List ℕ) (last : Stop) (others : List Event) (end : FileEnd) → MayFollow new.stopped more last
+  pub follows : (more : List ℕ) (last : Pulled) → MayFollow new.stopped more last → MayFollow old.stopped (got ++ more) last
+  pub answers : (more : List ℕ) (last : Pulled) (others : List Event) (end : FileEnd) → MayFollow new.stopped more last
       → Comes new more last others end → Comes old (got ++ more) last (events ++ others) end

@@ -5,7 +5,7 @@ use Rattle.event_script.specs.Grammar.{IsPassedOver, IsLineOf, IsNoLine}
 use Rattle.event_script.specs.Found.{is_end}
 use Rattle.event_script.specs.Decoded.{first_line}
 use Rattle.event_script.specs.Script.{lines_until}
-use Rattle.event_script.specs.declared.step.Stop.{Stop}
+use Rattle.stats_io.specs.declared.pulling.Pulled.{Pulled}
 use Rattle.event_script.specs.declared.cutting.Said.{Said}
 use Rattle.event_script.specs.declared.cutting.Said.TheVariants.{Nothing, Event, NoLine, TooLong}
 use Rattle.event_script.specs.declared.limits.TheConstants.{MAX_LINE_BYTES}
@@ -46,14 +46,14 @@ abbrev pub IsNoLast : List ℕ → ℕ → ℕ → Type 0
 IsNoLast text at most = 1 ≤ at → at ≤ most → is_end (drop at text) ≡ false
 
 -- the first line, and how many bytes it takes
-pub record IsCut (stop : Stop) (bytes line : List ℕ) (count : ℕ) : Type 0 where
+pub record IsCut (stop : Pulled) (bytes line : List ℕ) (count : ℕ) : Type 0 where
   pub first : line ≡ first_line bytes
   pub some : 0 < count
   pub within : count ≤ length bytes
   pub cut : lines_until stop bytes ≡ line ∷ lines_until stop (drop count bytes)
 
 -- the first line says this, and takes so many bytes
-pub record SaysFirst (stop : Stop) (bytes : List ℕ) (said : Said) (count : ℕ) : Type 0 where
+pub record SaysFirst (stop : Pulled) (bytes : List ℕ) (said : Said) (count : ℕ) : Type 0 where
   pub line : List ℕ
   pub says : Says line said
   pub is_cut : IsCut stop bytes line count

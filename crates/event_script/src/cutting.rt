@@ -12,9 +12,10 @@ ghost use Rattle.stat_defs.specs.declared.reports.FileEnd.{FileEnd};
 
 use crate::events::event_first;
 use crate::limits::{MAX_EVENTS, MAX_LINE_BYTES};
-use crate::step::{Step, Stop};
+use crate::step::Step;
 use memchr::memchr;
 use stat_defs::{Event, NoMemory};
+use stats_io::Pulled;
 use std::alloc::Global;
 
 // What a line says: nothing, an event, or nothing that is a line of an event file; or it is too long to be read.
@@ -35,18 +36,18 @@ pub struct Place {
 }
 
 // Whether so many bytes behind the last newline are a line.
-fn is_line(stopped: Stop, count: usize) -> bool
+fn is_line(stopped: Pulled, count: usize) -> bool
     ensures { result ≡ script.is_line stopped count }
 {
     match stopped {
-        Stop::Whole => count > 0,
-        Stop::TooBig => count > MAX_LINE_BYTES,
-        Stop::ReadFault => count > MAX_LINE_BYTES,
+        Pulled::End => count > 0,
+        Pulled::TooMany => count > MAX_LINE_BYTES,
+        Pulled::Failed => count > MAX_LINE_BYTES,
     }
 }
 
 // The first line, and how many bytes it takes.
-fn line_first(bytes: &[u8], stopped: Stop) -> Option<(&[u8], usize)>
+fn line_first(bytes: &[u8], stopped: Pulled) -> Option<(&[u8], usize)>
     ensures { MatchOption result (lines_until stopped bytes.now ≡ [])
         (λ cut. IsCut stopped bytes.now cut.0.now cut.1) }
 {
@@ -86,7 +87,7 @@ fn said_with(event: Event, count: usize) -> Said
 
 // What the first line says, and how many bytes it takes.
 #[inline(always)]
-fn said_first(alloc: Global, bytes: &[u8], stopped: Stop) -> Result<Option<(Said, usize)>, NoMemory>
+fn said_first(alloc: Global, bytes: &[u8], stopped: Pulled) -> Result<Option<(Said, usize)>, NoMemory>
     ensures { IfOk result (λ found. MatchOption found (lines_until stopped bytes.now ≡ []) (λ p. SaysFirst stopped bytes.now p.0 p.1)) }
 {
     let Some((event, after)) = event_first(alloc, bytes)? else {
@@ -106,13 +107,13 @@ fn said_first(alloc: Global, bytes: &[u8], stopped: Stop) -> Result<Option<(Said
 }
 
 // The answer where all lines were read.
-fn step_by(stopped: Stop) -> Step
+fn step_by(stopped: Pulled) -> Step
     ensures { Answers (Ok result) (script.end_by stopped) }
 {
     match stopped {
-        Stop::Whole => Step::End,
-        Stop::TooBig => Step::TooBig,
-        Stop::ReadFault => Step::ReadFault,
+        Pulled::End => Step::End,
+        Pulled::TooMany => Step::TooBig,
+        Pulled::Failed => Step::ReadFault,
     }
 }
 
@@ -121,7 +122,7 @@ fn step_by(stopped: Stop) -> Step
 pub fn read_on(
     alloc: Global,
     bytes: &[u8],
-    stopped: Stop,
+    stopped: Pulled,
     place: &mut Place,
 ) -> Result<Step, NoMemory>
     requires within { place.old.at ≤ length bytes.now }

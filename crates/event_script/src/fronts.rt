@@ -1,26 +1,14 @@
 //! How many bytes of a class stand first.
 ghost use Rattle.std.specs.Prelude.{◌≡◌, ◌≤◌, length};
 ghost use Rattle.stat_defs.specs.Names as names;
-ghost use Rattle.event_script.specs.Grammar as grammar;
 ghost use Rattle.event_script.specs.Said.{IsRunOf};
 ghost use Rattle.event_script.specs.Lanes.{IsFront};
 
 use crate::lanes::{LANES, label_run, name_run};
+use stat_defs::{is_label_byte, is_name_byte};
 
-fn is_label_byte(b: u8) -> bool
-    ensures { result ≡ names.is_label_byte b }
-{
-    b'0' <= b && b <= b'9' || b'A' <= b && b <= b'Z' || b'a' <= b && b <= b'z' || b == b'_'
-}
-
-fn is_name_byte(b: u8) -> bool
-    ensures { result ≡ names.is_name_byte b }
-{
-    b'!' <= b && b <= b'~'
-}
-
-fn is_text_byte(b: u8) -> bool
-    ensures { result ≡ grammar.is_text_byte b }
+fn is_printable_byte(b: u8) -> bool
+    ensures { result ≡ names.is_printable_byte b }
 {
     b' ' <= b && b <= b'~'
 }
@@ -81,10 +69,10 @@ pub fn name_length(text: &[u8]) -> usize
 
 // How many bytes of a readout's text stand first.
 pub fn text_length(text: &[u8]) -> usize
-    ensures { IsRunOf grammar.is_text_byte text.now result }
+    ensures { IsRunOf names.is_printable_byte text.now result }
 {
     for (at, b) in text.iter().enumerate() {
-        if !is_text_byte(*b) {
+        if !is_printable_byte(*b) {
             return at;
         }
     }

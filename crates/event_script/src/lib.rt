@@ -10,8 +10,6 @@ mod limits;
 mod lines;
 mod numbers;
 mod parts;
-mod pulling;
-mod scratch;
 mod step;
 #[cfg(test)]
 mod tests;
@@ -19,8 +17,8 @@ mod words;
 
 pub use laws::{
     answers_are_a_run, every_file_has_a_reading, file_is_single_valued, first_fault_stands,
-    moves_compose,
+    line_says_one_event, moves_compose,
 };
 pub use limits::{MAX_EVENTS, MAX_FILE_BYTES, MAX_LINE_BYTES};
 pub use lines::Lines;
-pub use step::{Step, Stop};
+pub use step::Step;

@@ -4,7 +4,7 @@ ghost use Rattle.stat_defs.specs.declared.reports.FileEnd.{FileEnd};
 ghost use Rattle.event_script.specs.Steps.{Answers};
 ghost use Rattle.event_script.specs.Steps as steps;
 
-use stat_defs::{Event, FileEnd};
+use stat_defs::{Event, FileEnd, NoMemory};
 
 /// What a reader answers: the next event of a file, or how the file ended. Lines are numbered from 1.
 #[derive(Drop, Debug)]
@@ -20,17 +20,6 @@ pub enum Step {
     TooBig,
     /// The file has more than [`MAX_EVENTS`](crate::MAX_EVENTS).
     TooMany,
-    /// The source failed.
-    ReadFault,
-}
-
-/// How the pulling of a source stopped, as contracts see it.
-#[derive(Clone, Copy, Debug, PartialEq, Eq)]
-pub enum Stop {
-    /// The source ended.
-    Whole,
-    /// More bytes came than a file may have.
-    TooBig,
     /// The source failed.
     ReadFault,
 }
@@ -51,16 +40,17 @@ pub fn step_of(end: FileEnd) -> Option<Step>
 }
 
 // How a file ended, where the answer tells it.
-pub fn end_of(step: &Step) -> Option<FileEnd>
-    ensures { result ≡ steps.end_of (Ok step.now) }
+#[inline(always)]
+pub fn end_of(answer: &Result<Step, NoMemory>) -> Option<FileEnd>
+    ensures { result ≡ steps.end_of answer.now }
 {
-    match step {
-        Step::Event(_) => None,
-        Step::End => Some(FileEnd::Whole),
-        Step::BadLine(number) => Some(FileEnd::BadLine(*number)),
-        Step::LineTooLong(number) => Some(FileEnd::LineTooLong(*number)),
-        Step::TooBig => Some(FileEnd::TooBig),
-        Step::TooMany => Some(FileEnd::TooMany),
-        Step::ReadFault => Some(FileEnd::ReadFault),
+    match answer {
+        Ok(Step::End) => Some(FileEnd::Whole),
+        Ok(Step::BadLine(number)) => Some(FileEnd::BadLine(*number)),
+        Ok(Step::LineTooLong(number)) => Some(FileEnd::LineTooLong(*number)),
+        Ok(Step::TooBig) => Some(FileEnd::TooBig),
+        Ok(Step::TooMany) => Some(FileEnd::TooMany),
+        Ok(Step::ReadFault) => Some(FileEnd::ReadFault),
+        Ok(Step::Event(_)) | Err(_) => None,
     }
 }
