@@ -10,4 +10,6 @@ pub mod Runs
 pub mod Single
 pub mod Decided
 pub mod Total
+pub mod Newlines
+pub mod Written
 pub mod LaneLemmas

@@ -24,7 +24,7 @@ one_split byte (c ∷ a) b (d ∷ x) y la lx e =
     let front : a ≡ x = both.0 in
     (cc, both.1)
 
-and_true : (a b : Bool) → (a && b) ≡ true → (a ≡ true) × (b ≡ true)
+pub and_true : (a b : Bool) → (a && b) ≡ true → (a ≡ true) × (b ≡ true)
 and_true true b h = (refl, h)
 and_true false b h = cc
 

@@ -1,6 +1,6 @@
 -- The lines of an event file. This project's own.
 use Rattle.std.specs.Prelude.{◌≡◌, ◌≢◌, ◌<◌, ◌≤◌, ◌-◌, ◌^◌, ◌==◌, ◌&&◌, nat_le, ℕ, Bool, true, if◌then◌else◌, List, [], ◌∷◌, ◌++◌, length, take, slice_index, codes}
-use Rattle.std.specs.List.{list_all, ends_with}
+use Rattle.std.specs.List.{flat_map, ends_with}
 use Rattle.std.specs.Str.{bytes_eq}
 use Rattle.std.specs.Fmt.{decimal}
 use Rattle.stat_defs.specs.declared.events.Event.{Event}
@@ -96,6 +96,10 @@ line_for (Rec label name v) = codes "rec " ++ (label ++ 32 ∷ (name ++ 32 ∷ d
 line_for (SetText label name text) = codes "text " ++ (label ++ 32 ∷ (name ++ 32 ∷ text))
 line_for (OpenScope label prefix) = codes "open " ++ (label ++ 32 ∷ given_for prefix)
 line_for (Release label) = codes "release " ++ label
+
+-- the lines of events, each with its newline
+abbrev pub lines_for : List Event → List ℕ
+lines_for events = flat_map (λ e. line_for e ++ 10 ∷ []) events
 
 -- an empty line, or a comment: it begins with `#`
 abbrev pub IsPassedOver : List ℕ → Type 0

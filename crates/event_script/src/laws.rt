@@ -1,12 +1,14 @@
 //! Laws of the definitions, each the contract of a function that does nothing.
-ghost use Rattle.std.specs.Prelude.{◌≡◌, ◌≢◌, ◌++◌, ℕ, List, Some};
+ghost use Rattle.std.specs.Prelude.{◌≡◌, ◌≢◌, ◌≤◌, ◌++◌, ℕ, List, Some, All, length};
 ghost use Rattle.std.specs.Io.KnownBytes.{IsAtEnd};
 ghost use Rattle.event_script.specs.Reading.{Reading, Moves, unread};
 ghost use Rattle.event_script.specs.Run.{IsRun};
 ghost use Rattle.event_script.specs.Steps.{HasEnded};
 ghost use Rattle.stats_io.specs.declared.pulling.Pulled.{Pulled};
-ghost use Rattle.event_script.specs.Grammar.{IsLineOf};
+ghost use Rattle.event_script.specs.Grammar.{IsLineOf, IsLawful, line_for, lines_for};
+ghost use Rattle.event_script.specs.declared.limits.TheConstants as limits;
 ghost use Rattle.event_script.specs.Script.{File, FileFrom};
+ghost use Rattle.stat_defs.specs.Events.{IsLawfulEvent};
 ghost use Rattle.stat_defs.specs.declared.events.Event.{Event};
 ghost use Rattle.stat_defs.specs.declared.reports.FileEnd.{FileEnd};
 
@@ -15,6 +17,22 @@ use stats_io::Source;
 /// A line says one event at most.
 pub fn line_says_one_event()
     ensures { (line : List ℕ) (event other : Event) → IsLineOf line event → IsLineOf line other → event ≡ other }
+{}
+
+/// The line that is written for a lawful event says it, and is no longer than a line may be.
+pub fn written_line_says_its_event()
+    ensures { (event : Event) → IsLawful event → (length (line_for event) ≤ limits.MAX_LINE_BYTES) × IsLineOf (line_for event) event }
+{}
+
+/// A file of the lines that are written for lawful events gives these events.
+pub fn written_events_are_read()
+    ensures { (events : List Event) → All IsLawful events → length events ≤ limits.MAX_EVENTS → length (lines_for events) ≤ limits.MAX_FILE_BYTES
+        → File (lines_for events) events FileEnd.Whole }
+{}
+
+/// An event that a line says is lawful for a store.
+pub fn line_says_lawful_events()
+    ensures { (event : Event) → IsLawful event → IsLawfulEvent event }
 {}
 
 /// A file has one list of events and one end.
