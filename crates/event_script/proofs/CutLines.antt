@@ -9,12 +9,12 @@ use Rattle.std.proofs.lemmas.Bool.{ne_eqb, eq-eqb, eqb-true, eqb-false, ltb-true
 use Rattle.stat_defs.specs.declared.events.Event.{Event}
 use Rattle.event_script.specs.declared.cutting.Said.{Said}
 use Rattle.event_script.specs.Grammar.{Lacks}
-use Rattle.event_script.specs.Decoded.{first_line, behind_line, event_in}
-use Rattle.event_script.specs.Found.{HasLine}
-use Rattle.event_script.specs.Said.{Says, IsCut, SaysFirst}
+use Rattle.event_script.specs.EventIn.{first_line, behind_line, event_in}
+use Rattle.event_script.specs.FirstLine.{HasLine}
+use Rattle.event_script.specs.Said.{LineSays, IsCut, SaysFirst}
 use Rattle.event_script.proofs.Splits.{lacks_cons}
-use Rattle.event_script.proofs.Decoding.{first_behind, line_parts}
-use Rattle.event_script.specs.Script.{is_line, lines_of, lines_until}
+use Rattle.event_script.proofs.PartThen.{first_behind, line_parts}
+use Rattle.event_script.specs.Script.{is_line, piece_lines, lines_until}
 use Rattle.stats_io.specs.declared.pulling.Pulled.{Pulled}
 use Rattle.stats_io.specs.declared.pulling.Pulled.TheVariants.{End, TooMany, Failed}
 use Rattle.event_script.specs.declared.limits.TheConstants.{MAX_LINE_BYTES}
@@ -41,7 +41,7 @@ none_passes : (bytes : List ℕ) → Lacks 10 bytes → All (λ b. is_newline b 
 none_passes bytes lacks k d within = ne_eqb (get_or bytes k d) 10 (λ same. lacks k within (sym (get_or_default_zero bytes k d within) ∙ same))
 
 -- a piece before another is a line
-pub first_of : (stop : Pulled) (piece : List ℕ) (pieces : List (List ℕ)) → 1 ≤ length pieces → lines_of stop (piece ∷ pieces) ≡ piece ∷ lines_of stop pieces
+pub first_of : (stop : Pulled) (piece : List ℕ) (pieces : List (List ℕ)) → 1 ≤ length pieces → piece_lines stop (piece ∷ pieces) ≡ piece ∷ piece_lines stop pieces
 first_of stop piece [] some = absurd (omega arith)
 first_of stop piece (next ∷ pieces) some = refl
 
@@ -50,7 +50,7 @@ pub cut_until : (stop : Pulled) (bytes line rest : List ℕ) → Lacks 10 line �
     → lines_until stop bytes ≡ line ∷ lines_until stop (drop (length line + 1) bytes)
 cut_until stop bytes line rest lacks e =
     let after : drop (length line + 1) bytes ≡ rest = ap (drop (length line + 1)) e ∙ drop_at_newline line rest in
-    ap (lines_until stop) e ∙ ap (lines_of stop) (slice_split_at is_newline line 10 rest (none_passes line lacks) refl)
+    ap (lines_until stop) e ∙ ap (piece_lines stop) (slice_split_at is_newline line 10 rest (none_passes line lacks) refl)
     ∙ first_of stop line (slice_split is_newline rest) (omega (arith, length-slice_split is_newline rest))
     ∙ ap (λ l. line ∷ lines_until stop l) (sym after)
   where
@@ -60,7 +60,7 @@ cut_until stop bytes line rest lacks e =
 
 -- the last piece alone
 last_piece : (stop : Pulled) (bytes : List ℕ) → Lacks 10 bytes → lines_until stop bytes ≡ cond (is_line stop (length bytes)) (bytes ∷ []) []
-last_piece stop bytes lacks = ap (lines_of stop) (slice_split_none is_newline bytes (none_passes bytes lacks))
+last_piece stop bytes lacks = ap (piece_lines stop) (slice_split_none is_newline bytes (none_passes bytes lacks))
 
 pub none_until : (stop : Pulled) (bytes : List ℕ) → Lacks 10 bytes → is_line stop (length bytes) ≡ false → lines_until stop bytes ≡ []
 none_until stop bytes lacks none = last_piece stop bytes lacks ∙ ap (λ b. cond b (bytes ∷ []) []) none
@@ -124,10 +124,10 @@ module _ (stop : Pulled) (bytes : List ℕ) (e : Event) (after : List ℕ) (has 
   pub line_length : length bytes ≡ length (first_line bytes) + length after
   line_length = ap length parts ∙ length-append (first_line bytes) after
 
-  says_at : (said : Said) (count : ℕ) → Says (first_line bytes) said → IsCut stop bytes (first_line bytes) count → SaysFirst stop bytes said count
+  says_at : (said : Said) (count : ℕ) → LineSays (first_line bytes) said → IsCut stop bytes (first_line bytes) count → SaysFirst stop bytes said count
   says_at said count says cut = record { line = first_line bytes; says = says; is_cut = cut }
 
-  pub says_before : (said : Said) (count : ℕ) → ((line : List ℕ) → event_in line ≡ Some e → length line ≡ count → Says line said) → count + length after ≡ length bytes
+  pub says_before : (said : Said) (count : ℕ) → ((line : List ℕ) → event_in line ≡ Some e → length line ≡ count → LineSays line said) → count + length after ≡ length bytes
       → 0 < length after → SaysFirst stop bytes said (count + 1)
   says_before said count says long some = by after refl
     where
@@ -135,7 +135,7 @@ module _ (stop : Pulled) (bytes : List ℕ) (e : Event) (after : List ℕ) (has 
       by [] is = absurd (omega (arith, some, ap length is))
       by (b ∷ bs) is =
           let here : first_line bytes ++ after ≡ first_line bytes ++ 10 ∷ bs =
-              ap (λ l. first_line bytes ++ l) (is ∙ ap (λ x. x ∷ bs) (newline_behind bytes b bs (has.behind ∙ is))) in
+          ap (λ l. first_line bytes ++ l) (is ∙ ap (λ x. x ∷ bs) (newline_behind bytes b bs (has.behind ∙ is))) in
           let same : length (first_line bytes) ≡ count = omega (arith, line_length, long) in
           says_at said (count + 1) (says (first_line bytes) has.found same)
           (subst (λ k. IsCut stop bytes (first_line bytes) (k + 1)) same (cut_at_newline stop bytes (first_line bytes) bs (first_lacks bytes) (parts ∙ here)))
@@ -147,7 +147,7 @@ module _ (stop : Pulled) (bytes : List ℕ) (e : Event) (after : List ℕ) (has 
       by [] is = parts ∙ ap (λ l. first_line bytes ++ l) is ∙ append-nil (first_line bytes)
       by (b ∷ bs) is = absurd (omega (arith, none, ap length is))
 
-  pub says_last : (said : Said) (count : ℕ) → ((line : List ℕ) → event_in line ≡ Some e → length line ≡ count → Says line said) → count + length after ≡ length bytes
+  pub says_last : (said : Said) (count : ℕ) → ((line : List ℕ) → event_in line ≡ Some e → length line ≡ count → LineSays line said) → count + length after ≡ length bytes
       → length after ≡ 0 → is_line stop count ≡ true → SaysFirst stop bytes said count
   says_last said count says long none is =
       let same : length (first_line bytes) ≡ count = omega (arith, line_length, long) in

@@ -1,5 +1,5 @@
 -- No newline stands in a line that says an event.
-use Rattle.std.proofs.Common.{◌≡◌, ◌<◌, ◌^◌, ℕ, Bool, true, false, nat_lt, List, [], ◌∷◌, ◌++◌, length, codes, refl, sym, ap, ◌∙◌, subst, arith}
+use Rattle.std.proofs.Common.{◌≡◌, ◌<◌, ◌^◌, ℕ, Bool, true, nat_lt, List, [], ◌∷◌, ◌++◌, codes, refl, sym, subst, arith}
 use Rattle.std.specs.List.{list_all}
 use Rattle.std.specs.Fmt.{decimal}
 use Rattle.std.proofs.lemmas.Fmt.{decimal_is_IsNumeral}
@@ -12,7 +12,7 @@ use Rattle.stat_defs.specs.declared.ids.Mode.TheVariants.{Uninit, Accumulate, Ne
 use Rattle.stat_defs.specs.Names.{IsLabel, IsLocalName, is_label_byte, is_name_byte, is_printable_byte}
 use Rattle.event_script.specs.Grammar.{Lacks, IsLineOf, IsMetricLine, op_word, mode_word}
 use Rattle.event_script.proofs.Splits.{lacks_all, lacks_cons, lacks_first, lacks_rest}
-use Rattle.event_script.proofs.FirstLine.{digits_lack}
+use Rattle.event_script.proofs.LineParts.{digits_lack}
 
 lacks_both : (xs ys : List ℕ) → Lacks 10 xs → Lacks 10 ys → Lacks 10 (xs ++ ys)
 lacks_both [] ys first second = second

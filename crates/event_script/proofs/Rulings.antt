@@ -1,10 +1,7 @@
 -- What the rules say of single lines, computed.
-use Rattle.std.proofs.Common.{◌≡◌, Option, None, Some, List, ℕ, [], ◌∷◌, codes, refl}
-use Rattle.stat_defs.specs.declared.events.Event.{Event}
-use Rattle.stat_defs.specs.declared.events.Event.TheVariants.{Inc, Gauge, Rec, SetText, OpenScope, Release}
-use Rattle.stat_defs.specs.declared.events.GaugeOp.TheVariants.{Add, Sub, Set}
-use Rattle.stat_defs.specs.declared.ids.Mode.TheVariants.{Uninit, Accumulate, Never}
-use Rattle.event_script.specs.Decoded.{event_in}
+use Rattle.std.proofs.Common.{◌≡◌, None, Some, [], codes, refl}
+use Rattle.stat_defs.specs.declared.events.Event.TheVariants.{SetText, OpenScope, Release}
+use Rattle.event_script.specs.EventIn.{event_in}
 
 pub text_empty : event_in (codes "text l n ") ≡ Some (SetText (codes "l") (codes "n") [])
 text_empty = refl

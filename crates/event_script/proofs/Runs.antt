@@ -13,10 +13,10 @@ use Rattle.stats_io.specs.declared.pulling.Pulled.{Pulled}
 use Rattle.stats_io.specs.declared.pulling.Pulled.TheVariants.{End, TooMany, Failed}
 use Rattle.event_script.specs.declared.limits.TheConstants.{MAX_FILE_BYTES}
 use Rattle.event_script.specs.declared.limits.TheConstants.{MAX_LINE_BYTES}
-use Rattle.event_script.specs.Script.{Reads, is_line, lines_of, lines_until, FileFrom, File, end_by}
+use Rattle.event_script.specs.Script.{LinesGive, is_line, piece_lines, lines_until, FileFrom, File, end_by}
 use Rattle.event_script.proofs.CutLines.{is_newline, first_of}
-use Rattle.event_script.specs.Reading.{Reading, Comes, MayFollow, Moves}
-use Rattle.event_script.specs.Steps.{StoppedBy, EndsBy, HasEnded}
+use Rattle.event_script.specs.Reader.{Reading, Comes, MayFollow, Moves}
+use Rattle.event_script.specs.Answer.{StoppedBy, EndsBy, HasEnded}
 use Rattle.stats_io.specs.States.{SourceState}
 use Rattle.stats_io.specs.Told.{MayBe}
 use Rattle.event_script.specs.Run.{IsRun}
@@ -60,12 +60,12 @@ too_long_is_line TooMany piece long = lt-ltb MAX_LINE_BYTES (length piece) long
 too_long_is_line Failed piece long = lt-ltb MAX_LINE_BYTES (length piece) long
 
 too_long_first : (stop : Pulled) (piece : List ℕ) (pieces : List (List ℕ)) → MAX_LINE_BYTES < length piece
-    → (more : List (List ℕ)) × (lines_of stop (piece ∷ pieces) ≡ piece ∷ more)
+    → (more : List (List ℕ)) × (piece_lines stop (piece ∷ pieces) ≡ piece ∷ more)
 too_long_first stop piece [] long = ([], ap (λ b. cond b (piece ∷ []) []) (too_long_is_line stop piece long))
-too_long_first stop piece (next ∷ pieces) long = (lines_of stop (next ∷ pieces), refl)
+too_long_first stop piece (next ∷ pieces) long = (piece_lines stop (next ∷ pieces), refl)
 
 too_long_joined : (stop : Pulled) (piece : List ℕ) (pieces : List (List ℕ)) → MAX_LINE_BYTES < length piece
-    → (first : List ℕ) × (more : List (List ℕ)) × (lines_of stop (joined (piece ∷ []) pieces) ≡ first ∷ more) × (MAX_LINE_BYTES < length first)
+    → (first : List ℕ) × (more : List (List ℕ)) × (piece_lines stop (joined (piece ∷ []) pieces) ≡ first ∷ more) × (MAX_LINE_BYTES < length first)
 too_long_joined stop piece [] long = let first = too_long_first stop piece [] long in (piece, first.0, first.1, long)
 too_long_joined stop piece (next ∷ pieces) long =
     let longer : MAX_LINE_BYTES < length (piece ++ next) = omega (arith, length-append piece next) in
@@ -74,7 +74,7 @@ too_long_joined stop piece (next ∷ pieces) long =
 -- Where the source stopped before the end of the file, and one of its lines is a fault, that stands, whatever follows.
 module _ (stop other : Pulled) (end : FileEnd) (fault : end ≡ end_by stop → ⊥) (cut : (count : ℕ) → is_line stop count ≡ nat_lt MAX_LINE_BYTES count) where
   last_stands : (b : Bool) (piece : List ℕ) → is_line stop (length piece) ≡ b → (pieces : List (List ℕ)) (number given : ℕ) (events : List Event)
-      → Reads number given (cond b (piece ∷ []) []) stop events end → Reads number given (lines_of other (joined (piece ∷ []) pieces)) other events end
+      → LinesGive number given (cond b (piece ∷ []) []) stop events end → LinesGive number given (piece_lines other (joined (piece ∷ []) pieces)) other events end
   last_stands false piece is pieces number given events reads = absurd (fault reads.1)
   last_stands true piece is pieces number given events (inl reads) =
       let first = too_long_joined other piece pieces reads.0 in rw first.2 (inl (first.3, reads.1, reads.2))
@@ -82,8 +82,8 @@ module _ (stop other : Pulled) (end : FileEnd) (fault : end ≡ end_by stop → 
       let long : MAX_LINE_BYTES < length piece = ltb-true MAX_LINE_BYTES (length piece) (sym (cut (length piece)) ∙ is) in absurd (omega (arith, reads.0))
 
   -- behind the same line
-  behind_line : (line : List ℕ) (lines others : List (List ℕ)) → ((number given : ℕ) (events : List Event) → Reads number given lines stop events end → Reads number given others other events end)
-      → (number given : ℕ) (events : List Event) → Reads number given (line ∷ lines) stop events end → Reads number given (line ∷ others) other events end
+  behind_line : (line : List ℕ) (lines others : List (List ℕ)) → ((number given : ℕ) (events : List Event) → LinesGive number given lines stop events end → LinesGive number given others other events end)
+      → (number given : ℕ) (events : List Event) → LinesGive number given (line ∷ lines) stop events end → LinesGive number given (line ∷ others) other events end
   behind_line line lines others on number given events (inl long) = inl long
   behind_line line lines others on number given events (inr (fits, inl passed)) = inr (fits, inl (passed.0, on (number + 1) given events passed.1))
   behind_line line lines others on number given events (inr (fits, inr (inl (e, is, inl r)))) =
@@ -92,12 +92,12 @@ module _ (stop other : Pulled) (end : FileEnd) (fault : end ≡ end_by stop → 
   behind_line line lines others on number given events (inr (fits, inr (inr bad))) = inr (fits, inr (inr bad))
 
   fault_stands : (pieces more : List (List ℕ)) (number given : ℕ) (events : List Event)
-      → Reads number given (lines_of stop pieces) stop events end → Reads number given (lines_of other (joined pieces more)) other events end
+      → LinesGive number given (piece_lines stop pieces) stop events end → LinesGive number given (piece_lines other (joined pieces more)) other events end
   fault_stands [] more number given events reads = absurd (fault reads.1)
   fault_stands (piece ∷ []) more number given events reads = last_stands (is_line stop (length piece)) piece refl more number given events reads
   fault_stands (piece ∷ (next ∷ pieces)) more number given events reads =
       rw (first_of other piece (joined (next ∷ pieces) more) (joined_some next pieces more))
-      (behind_line piece (lines_of stop (next ∷ pieces)) (lines_of other (joined (next ∷ pieces) more))
+      (behind_line piece (piece_lines stop (next ∷ pieces)) (piece_lines other (joined (next ∷ pieces) more))
       (λ n g es r. fault_stands (next ∷ pieces) more n g es r) number given events reads)
 
 seam_at : (limit : ℕ) (got rest : List ℕ) → length got ≤ limit → take limit (got ++ rest) ≡ got ++ take (limit - length got) rest
@@ -106,7 +106,7 @@ seam_at limit got rest fits =
     ap (λ n. take n (got ++ rest)) e ∙ take-append-add got rest (limit - length got)
 
 module _ (end : FileEnd) (fault : end ≡ file.ReadFault → ⊥) (got rest : List ℕ) (events : List Event) where
-  fault_within : length got ≤ MAX_FILE_BYTES → Reads 1 0 (lines_until Failed got) Failed events end → File (got ++ rest) events end
+  fault_within : length got ≤ MAX_FILE_BYTES → LinesGive 1 0 (lines_until Failed got) Failed events end → File (got ++ rest) events end
   fault_within fits reads =
       let seam : take (MAX_FILE_BYTES - 0) (got ++ rest) ≡ got ++ take (MAX_FILE_BYTES - length got) rest = seam_at MAX_FILE_BYTES got rest fits in
       let behind = take (MAX_FILE_BYTES - length got) rest in (
@@ -114,7 +114,7 @@ module _ (end : FileEnd) (fault : end ≡ file.ReadFault → ⊥) (got rest : Li
         (λ _. rw (seam, split_joined got behind) (fault_stands Failed TooMany end fault (λ count. refl) (slice_split is_newline got) (slice_split is_newline behind) 1 0 events reads)),
       )
 
-  fault_past : MAX_FILE_BYTES < length got → Reads 1 0 (lines_until TooMany (take (MAX_FILE_BYTES - 0) got)) TooMany events end → File (got ++ rest) events end
+  fault_past : MAX_FILE_BYTES < length got → LinesGive 1 0 (lines_until TooMany (take (MAX_FILE_BYTES - 0) got)) TooMany events end → File (got ++ rest) events end
   fault_past big reads =
       let long = length-append got rest in
       let cut : take (MAX_FILE_BYTES - 0) (got ++ rest) ≡ take (MAX_FILE_BYTES - 0) got = take-append-le (MAX_FILE_BYTES - 0) got rest (omega arith) in
@@ -183,7 +183,7 @@ run_of state source now first got events end moves has at_end =
     come : (more : List ℕ) (last : Pulled) → Comes now more last [] end
     come more last =
         let Given : Option FileEnd → Type 0 = λ e. MatchOption e
-        (MatchOption now.stopped (FileFrom now.number now.given now.offset (now.pending ++ more) last [] end) (λ stop. Reads now.number now.given (lines_until stop now.pending) stop [] end))
+        (MatchOption now.stopped (FileFrom now.number now.given now.offset (now.pending ++ more) last [] end) (λ stop. LinesGive now.number now.given (lines_until stop now.pending) stop [] end))
         (λ ended. ◌≡◌ {A = List Event} [] [] × (end ≡ ended)) in
         subst Given (sym has.is) (refl, refl)
 

@@ -1,6 +1,6 @@
 -- Where a byte parts a list.
-use Rattle.std.proofs.Common.{◌≡◌, ◌≢◌, ◌+◌, ℕ, zero, suc, Bool, true, false, ◌&&◌, List, [], ◌∷◌, ◌++◌, length, take, get_or, subst, ◌≤◌, refl, sym, ap, ◌∙◌, arith, codes}
-use Rattle.std.proofs.lemmas.List.{get_or_at, length-append, append_cancel_left}
+use Rattle.std.proofs.Common.{◌≡◌, ◌≢◌, ◌+◌, ℕ, zero, suc, Bool, true, false, ◌&&◌, List, [], ◌∷◌, ◌++◌, length, take, get_or, subst, ◌≤◌, refl, sym, ap, ◌∙◌, arith}
+use Rattle.std.proofs.lemmas.List.{get_or_at, length-append}
 use Rattle.std.specs.List.{list_all}
 use Rattle.event_script.specs.Grammar.{Lacks}
 use Rattle.event_script.specs.Said.{IsRunOf, IsPart, IsNoPart}

@@ -1,6 +1,6 @@
 -- What is written is read.
-use Rattle.std.proofs.Common.{◌≡◌, ◌≢◌, ◌<◌, ◌≤◌, ◌+◌, ◌-◌, ◌==◌, ◌&&◌, ℕ, Bool, true, false, cond, List, [], ◌∷◌, ◌++◌, inl, inr, length, take, drop, codes, refl, sym, ap, ◌∙◌, subst, arith, All, append_assoc, length-append}
-use Rattle.std.specs.List.{list_all, ends_with, flat_map}
+use Rattle.std.proofs.Common.{◌≡◌, ◌≢◌, ◌≤◌, ◌+◌, ◌-◌, ◌==◌, ℕ, Bool, true, false, cond, List, [], ◌∷◌, ◌++◌, inl, inr, length, take, drop, codes, refl, sym, ap, ◌∙◌, subst, arith, All, append_assoc, length-append}
+use Rattle.std.specs.List.{ends_with}
 use Rattle.std.specs.Str.{bytes_eq}
 use Rattle.std.proofs.lemmas.Slice.Eq.{ends_is, bytes_eq-Decides}
 use Rattle.std.proofs.lemmas.Bool.Decides.{Decides-eqb}
@@ -12,8 +12,8 @@ use Rattle.stat_defs.specs.Names.{IsLocalName, IsScopePrefix, is_name_byte}
 use Rattle.stat_defs.specs.Events.{IsLawfulEvent, IsOpenedPrefix}
 use Rattle.stat_defs.specs.declared.reports.FileEnd.TheVariants as file
 use Rattle.stats_io.specs.declared.pulling.Pulled.TheVariants.{End}
-use Rattle.event_script.specs.Grammar.{without_dot, prefix_of, given_for, line_for, lines_for, IsLineOf, IsLawful, Lacks}
-use Rattle.event_script.specs.Script.{Reads, lines_until, File}
+use Rattle.event_script.specs.Grammar.{without_dot, given_prefix, given_for, line_for, lines_for, IsLineOf, IsLawful, Lacks}
+use Rattle.event_script.specs.Script.{LinesGive, lines_until, File}
 use Rattle.event_script.specs.declared.limits.TheConstants.{MAX_LINE_BYTES, MAX_FILE_BYTES, MAX_EVENTS}
 use Rattle.event_script.proofs.Splits.{and_true}
 use Rattle.event_script.proofs.CutLines.{cut_until}
@@ -48,7 +48,7 @@ not_dash prefix other = by (bytes_eq prefix (codes "-")) refl
 -- the text for a prefix that a line gave gives it again
 pub record IsAgain (prefix given : List ℕ) : Type 0 where
   pub fits : IsLocalName given
-  pub means : prefix_of given ≡ prefix
+  pub means : given_prefix given ≡ prefix
 
 dash : IsLocalName (codes "-")
 dash = record { not_empty = omega arith; short = omega arith; bytes = refl }
@@ -59,10 +59,10 @@ module _ (given : List ℕ) (fits : IsLocalName given) where
   part [] is other = record { fits = dash; means = refl }
   part (b ∷ bs) is other = by (has_dot (b ∷ bs)) refl (has_dot given) refl
     where
-      plain : (w : List ℕ) → w ≢ codes "-" → has_dot w ≡ false → prefix_of w ≡ w
+      plain : (w : List ℕ) → w ≢ codes "-" → has_dot w ≡ false → given_prefix w ≡ w
       plain w other none = rw (kept w none, not_dash w other) refl
 
-      dots : (w : List ℕ) → w ≢ codes "-" → prefix_of (w ++ 46 ∷ []) ≡ w
+      dots : (w : List ℕ) → w ≢ codes "-" → given_prefix (w ++ 46 ∷ []) ≡ w
       dots w other = rw (undotted w, not_dash w other) refl
 
       whole : has_dot given ≡ true → given ≡ (b ∷ bs) ++ 46 ∷ []
@@ -79,7 +79,7 @@ module _ (given : List ℕ) (fits : IsLocalName given) where
           }
       by false none false same = record { fits = subst IsLocalName (sym (kept given same) ∙ is) fits; means = plain (b ∷ bs) other none }
 
-  pub given_again : IsAgain (prefix_of given) (given_for (prefix_of given))
+  pub given_again : IsAgain (given_prefix given) (given_for (given_prefix given))
   given_again = by (bytes_eq (without_dot given) (codes "-")) refl
     where
       by : (b : Bool) → bytes_eq (without_dot given) (codes "-") ≡ b → IsAgain (cond b [] (without_dot given)) (given_for (cond b [] (without_dot given)))
@@ -87,7 +87,7 @@ module _ (given : List ℕ) (fits : IsLocalName given) where
       by false e = part (without_dot given) refl (λ same. let h = sym e ∙ (bytes_eq-Decides (without_dot given) (codes "-")).1 same in cc)
 
 -- a prefix that a line gave is none that no line gives
-opened : (given : List ℕ) → IsLocalName given → IsOpenedPrefix (prefix_of given)
+opened : (given : List ℕ) → IsLocalName given → IsOpenedPrefix (given_prefix given)
 opened given fits = by (bytes_eq (without_dot given) (codes "-")) refl
   where
     shorter : (b : Bool) → has_dot given ≡ b → IsScopePrefix (cond b (take (length given - 1) given) given)
@@ -110,9 +110,10 @@ written (event.Gauge label name mode op n) (line, (short, is)) = (subst (λ l. l
 written (event.Rec label name v) (line, (short, is)) = (subst (λ l. length l ≤ MAX_LINE_BYTES) is.metric.parts short, subst (λ l. IsLineOf l (event.Rec label name v)) is.metric.parts is)
 written (event.SetText label name text) (line, (short, is)) = (subst (λ l. length l ≤ MAX_LINE_BYTES) is.metric.parts short, subst (λ l. IsLineOf l (event.SetText label name text)) is.metric.parts is)
 written (event.OpenScope label prefix) (line, (short, is)) =
-    let again : IsAgain prefix (given_for prefix) = subst (λ p. IsAgain p (given_for p)) (sym is.means) (given_again is.given is.given_fits) in
-    (omega (arith, length-append label (32 ∷ given_for prefix), is.label_fits.short, again.fits.short),
-    record { label_fits = is.label_fits; given = given_for prefix; given_fits = again.fits; means = sym again.means; parts = refl })
+    let again : IsAgain prefix (given_for prefix) = subst (λ p. IsAgain p (given_for p)) (sym is.means) (given_again is.given is.given_fits) in (
+      omega (arith, length-append label (32 ∷ given_for prefix), is.label_fits.short, again.fits.short),
+      record { label_fits = is.label_fits; given = given_for prefix; given_fits = again.fits; means = sym again.means; parts = refl },
+    )
 written (event.Release label) (line, (short, is)) = (subst (λ l. length l ≤ MAX_LINE_BYTES) is.parts short, subst (λ l. IsLineOf l (event.Release label)) is.parts is)
 
 -- what a line says is lawful
@@ -131,16 +132,16 @@ line_lacks e lawful = lacks_newline (line_for e) e (written e lawful).1
 
 -- events that are written one after another are read
 events_read : (number given : ℕ) (events : List Event) → All IsLawful events → given + length events ≤ MAX_EVENTS
-    → Reads number given (lines_until End (lines_for events)) End events file.Whole
+    → LinesGive number given (lines_until End (lines_for events)) End events file.Whole
 events_read number given [] lawful few = (refl, refl)
 events_read number given (e ∷ es) lawful few =
     let first = All-head IsLawful e es lawful in
     let is = written e first in
     let e_lines : lines_for (e ∷ es) ≡ line_for e ++ 10 ∷ lines_for es = append_assoc (line_for e) (10 ∷ []) (lines_for es) in
     let after : drop (length (line_for e) + 1) (lines_for (e ∷ es)) ≡ lines_for es =
-        drop_at (line_for e ++ 10 ∷ []) (lines_for es) (length (line_for e) + 1) (length-append (line_for e) (10 ∷ [])) in
+    drop_at (line_for e ++ 10 ∷ []) (lines_for es) (length (line_for e) + 1) (length-append (line_for e) (10 ∷ [])) in
     let cut : lines_until End (lines_for (e ∷ es)) ≡ line_for e ∷ lines_until End (lines_for es) =
-        cut_until End (lines_for (e ∷ es)) (line_for e) (lines_for es) (line_lacks e first) e_lines ∙ ap (λ l. line_for e ∷ lines_until End l) after in
+    cut_until End (lines_for (e ∷ es)) (line_for e) (lines_for es) (line_lacks e first) e_lines ∙ ap (λ l. line_for e ∷ lines_until End l) after in
     rw cut (inr (is.0, inr (inl (e, is.1, inl (es, omega (arith, few), refl, events_read (number + 1) (given + 1) es (All-tail IsLawful e es lawful) (omega (arith, few)))))))
 
 pub file_read : (events : List Event) → All IsLawful events → length events ≤ MAX_EVENTS → length (lines_for events) ≤ MAX_FILE_BYTES

@@ -1,5 +1,5 @@
 -- The lines of an event file. This project's own.
-use Rattle.std.specs.Prelude.{◌≡◌, ◌≢◌, ◌<◌, ◌≤◌, ◌-◌, ◌^◌, ◌==◌, ◌&&◌, nat_le, ℕ, Bool, true, if◌then◌else◌, List, [], ◌∷◌, ◌++◌, length, take, slice_index, codes}
+use Rattle.std.specs.Prelude.{◌≡◌, ◌≢◌, ◌<◌, ◌≤◌, ◌-◌, ◌^◌, ◌==◌, ℕ, if◌then◌else◌, List, [], ◌∷◌, ◌++◌, length, take, slice_index, codes}
 use Rattle.std.specs.List.{flat_map, ends_with}
 use Rattle.std.specs.Str.{bytes_eq}
 use Rattle.std.specs.Fmt.{decimal}
@@ -54,15 +54,15 @@ abbrev pub without_dot : List ℕ → List ℕ
 without_dot text = if ends_with ◌==◌ text (46 ∷ []) then take (length text - 1) text else text
 
 -- the prefix that a line gives: one final dot is dropped, and a `-` is then the empty prefix
-abbrev pub prefix_of : List ℕ → List ℕ
-prefix_of given = if bytes_eq (without_dot given) (codes "-") then [] else without_dot given
+abbrev pub given_prefix : List ℕ → List ℕ
+given_prefix given = if bytes_eq (without_dot given) (codes "-") then [] else without_dot given
 
 -- `open L PREFIX`; what stands for the prefix has 1 to 255 bytes, as a local name has
 pub record IsOpenLine (line label prefix : List ℕ) : Type 0 where
   pub label_fits : IsLabel label
   pub given : List ℕ
   pub given_fits : IsLocalName given
-  pub means : prefix ≡ prefix_of given
+  pub means : prefix ≡ given_prefix given
   pub parts : line ≡ codes "open" ++ 32 ∷ (label ++ 32 ∷ given)
 
 -- `release L`

@@ -2,19 +2,19 @@
 use Rattle.std.specs.Prelude.{◌≡◌, ◌≢◌, ◌<◌, ◌≤◌, ℕ, Bool, true, false, List, ◌∷◌, ◌++◌, length, take, drop, slice_index}
 use Rattle.std.specs.List.{list_all}
 use Rattle.event_script.specs.Grammar.{IsPassedOver, IsLineOf, IsNoLine}
-use Rattle.event_script.specs.Found.{is_end}
-use Rattle.event_script.specs.Decoded.{first_line}
+use Rattle.event_script.specs.FirstLine.{is_end}
+use Rattle.event_script.specs.EventIn.{first_line}
 use Rattle.event_script.specs.Script.{lines_until}
 use Rattle.stats_io.specs.declared.pulling.Pulled.{Pulled}
 use Rattle.event_script.specs.declared.cutting.Said.{Said}
 use Rattle.event_script.specs.declared.cutting.Said.TheVariants.{Nothing, Event, NoLine, TooLong}
 use Rattle.event_script.specs.declared.limits.TheConstants.{MAX_LINE_BYTES}
 
-abbrev pub Says : List ℕ → Said → Type 0
-Says line Nothing = (length line ≤ MAX_LINE_BYTES) × IsPassedOver line
-Says line (Event e) = (length line ≤ MAX_LINE_BYTES) × IsLineOf line e
-Says line NoLine = (length line ≤ MAX_LINE_BYTES) × IsNoLine line
-Says line TooLong = MAX_LINE_BYTES < length line
+abbrev pub LineSays : List ℕ → Said → Type 0
+LineSays line Nothing = (length line ≤ MAX_LINE_BYTES) × IsPassedOver line
+LineSays line (Event e) = (length line ≤ MAX_LINE_BYTES) × IsLineOf line e
+LineSays line NoLine = (length line ≤ MAX_LINE_BYTES) × IsNoLine line
+LineSays line TooLong = MAX_LINE_BYTES < length line
 
 -- so many bytes that pass the test stand first, and then one that doesn't or none
 pub record IsRunOf (test : ℕ → Bool) (text : List ℕ) (count : ℕ) : Type 0 where
@@ -55,5 +55,5 @@ pub record IsCut (stop : Pulled) (bytes line : List ℕ) (count : ℕ) : Type 0 
 -- the first line says this, and takes so many bytes
 pub record SaysFirst (stop : Pulled) (bytes : List ℕ) (said : Said) (count : ℕ) : Type 0 where
   pub line : List ℕ
-  pub says : Says line said
+  pub says : LineSays line said
   pub is_cut : IsCut stop bytes line count

@@ -1,12 +1,12 @@
 //! Lines, cut from the bytes of a file.
 ghost use Rattle.std.specs.Prelude.{◌≡◌, ◌<◌, ◌≤◌, ◌+◌, ◌++◌, [], Ok, Some, ℕ, List, All, MatchOption, None, length, drop, IfOk};
 ghost use Rattle.event_script.specs.declared.limits.TheConstants as limits;
-ghost use Rattle.event_script.specs.Script.{lines_until, Reads};
+ghost use Rattle.event_script.specs.Script.{lines_until, LinesGive};
 ghost use Rattle.event_script.specs.Script as script;
 ghost use Rattle.event_script.specs.Grammar.{IsLawful};
-ghost use Rattle.event_script.specs.Decoded.{event_in};
-ghost use Rattle.event_script.specs.Said.{Says, SaysFirst, IsCut};
-ghost use Rattle.event_script.specs.Steps.{events_of, IfEnded, IfEvent, Answers, Follows, EndsBy};
+ghost use Rattle.event_script.specs.EventIn.{event_in};
+ghost use Rattle.event_script.specs.Said.{LineSays, SaysFirst, IsCut};
+ghost use Rattle.event_script.specs.Answer.{events_answered, IfEnded, IfEvent, TellsEnd, FollowsAnswer, EndsBy};
 ghost use Rattle.stat_defs.specs.declared.events.Event.{Event};
 ghost use Rattle.stat_defs.specs.declared.reports.FileEnd.{FileEnd};
 
@@ -63,7 +63,7 @@ fn line_first(bytes: &[u8], stopped: Pulled) -> Option<(&[u8], usize)>
 // What a line says that is no event's.
 fn said_without(line: &[u8]) -> Said
     requires { event_in line.now ≡ None }
-    ensures { Says line.now result }
+    ensures { LineSays line.now result }
 {
     if line.len() > MAX_LINE_BYTES {
         return Said::TooLong;
@@ -77,7 +77,7 @@ fn said_without(line: &[u8]) -> Said
 // What a line of so many bytes says that is this event's.
 #[inline(always)]
 fn said_with(event: Event, count: usize) -> Said
-    ensures { (line : List ℕ) → event_in line ≡ Some event → length line ≡ count → Says line result }
+    ensures { (line : List ℕ) → event_in line ≡ Some event → length line ≡ count → LineSays line result }
 {
     if count > MAX_LINE_BYTES {
         return Said::TooLong;
@@ -87,7 +87,11 @@ fn said_with(event: Event, count: usize) -> Said
 
 // What the first line says, and how many bytes it takes.
 #[inline(always)]
-fn said_first(alloc: Global, bytes: &[u8], stopped: Pulled) -> Result<Option<(Said, usize)>, NoMemory>
+fn said_first(
+    alloc: Global,
+    bytes: &[u8],
+    stopped: Pulled,
+) -> Result<Option<(Said, usize)>, NoMemory>
     ensures { IfOk result (λ found. MatchOption found (lines_until stopped bytes.now ≡ []) (λ p. SaysFirst stopped bytes.now p.0 p.1)) }
 {
     let Some((event, after)) = event_first(alloc, bytes)? else {
@@ -108,7 +112,7 @@ fn said_first(alloc: Global, bytes: &[u8], stopped: Pulled) -> Result<Option<(Sa
 
 // The answer where all lines were read.
 fn step_by(stopped: Pulled) -> Step
-    ensures { Answers (Ok result) (script.end_by stopped) }
+    ensures { TellsEnd (Ok result) (script.end_by stopped) }
 {
     match stopped {
         Pulled::End => Step::End,
@@ -117,7 +121,7 @@ fn step_by(stopped: Pulled) -> Step
     }
 }
 
-// Reads on from that place to the next event, or to the end.
+// LinesGive on from that place to the next event, or to the end.
 #[inline(always)]
 pub fn read_on(
     alloc: Global,
@@ -132,12 +136,12 @@ pub fn read_on(
     ensures within { place.new.at ≤ length bytes.now }
     ensures numbered { place.new.number ≤ place.new.at + 1 }
     ensures few { place.new.given ≤ limits.MAX_EVENTS }
-    ensures given { place.new.given ≡ place.old.given + length (events_of result) }
+    ensures given { place.new.given ≡ place.old.given + length (events_answered result) }
     ensures event { IfEvent result (place.old.number < place.new.number) }
-    ensures lawful { All IsLawful (events_of result) }
+    ensures lawful { All IsLawful (events_answered result) }
     ensures ends { IfEnded result (λ end. EndsBy stopped end) }
-    ensures reads { (events : List Event) (end : FileEnd) → Follows result place.new.number place.new.given (lines_until stopped (drop place.new.at bytes.now)) stopped events end
-        → Reads place.old.number place.old.given (lines_until stopped (drop place.old.at bytes.now)) stopped (events_of result ++ events) end }
+    ensures reads { (events : List Event) (end : FileEnd) → FollowsAnswer result place.new.number place.new.given (lines_until stopped (drop place.new.at bytes.now)) stopped events end
+        → LinesGive place.old.number place.old.given (lines_until stopped (drop place.old.at bytes.now)) stopped (events_answered result ++ events) end }
 {
     while let Some((said, count)) = said_first(alloc, &bytes[place.at..], stopped)? {
         match said {

@@ -1,18 +1,19 @@
 //! The event of a line, read from its front to its end.
 ghost use Rattle.std.specs.Prelude.{◌≡◌, MatchOption, IfOk};
-ghost use Rattle.event_script.specs.Decoded.{inc_in, gauge_in, rec_in, text_in, open_in, release_in, event_in};
+ghost use Rattle.event_script.specs.EventIn.{inc_in, gauge_in, rec_in, readout_in, open_in, release_in, event_in};
 ghost use Rattle.event_script.specs.Grammar as grammar;
-ghost use Rattle.event_script.specs.Found.{HasLine, LacksLine};
+ghost use Rattle.event_script.specs.FirstLine.{HasLine, LacksLine};
 
 use crate::numbers::number_last;
-use crate::parts::{label_first, label_last, metric_first, mode_first, name_last, text_last, word_first};
+use crate::parts::{
+    label_first, label_last, metric_first, mode_first, name_last, text_last, word_first,
+};
 use crate::words::Word;
 use stat_defs::{Event, GaugeOp, NoMemory, Txt};
 use std::alloc::Global;
 
 // A gauge's number is below 2^63.
 const MAX_GAUGE: u64 = 9_223_372_036_854_775_807;
-
 
 #[inline(always)]
 fn inc_event(alloc: Global, text: &[u8]) -> Result<Option<(Event, &[u8])>, NoMemory>
@@ -26,7 +27,14 @@ fn inc_event(alloc: Global, text: &[u8]) -> Result<Option<(Event, &[u8])>, NoMem
     };
     let label = Txt::of(alloc, label)?;
     let name = Txt::of(alloc, name)?;
-    Ok(Some((Event::Inc { label, name, n: n as u32 }, after)))
+    Ok(Some((
+        Event::Inc {
+            label,
+            name,
+            n: n as u32,
+        },
+        after,
+    )))
 }
 
 fn gauge_event(alloc: Global, op: GaugeOp, text: &[u8]) -> Result<Option<(Event, &[u8])>, NoMemory>
@@ -43,7 +51,16 @@ fn gauge_event(alloc: Global, op: GaugeOp, text: &[u8]) -> Result<Option<(Event,
     };
     let label = Txt::of(alloc, label)?;
     let name = Txt::of(alloc, name)?;
-    Ok(Some((Event::Gauge { label, name, mode, op, n }, after)))
+    Ok(Some((
+        Event::Gauge {
+            label,
+            name,
+            mode,
+            op,
+            n,
+        },
+        after,
+    )))
 }
 
 fn rec_event(alloc: Global, text: &[u8]) -> Result<Option<(Event, &[u8])>, NoMemory>
@@ -61,7 +78,7 @@ fn rec_event(alloc: Global, text: &[u8]) -> Result<Option<(Event, &[u8])>, NoMem
 }
 
 fn text_event(alloc: Global, text: &[u8]) -> Result<Option<(Event, &[u8])>, NoMemory>
-    ensures { IfOk result (λ found. MatchOption found (LacksLine text_in text.now) (λ p. HasLine text_in text.now p.0 p.1.now)) }
+    ensures { IfOk result (λ found. MatchOption found (LacksLine readout_in text.now) (λ p. HasLine readout_in text.now p.0 p.1.now)) }
 {
     let Some((label, name, rest)) = metric_first(text) else {
         return Ok(None);
@@ -88,11 +105,15 @@ fn without_dot(text: &[u8]) -> &[u8]
 }
 
 // The prefix that an `open` line gives.
-fn prefix_of(given: &[u8]) -> &[u8]
-    ensures { result.now ≡ grammar.prefix_of given.now }
+fn given_prefix(given: &[u8]) -> &[u8]
+    ensures { result.now ≡ grammar.given_prefix given.now }
 {
     let prefix = without_dot(given);
-    if prefix == b"-".as_slice() { &given[..0] } else { prefix }
+    if prefix == b"-".as_slice() {
+        &given[..0]
+    } else {
+        prefix
+    }
 }
 
 fn open_event(alloc: Global, text: &[u8]) -> Result<Option<(Event, &[u8])>, NoMemory>
@@ -105,7 +126,7 @@ fn open_event(alloc: Global, text: &[u8]) -> Result<Option<(Event, &[u8])>, NoMe
         return Ok(None);
     };
     let label = Txt::of(alloc, label)?;
-    let prefix = Txt::of(alloc, prefix_of(given))?;
+    let prefix = Txt::of(alloc, given_prefix(given))?;
     Ok(Some((Event::OpenScope { label, prefix }, after)))
 }
 

@@ -1,9 +1,9 @@
 //! Laws of the definitions, each the contract of a function that does nothing.
 ghost use Rattle.std.specs.Prelude.{◌≡◌, ◌≢◌, ◌≤◌, ◌++◌, ℕ, List, Some, All, length};
 ghost use Rattle.std.specs.Io.KnownBytes.{IsAtEnd};
-ghost use Rattle.event_script.specs.Reading.{Reading, Moves, unread};
+ghost use Rattle.event_script.specs.Reader.{Reading, Moves, unread};
 ghost use Rattle.event_script.specs.Run.{IsRun};
-ghost use Rattle.event_script.specs.Steps.{HasEnded};
+ghost use Rattle.event_script.specs.Answer.{HasEnded};
 ghost use Rattle.stats_io.specs.declared.pulling.Pulled.{Pulled};
 ghost use Rattle.event_script.specs.Grammar.{IsLineOf, IsLawful, line_for, lines_for};
 ghost use Rattle.event_script.specs.declared.limits.TheConstants as limits;

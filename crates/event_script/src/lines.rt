@@ -1,7 +1,7 @@
 //! The events of a file, one after another.
 ghost use Rattle.std.specs.Prelude.{◌≡◌, [], Some, None, Ok, IfOk, MatchOption};
-ghost use Rattle.event_script.specs.Reading.{unread};
-ghost use Rattle.event_script.specs.Steps.{IsAnswer, Answers, no_answer, events_of, end_of};
+ghost use Rattle.event_script.specs.Reader.{unread};
+ghost use Rattle.event_script.specs.Answer.{IsAnswer, TellsEnd, no_answer, events_answered, end_of};
 ghost use Rattle.stat_defs.specs.declared.reports.FileEnd.{FileEnd};
 
 use crate::cutting::{Place, read_on};
@@ -31,7 +31,7 @@ pub struct Lines<S: Source> {
 
 impl<S: Source> Model for Lines<S> {
     ghost use Rattle.std.specs.Prelude.{drop};
-    ghost use Rattle.event_script.specs.Reading.{Reading};
+    ghost use Rattle.event_script.specs.Reader.{Reading};
 
     ghost Value = { Reading S };
 
@@ -47,9 +47,9 @@ impl<S: Source> Model for Lines<S> {
       ended = l.ended;
     } };
 
-    ghost use Rattle.event_script.specs.Keeping.{IsKept};
+    ghost use Rattle.event_script.specs.ReaderKept.{IsReaderKept};
 
-    ghost invariant = { λ l. IsKept l.bytes.items l.place l.taken l.first_faults l.stopped l.ended (S.state l.source) };
+    ghost invariant = { λ l. IsReaderKept l.bytes.items l.place l.taken l.first_faults l.stopped l.ended (S.state l.source) };
 }
 
 impl<S: Source> Lines<S> {
@@ -112,7 +112,7 @@ impl<S: Source> Lines<S> {
         Ok(stopped)
     }
 
-    // Reads on to the next event, or to the end.
+    // LinesGive on to the next event, or to the end.
     #[inline(always)]
     fn step(&mut self, alloc: Global, stopped: Pulled) -> Result<Step, NoMemory>
         requires stopped { self.old.stopped ≡ Some stopped }
@@ -127,7 +127,7 @@ impl<S: Source> Lines<S> {
     // The end that was answered, as it is answered again.
     #[inline(always)]
     fn last_end(&self) -> Option<Step>
-        ensures { MatchOption result (self.now.ended ≡ None) (λ step. (events_of (Ok step) ≡ []) × (end_of (Ok step) ≡ self.now.ended)) }
+        ensures { MatchOption result (self.now.ended ≡ None) (λ step. (events_answered (Ok step) ≡ []) × (end_of (Ok step) ≡ self.now.ended)) }
     {
         let Some(end) = self.ended else {
             return None;
@@ -148,7 +148,7 @@ impl<S: Source> Lines<S> {
     #[inline(always)]
     pub fn next(&mut self, alloc: Global) -> Result<Step, NoMemory>
         ensures answer { IsAnswer S.state self.old self.new result }
-        ensures again { (end : FileEnd) → self.old.ended ≡ Some end → Answers result end × (self.new ≡ self.old) }
+        ensures again { (end : FileEnd) → self.old.ended ≡ Some end → TellsEnd result end × (self.new ≡ self.old) }
     {
         if let Some(step) = self.last_end() {
             return Ok(step);

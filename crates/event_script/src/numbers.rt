@@ -2,9 +2,9 @@
 ghost use Rattle.std.specs.Prelude.{◌≡◌, ◌<◌, ◌≤◌, ◌+◌, ◌*◌, MatchOption, length, slice_index, ◌⊎◌};
 ghost use Rattle.std.specs.Bool.{MatchBool};
 ghost use Rattle.std.specs.Char.{digit_value};
-ghost use Rattle.event_script.specs.Decoded.{number_of};
-ghost use Rattle.event_script.specs.Found.{HasDigits, HasMoreThan, HasLine, LacksLine};
-ghost use Rattle.event_script.specs.Found as found;
+ghost use Rattle.event_script.specs.EventIn.{read_number};
+ghost use Rattle.event_script.specs.FirstLine.{HasDigits, HasMoreThan, HasLine, LacksLine};
+ghost use Rattle.event_script.specs.FirstLine as found;
 
 fn digit_of(b: u8) -> Option<u64>
     ensures { MatchOption result (10 ≤ digit_value b) (λ d. (digit_value b < 10) × (d ≡ digit_value b)) }
@@ -65,7 +65,7 @@ fn is_numeral(text: &[u8], count: usize) -> bool
 
 // The number that the first line is, at most `most`, and what stands behind it.
 pub fn number_last(text: &[u8], most: u64) -> Option<(u64, &[u8])>
-    ensures { MatchOption result (LacksLine (number_of most) text.now) (λ p. HasLine (number_of most) text.now p.0 p.1.now × (p.0 ≤ most)) }
+    ensures { MatchOption result (LacksLine (read_number most) text.now) (λ p. HasLine (read_number most) text.now p.0 p.1.now × (p.0 ≤ most)) }
 {
     let Some((n, count)) = digits_first(text, most) else {
         return None;

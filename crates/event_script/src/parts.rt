@@ -1,8 +1,8 @@
 //! The parts of a line.
 ghost use Rattle.std.specs.Prelude.{◌≡◌, ◌≢◌, ◌≤◌, ◌++◌, ◌∷◌, ℕ, List, MatchOption, length};
 ghost use Rattle.event_script.specs.Said.{IsPart, IsNoPart, IsLast, IsNoLast};
-ghost use Rattle.event_script.specs.Decoded.{word_of, mode_of, label_of, name_of, readout_of};
-ghost use Rattle.event_script.specs.Found.{HasPart, LacksPart, HasMetric, LacksMetric, HasLine, LacksLine};
+ghost use Rattle.event_script.specs.EventIn.{read_word, read_mode, read_label, read_name, read_readout};
+ghost use Rattle.event_script.specs.FirstLine.{HasPart, LacksPart, HasMetric, LacksMetric, HasLine, LacksLine};
 
 use crate::fronts::{label_length, name_length, text_length};
 use crate::numbers::is_end;
@@ -20,7 +20,7 @@ fn behind<'a>(text: &'a [u8], front: &[u8]) -> Option<&'a [u8]>
 // The word that a space ends, and what stands behind that.
 #[inline(always)]
 pub fn word_first(text: &[u8]) -> Option<(Word, &[u8])>
-    ensures { MatchOption result (LacksPart word_of text.now) (λ p. HasPart word_of text.now p.0 p.1.now) }
+    ensures { MatchOption result (LacksPart read_word text.now) (λ p. HasPart read_word text.now p.0 p.1.now) }
 {
     if let Some(rest) = behind(text, b"inc ") {
         return Some((Word::Inc, rest));
@@ -51,7 +51,7 @@ pub fn word_first(text: &[u8]) -> Option<(Word, &[u8])>
 
 // The mode that a space ends, and what stands behind that.
 pub fn mode_first(text: &[u8]) -> Option<(Mode, &[u8])>
-    ensures { MatchOption result (LacksPart mode_of text.now) (λ p. HasPart mode_of text.now p.0 p.1.now) }
+    ensures { MatchOption result (LacksPart read_mode text.now) (λ p. HasPart read_mode text.now p.0 p.1.now) }
 {
     if let Some(rest) = behind(text, b"uninit ") {
         return Some((Mode::Uninit, rest));
@@ -84,7 +84,7 @@ fn split_at_space(text: &[u8], at: usize, most: usize) -> Option<(&[u8], &[u8])>
 // The label that a space ends, and what stands behind that.
 #[inline(always)]
 pub fn label_first(text: &[u8]) -> Option<(&[u8], &[u8])>
-    ensures { MatchOption result (LacksPart label_of text.now) (λ p. HasPart label_of text.now p.0.now p.1.now) }
+    ensures { MatchOption result (LacksPart read_label text.now) (λ p. HasPart read_label text.now p.0.now p.1.now) }
 {
     let Some((label, rest)) = split_at_space(text, label_length(text), MAX_LABEL_BYTES) else {
         return None;
@@ -95,7 +95,7 @@ pub fn label_first(text: &[u8]) -> Option<(&[u8], &[u8])>
 // The local name that a space ends, and what stands behind that.
 #[inline(always)]
 fn name_first(text: &[u8]) -> Option<(&[u8], &[u8])>
-    ensures { MatchOption result (LacksPart name_of text.now) (λ p. HasPart name_of text.now p.0.now p.1.now) }
+    ensures { MatchOption result (LacksPart read_name text.now) (λ p. HasPart read_name text.now p.0.now p.1.now) }
 {
     let Some((name, rest)) = split_at_space(text, name_length(text), MAX_NAME_BYTES) else {
         return None;
@@ -135,7 +135,7 @@ fn split_at_end(text: &[u8], at: usize, most: usize) -> Option<(&[u8], &[u8])>
 
 // The label that the first line is, and what stands behind it.
 pub fn label_last(text: &[u8]) -> Option<(&[u8], &[u8])>
-    ensures { MatchOption result (LacksLine label_of text.now) (λ p. HasLine label_of text.now p.0.now p.1.now) }
+    ensures { MatchOption result (LacksLine read_label text.now) (λ p. HasLine read_label text.now p.0.now p.1.now) }
 {
     let Some((label, after)) = split_at_end(text, label_length(text), MAX_LABEL_BYTES) else {
         return None;
@@ -145,7 +145,7 @@ pub fn label_last(text: &[u8]) -> Option<(&[u8], &[u8])>
 
 // The bytes of a name that the first line is, and what stands behind it.
 pub fn name_last(text: &[u8]) -> Option<(&[u8], &[u8])>
-    ensures { MatchOption result (LacksLine name_of text.now) (λ p. HasLine name_of text.now p.0.now p.1.now) }
+    ensures { MatchOption result (LacksLine read_name text.now) (λ p. HasLine read_name text.now p.0.now p.1.now) }
 {
     let Some((name, after)) = split_at_end(text, name_length(text), MAX_NAME_BYTES) else {
         return None;
@@ -155,7 +155,7 @@ pub fn name_last(text: &[u8]) -> Option<(&[u8], &[u8])>
 
 // The text of a readout that the first line is, and what stands behind it.
 pub fn text_last(text: &[u8]) -> Option<(&[u8], &[u8])>
-    ensures { MatchOption result (LacksLine readout_of text.now) (λ p. HasLine readout_of text.now p.0.now p.1.now) }
+    ensures { MatchOption result (LacksLine read_readout text.now) (λ p. HasLine read_readout text.now p.0.now p.1.now) }
 {
     let count = text_length(text);
     let after = &text[count..];

@@ -1,8 +1,8 @@
 //! What the reader answers.
 ghost use Rattle.std.specs.Prelude.{◌≡◌, Ok, MatchOption};
 ghost use Rattle.stat_defs.specs.declared.reports.FileEnd.{FileEnd};
-ghost use Rattle.event_script.specs.Steps.{Answers};
-ghost use Rattle.event_script.specs.Steps as steps;
+ghost use Rattle.event_script.specs.Answer.{TellsEnd};
+ghost use Rattle.event_script.specs.Answer as steps;
 
 use stat_defs::{Event, FileEnd, NoMemory};
 
@@ -26,7 +26,7 @@ pub enum Step {
 
 // The answer that a file ended so. A file that was not opened has no reader.
 pub fn step_of(end: FileEnd) -> Option<Step>
-    ensures { MatchOption result (end ≡ FileEnd.NotOpened) (λ step. Answers (Ok step) end) }
+    ensures { MatchOption result (end ≡ FileEnd.NotOpened) (λ step. TellsEnd (Ok step) end) }
 {
     match end {
         FileEnd::Whole => Some(Step::End),

@@ -50,12 +50,7 @@ fn add_part(line: &mut Vec<u8>, part: &[u8]) -> Result<(), NoMemory>
 }
 
 // A word, a label and a name.
-fn metric_line(
-    alloc: Global,
-    word: &[u8],
-    label: &[u8],
-    name: &[u8],
-) -> Result<Vec<u8>, NoMemory>
+fn metric_line(alloc: Global, word: &[u8], label: &[u8], name: &[u8]) -> Result<Vec<u8>, NoMemory>
     ensures { IfOk result (λ line. line.items ≡ word.now ++ 32 ∷ (label.now ++ 32 ∷ name.now)) }
 {
     let mut line = word.to_vec(alloc)?;

@@ -1,4 +1,4 @@
-use Rattle.std.proofs.Common.{◌≡◌, ◌+◌, length, sym, ap, ◌∙◌, arith}
+use Rattle.std.proofs.Common.{sym, arith}
 use Rattle.event_script.proofs.CutLines.{says_before, says_last, none_says, line_length, some_bytes, no_length}
 use Rattle.event_script.proofs.cutting.said_first.Goals as goal
 

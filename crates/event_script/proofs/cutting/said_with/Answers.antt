@@ -1,5 +1,5 @@
 use Rattle.std.proofs.Common.{arith}
-use Rattle.event_script.proofs.Spelled.{line_says}
+use Rattle.event_script.proofs.EventLines.{line_says}
 use Rattle.event_script.proofs.cutting.said_with.Goals as goal
 
 pub returns : goal.returns

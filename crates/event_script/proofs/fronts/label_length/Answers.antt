@@ -1,6 +1,6 @@
 use Rattle.std.proofs.Common.{◌∙◌, sym, arith}
 use Rattle.stat_defs.specs.Names.{is_label_byte}
-use Rattle.event_script.proofs.LaneLemmas.{run_of}
+use Rattle.event_script.proofs.LaneRuns.{run_of}
 use Rattle.event_script.proofs.fronts.label_length.Goals as goal
 
 pub returns-else-is_label_byte : goal.returns-else-is_label_byte

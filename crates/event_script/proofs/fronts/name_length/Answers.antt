@@ -1,6 +1,6 @@
 use Rattle.std.proofs.Common.{◌∙◌, sym, arith}
 use Rattle.stat_defs.specs.Names.{is_name_byte}
-use Rattle.event_script.proofs.LaneLemmas.{run_of}
+use Rattle.event_script.proofs.LaneRuns.{run_of}
 use Rattle.event_script.proofs.fronts.name_length.Goals as goal
 
 pub returns-else-is_name_byte : goal.returns-else-is_name_byte

@@ -1,5 +1,5 @@
 use Rattle.stats_io.specs.declared.pulling.Pulled.TheVariants.{End}
-use Rattle.event_script.proofs.Total.{from_total}
+use Rattle.event_script.proofs.EveryFile.{from_total}
 use Rattle.event_script.proofs.laws.every_file_has_a_reading.Goals as goal
 
 pub returns : goal.returns

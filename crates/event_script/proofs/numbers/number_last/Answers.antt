@@ -1,7 +1,6 @@
-use Rattle.std.proofs.Common.{◌≡◌, ◌∙◌, true, false, sym, ap, arith}
+use Rattle.std.proofs.Common.{sym}
 use Rattle.std.proofs.lemmas.List.{take_rest}
-use Rattle.event_script.specs.Found.{is_end}
-use Rattle.event_script.proofs.FirstLine.{number_over, number_lacks, number_goes_on, number_reads_here}
+use Rattle.event_script.proofs.LineParts.{number_over, number_lacks, number_goes_on, number_reads_here}
 use Rattle.event_script.proofs.numbers.number_last.Goals as goal
 
 pub returns-in_default : goal.returns-in_default
@@ -19,5 +18,7 @@ returns-then-not-is_end c =
 pub returns : goal.returns
 returns c =
     let at_end = rw take_rest at (sym c.if-not-is_end.ensures) in
-    rw take_rest (number_reads_here c.args.text.now c.args.most c.ranges.most.fits c.in-Some.n c.in-Some.count c.in-Some.ensures.0 c.in-Some.ensures.1 c.if-not-is_numeral.ensures at_end,
-    c.in-Some.ensures.1)
+    rw take_rest (
+      number_reads_here c.args.text.now c.args.most c.ranges.most.fits c.in-Some.n c.in-Some.count c.in-Some.ensures.0 c.in-Some.ensures.1 c.if-not-is_numeral.ensures at_end,
+      c.in-Some.ensures.1,
+    )

@@ -1,7 +1,7 @@
 use Rattle.std.proofs.Common.{refl}
 use Rattle.stat_defs.specs.Names.{is_label_byte}
 use Rattle.stat_defs.specs.declared.events.TheConstants.{MAX_LABEL_BYTES}
-use Rattle.event_script.proofs.FirstLine.{part_reads, part_lacks}
+use Rattle.event_script.proofs.LineParts.{part_reads, part_lacks}
 use Rattle.event_script.proofs.parts.label_first.Goals as goal
 
 pub returns-in_default : goal.returns-in_default

@@ -1,7 +1,7 @@
 use Rattle.std.proofs.Common.{refl}
 use Rattle.stat_defs.specs.Names.{is_label_byte}
 use Rattle.stat_defs.specs.declared.events.TheConstants.{MAX_LABEL_BYTES}
-use Rattle.event_script.proofs.FirstLine.{last_reads, last_lacks}
+use Rattle.event_script.proofs.LineParts.{last_reads, last_lacks}
 use Rattle.event_script.proofs.parts.label_last.Goals as goal
 
 pub returns-in_default : goal.returns-in_default

@@ -2,7 +2,7 @@ use Rattle.std.proofs.Common.{◌≡◌, ◌∷◌, ◌++◌, ℕ, List}
 use Rattle.stat_defs.specs.declared.ids.Mode.{Mode}
 use Rattle.stat_defs.specs.declared.ids.Mode.TheVariants.{Uninit, Accumulate, Never}
 use Rattle.event_script.specs.Grammar.{mode_word}
-use Rattle.event_script.proofs.Spelled.{no_mode, has_mode}
+use Rattle.event_script.proofs.EventLines.{no_mode, has_mode}
 use Rattle.event_script.proofs.parts.mode_first.Goals as goal
 
 pub returns-in-Some : goal.returns-in-Some

@@ -1,6 +1,6 @@
 use Rattle.std.proofs.Common.{sym}
 use Rattle.std.proofs.lemmas.List.{take_rest}
-use Rattle.event_script.proofs.FirstLine.{readout_reads, readout_lacks}
+use Rattle.event_script.proofs.LineParts.{readout_reads, readout_lacks}
 use Rattle.event_script.proofs.parts.text_last.Goals as goal
 
 pub returns-then-not-is_end : goal.returns-then-not-is_end

@@ -1,8 +1,8 @@
-use Rattle.std.proofs.Common.{◌≡◌, ◌∷◌, ◌++◌, ℕ, List, codes, refl, nat_lt, Bool}
+use Rattle.std.proofs.Common.{◌≡◌, ◌∷◌, ◌++◌, ℕ, List}
 use Rattle.event_script.specs.declared.words.Word.{Word}
 use Rattle.event_script.specs.declared.words.Word.TheVariants.{Inc, Add, Sub, Set, Rec, Text, Open, Release}
-use Rattle.event_script.specs.Decoded.{word_bytes}
-use Rattle.event_script.proofs.Spelled.{no_word, has_word}
+use Rattle.event_script.specs.EventIn.{word_bytes}
+use Rattle.event_script.proofs.EventLines.{no_word, has_word}
 use Rattle.event_script.proofs.parts.word_first.Goals as goal
 
 pub returns-in-Some : goal.returns-in-Some

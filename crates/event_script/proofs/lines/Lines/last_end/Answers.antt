@@ -1,4 +1,4 @@
-use Rattle.event_script.proofs.Stepping.{last_is}
+use Rattle.event_script.proofs.AnswerStep.{last_is}
 use Rattle.event_script.proofs.lines.Lines.last_end.Goals as goal
 
 pub returns : goal.returns

@@ -1,5 +1,5 @@
 use Rattle.std.proofs.Common.{ap, sym, ◌∙◌}
-use Rattle.event_script.proofs.Stepping.{answer_again, answer_behind}
+use Rattle.event_script.proofs.AnswerStep.{answer_again, answer_behind}
 use Rattle.event_script.proofs.lines.Lines.next.Goals as goal
 
 pub returns-in-Some-clause-answer : goal.returns-in-Some-clause-answer

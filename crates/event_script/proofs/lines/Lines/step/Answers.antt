@@ -1,5 +1,5 @@
 use Rattle.std.proofs.Common.{◌≡◌, ◌∙◌, ap, Some, None}
-use Rattle.event_script.proofs.Stepping.{answer_here}
+use Rattle.event_script.proofs.AnswerStep.{answer_here}
 use Rattle.event_script.proofs.lines.Lines.step.Goals as goal
 
 pub returns : goal.returns

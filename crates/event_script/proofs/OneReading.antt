@@ -1,19 +1,17 @@
 -- A file has one list of events and one end.
-use Rattle.std.proofs.Common.{◌≡◌, ◌<◌, ◌+◌, ℕ, List, [], ◌∷◌, ◌++◌, inl, inr, ⊎_elim, length, get_or, codes, refl, sym, ap, ◌∙◌, arith}
-use Rattle.std.specs.Str.Parse.{digits_value}
+use Rattle.std.proofs.Common.{◌≡◌, ◌<◌, ◌+◌, ℕ, List, [], ◌∷◌, inl, inr, ⊎_elim, length, get_or, refl, sym, ap, ◌∙◌, arith}
 use Rattle.std.proofs.lemmas.Bool.{cases_lt}
 use Rattle.stat_defs.specs.declared.events.Event.{Event}
-use Rattle.stat_defs.specs.declared.events.Event.TheVariants as event
 use Rattle.stat_defs.specs.declared.reports.FileEnd.{FileEnd}
 use Rattle.stats_io.specs.declared.pulling.Pulled.{Pulled}
 use Rattle.stats_io.specs.declared.pulling.Pulled.TheVariants.{End}
 use Rattle.event_script.specs.declared.limits.TheConstants.{MAX_FILE_BYTES}
 use Rattle.event_script.specs.Grammar.{IsLineOf, IsPassedOver}
-use Rattle.event_script.specs.Decoded.{word_bytes, event_in}
+use Rattle.event_script.specs.EventIn.{word_bytes, event_in}
 use Rattle.event_script.specs.declared.words.Word.{Word}
 use Rattle.event_script.specs.declared.words.Word.TheVariants as word
-use Rattle.event_script.specs.Script.{Reads, FileFrom}
-use Rattle.event_script.proofs.Spelled.{found_in, begins}
+use Rattle.event_script.specs.Script.{LinesGive, FileFrom}
+use Rattle.event_script.proofs.EventLines.{found_in, begins}
 use Rattle.std.proofs.lemmas.List.{get_or_append_left}
 
 -- a line says one event
@@ -49,11 +47,11 @@ not_both line e is passed = by line refl passed
     by (b ∷ bs) same passed =
         let w = begins line e is in
         let first : get_or (b ∷ bs) 0 0 ≡ get_or (word_bytes w.0) 0 0 =
-            ap (λ (l : List ℕ). get_or l 0 0) (sym same ∙ w.2) ∙ get_or_append_left (word_bytes w.0) (32 ∷ w.1) 0 0 (some_byte w.0) in
+        ap (λ (l : List ℕ). get_or l 0 0) (sym same ∙ w.2) ∙ get_or_append_left (word_bytes w.0) (32 ∷ w.1) 0 0 (some_byte w.0) in
         omega (arith, first_byte w.0, first, passed)
 
-reads_single : (number given : ℕ) (lines : List (List ℕ)) (stop : Pulled) (events others : List Event) (end other : FileEnd) → Reads number given lines stop events end
-    → Reads number given lines stop others other → (events ≡ others) × (end ≡ other)
+reads_single : (number given : ℕ) (lines : List (List ℕ)) (stop : Pulled) (events others : List Event) (end other : FileEnd) → LinesGive number given lines stop events end
+    → LinesGive number given lines stop others other → (events ≡ others) × (end ≡ other)
 reads_single number given [] stop events others end other r s = (r.0 ∙ sym s.0, r.1 ∙ sym s.1)
 reads_single number given (l ∷ ls) stop events others end other (inl r) (inl s) = (r.1 ∙ sym s.1, r.2 ∙ sym s.2)
 reads_single number given (l ∷ ls) stop events others end other (inl r) (inr s) = absurd (omega (arith, r.0, s.0))

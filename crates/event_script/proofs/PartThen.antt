@@ -1,7 +1,7 @@
 -- The parts of a line, one after another.
-use Rattle.std.proofs.Common.{◌≡◌, ◌≢◌, ◌<◌, ◌≤◌, ◌+◌, ◌-◌, ◌^◌, ◌==◌, ◌&&◌, nat_le, nat_lt, ℕ, Bool, true, false, cond, Option, None, Some, option_map, List, [], ◌∷◌, ◌++◌, length, refl, sym, ap, ◌∙◌, subst, arith}
+use Rattle.std.proofs.Common.{◌≡◌, ◌<◌, ◌≤◌, ◌^◌, ◌==◌, ◌&&◌, nat_le, ℕ, Bool, true, false, cond, Option, None, Some, option_map, List, [], ◌∷◌, ◌++◌, length, refl, sym, ap, ◌∙◌}
 use Rattle.std.specs.Option.{option_and_then}
-use Rattle.std.specs.List.{find, list_all}
+use Rattle.std.specs.List.{list_all}
 use Rattle.std.specs.Str.{bytes_eq}
 use Rattle.std.specs.Fmt.{decimal}
 use Rattle.std.specs.Str.Parse.{digits_value}
@@ -10,7 +10,7 @@ use Rattle.std.proofs.lemmas.Slice.Eq.{bytes_eq-Decides}
 use Rattle.std.proofs.lemmas.Bool.{ne_eqb, eqb-true, leb-true, le-leb}
 use Rattle.stat_defs.specs.declared.events.Event.{Event}
 use Rattle.event_script.specs.Grammar.{Lacks}
-use Rattle.event_script.specs.Decoded.{first_line, behind_line, cut, part_then, text_of, number_of}
+use Rattle.event_script.specs.EventIn.{first_line, behind_line, cut, part_then, read_text, read_number}
 use Rattle.event_script.proofs.Splits.{lacks_first, lacks_rest}
 
 -- what was found in a chain was found at each step
@@ -83,7 +83,7 @@ line_parts (b ∷ bs) = by (line_parts bs) (b == 10)
 
 -- a text that was read as a whole is the text
 module _ (test : ℕ → Bool) (most : ℕ) where
-  pub text_is : (text x : List ℕ) → text_of test most text ≡ Some x → (text ≡ x) × (1 ≤ length x) × (length x ≤ most) × (list_all test x ≡ true)
+  pub text_is : (text x : List ℕ) → read_text test most text ≡ Some x → (text ≡ x) × (1 ≤ length x) × (length x ≤ most) × (list_all test x ≡ true)
   text_is text x e = by (nat_le 1 (length text)) refl (nat_le (length text) most) refl (list_all test text) refl e
     where
       by : (a : Bool) → nat_le 1 (length text) ≡ a → (b : Bool) → nat_le (length text) most ≡ b → (c : Bool) → list_all test text ≡ c
@@ -95,11 +95,11 @@ module _ (test : ℕ → Bool) (most : ℕ) where
       by true some false few c all e = absurd cc
       by false some b few c all e = absurd cc
 
-  pub text_reads : (text : List ℕ) → 1 ≤ length text → length text ≤ most → list_all test text ≡ true → text_of test most text ≡ Some text
+  pub text_reads : (text : List ℕ) → 1 ≤ length text → length text ≤ most → list_all test text ≡ true → read_text test most text ≡ Some text
   text_reads text some few all = rw (le-leb 1 (length text) some, le-leb (length text) most few, all) refl
 
 -- a number that was read as a whole is its decimal text
-pub number_is : (most : ℕ) (text : List ℕ) (n : ℕ) → number_of most text ≡ Some n → (text ≡ decimal n) × (n ≤ most) × (digits_value 10 text ≡ n)
+pub number_is : (most : ℕ) (text : List ℕ) (n : ℕ) → read_number most text ≡ Some n → (text ≡ decimal n) × (n ≤ most) × (digits_value 10 text ≡ n)
 number_is most text n e = by (nat_le (digits_value 10 text) most) refl (bytes_eq text (decimal (digits_value 10 text))) refl e
   where
     by : (a : Bool) → nat_le (digits_value 10 text) most ≡ a → (b : Bool) → bytes_eq text (decimal (digits_value 10 text)) ≡ b
@@ -110,7 +110,7 @@ number_is most text n e = by (nat_le (digits_value 10 text) most) refl (bytes_eq
     by true few false same e = absurd cc
     by false few b same e = absurd cc
 
-pub number_reads : (most n : ℕ) → n ≤ most → n < 2 ^ 64 → number_of most (decimal n) ≡ Some n
+pub number_reads : (most n : ℕ) → n ≤ most → n < 2 ^ 64 → read_number most (decimal n) ≡ Some n
 number_reads most n few small =
     let value = (decimal_is_IsNumeral n small).1 in
     rw (value, le-leb n most few, (bytes_eq-Decides (decimal n) (decimal n)).1 refl) refl

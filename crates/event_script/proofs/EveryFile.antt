@@ -11,13 +11,13 @@ use Rattle.event_script.specs.declared.limits.TheConstants.{MAX_FILE_BYTES}
 use Rattle.event_script.specs.declared.limits.TheConstants.{MAX_LINE_BYTES}
 use Rattle.event_script.specs.declared.limits.TheConstants.{MAX_EVENTS}
 use Rattle.event_script.specs.Grammar.{IsLineOf}
-use Rattle.event_script.specs.Script.{Reads, end_by, lines_until, FileFrom}
-use Rattle.event_script.proofs.Decided.{event_decided, passed_decided}
+use Rattle.event_script.specs.Script.{LinesGive, end_by, lines_until, FileFrom}
+use Rattle.event_script.proofs.NoEvent.{event_decided, passed_decided}
 
 module _ (stop : Pulled) where
   -- the lines have events and an end
   abbrev Told : ℕ → ℕ → List (List ℕ) → Type 0
-  Told number given lines = (events : List Event) × (end : FileEnd) × Reads number given lines stop events end
+  Told number given lines = (events : List Event) × (end : FileEnd) × LinesGive number given lines stop events end
 
   module _ (number given : ℕ) (line : List ℕ) (lines : List (List ℕ)) (short : length line ≤ MAX_LINE_BYTES) where
     told_event : (e : Event) → IsLineOf line e → Told (number + 1) (given + 1) lines → Told number given (line ∷ lines)

@@ -8,33 +8,33 @@ use Rattle.stat_defs.specs.declared.reports.FileEnd.{FileEnd}
 use Rattle.stats_io.specs.declared.pulling.Pulled.{Pulled}
 use Rattle.stats_io.specs.declared.pulling.Pulled.TheVariants.{End, TooMany, Failed}
 use Rattle.event_script.specs.declared.limits.TheConstants.{MAX_FILE_BYTES}
-use Rattle.event_script.specs.Script.{Reads, lines_until, FileFrom}
+use Rattle.event_script.specs.Script.{LinesGive, lines_until, FileFrom}
 use Rattle.stats_io.specs.States.{SourceState, IsLater}
 use Rattle.stats_io.specs.PullUpTo.{Grows, StopsBy}
-use Rattle.event_script.specs.Keeping.{IsFresh}
+use Rattle.event_script.specs.ReaderKept.{IsFresh}
 use Rattle.event_script.specs.declared.cutting.Place.{Place}
-use Rattle.event_script.specs.Reading.{Reading, MayFollow, Moves}
+use Rattle.event_script.specs.Reader.{Reading, MayFollow, Moves}
 
 module _ (old got : List ℕ) (events : List Event) (end : FileEnd) where
   -- the source stopped within the limit
-  within_limit : (stop : Pulled) → length (old ++ got) ≤ MAX_FILE_BYTES → Reads 1 0 (lines_until stop (take MAX_FILE_BYTES (old ++ got))) stop events end
+  within_limit : (stop : Pulled) → length (old ++ got) ≤ MAX_FILE_BYTES → LinesGive 1 0 (lines_until stop (take MAX_FILE_BYTES (old ++ got))) stop events end
       → FileFrom 1 0 0 (old ++ (got ++ [])) stop events end
   within_limit stop fits reads =
       let same : take MAX_FILE_BYTES (old ++ got) ≡ old ++ (got ++ []) = take_all MAX_FILE_BYTES (old ++ got) fits ∙ ap (λ l. old ++ l) (sym (append-nil got)) in
       let long : length (old ++ (got ++ [])) ≡ length (old ++ got) = ap (λ l. length (old ++ l)) (append-nil got) in
-      ((λ _. subst (λ (l : List ℕ). Reads 1 0 (lines_until stop l) stop events end) same reads), (λ big. absurd (omega arith)))
+      ((λ _. subst (λ (l : List ℕ). LinesGive 1 0 (lines_until stop l) stop events end) same reads), (λ big. absurd (omega arith)))
 
-  past_limit : (more : List ℕ) (last : Pulled) → MAX_FILE_BYTES < length (old ++ got) → Reads 1 0 (lines_until TooMany (take MAX_FILE_BYTES (old ++ got))) TooMany events end
+  past_limit : (more : List ℕ) (last : Pulled) → MAX_FILE_BYTES < length (old ++ got) → LinesGive 1 0 (lines_until TooMany (take MAX_FILE_BYTES (old ++ got))) TooMany events end
       → FileFrom 1 0 0 (old ++ (got ++ more)) last events end
   past_limit more last big reads =
       let e : old ++ (got ++ more) ≡ (old ++ got) ++ more = sym (append_assoc old got more) in
       let long : length (old ++ (got ++ more)) ≡ length (old ++ got) + length more = ap length e ∙ length-append (old ++ got) more in
       let cut : take MAX_FILE_BYTES (old ++ (got ++ more)) ≡ take MAX_FILE_BYTES (old ++ got) = ap (take MAX_FILE_BYTES) e ∙ take-append-le MAX_FILE_BYTES (old ++ got) more (omega arith) in
-      ((λ fits. absurd (omega arith)), (λ _. subst (λ (l : List ℕ). Reads 1 0 (lines_until TooMany l) TooMany events end) (sym cut) reads))
+      ((λ fits. absurd (omega arith)), (λ _. subst (λ (l : List ℕ). LinesGive 1 0 (lines_until TooMany l) TooMany events end) (sym cut) reads))
 
   pub filled : (before after : SourceState) (stop : Pulled) → StopsBy stop MAX_FILE_BYTES before after (length (old ++ got))
       → (more : List ℕ) (last : Pulled) → MayFollow (Some stop) more last
-      → Reads 1 0 (lines_until stop (take MAX_FILE_BYTES (old ++ got))) stop events end → FileFrom 1 0 0 (old ++ (got ++ more)) last events end
+      → LinesGive 1 0 (lines_until stop (take MAX_FILE_BYTES (old ++ got))) stop events end → FileFrom 1 0 0 (old ++ (got ++ more)) last events end
   filled before after End stops more last may reads = rw (may.0, may.1) (within_limit End stops.0 reads)
   filled before after Failed stops more last may reads = rw (may.0, may.1) (within_limit Failed stops.0 reads)
   filled before after TooMany stops more last may reads = past_limit more last stops reads
@@ -94,7 +94,7 @@ module _ {S : Type 0} (state : S → SourceState) (source new_source : S) (bytes
     answers = λ more last others end may comes.
         filled bytes grows.got others end (state source) (state new_source) stop
         (subst (λ (l : List ℕ). StopsBy stop MAX_FILE_BYTES (state source) (state new_source) (length l)) grows.appended stops) more last may
-        (subst (λ (l : List ℕ). Reads 1 0 (lines_until stop (take MAX_FILE_BYTES l)) stop others end) grows.appended comes);
+        (subst (λ (l : List ℕ). LinesGive 1 0 (lines_until stop (take MAX_FILE_BYTES l)) stop others end) grows.appended comes);
   }
 
   module _ (place : Place) (taken : ℕ) (stopped : Option Pulled) (ended : Option FileEnd) (none : stopped ≡ None) (is : IsFresh bytes place taken ended) where

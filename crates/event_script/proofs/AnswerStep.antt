@@ -1,34 +1,33 @@
 -- One answer of the reader.
-use Rattle.std.proofs.Common.{◌≡◌, ◌+◌, ℕ, length, Option, Some, None, MatchOption, List, [], ◌++◌, drop, refl, sym, ap, ◌∙◌, subst, arith, Result, Ok, Err, IfSome, All, ◌<◌, ◌≤◌, add-zero}
+use Rattle.std.proofs.Common.{◌≡◌, ◌+◌, ℕ, length, Option, Some, None, MatchOption, List, [], ◌++◌, drop, refl, sym, ap, ◌∙◌, subst, arith, Result, Ok, IfSome, All, ◌<◌, ◌≤◌, add-zero}
 use Rattle.std.proofs.KnownBytes.{Consumes-nil}
 use Rattle.stat_defs.specs.declared.events.Event.{Event}
 use Rattle.stat_defs.specs.declared.reports.FileEnd.{FileEnd}
 use Rattle.stats_io.specs.declared.pulling.Pulled.{Pulled}
 use Rattle.event_script.specs.declared.cutting.Place.{Place}
-use Rattle.event_script.specs.Script.{Reads, lines_until}
+use Rattle.event_script.specs.Script.{LinesGive, lines_until}
 use Rattle.stat_defs.specs.declared.reports.FileEnd.TheVariants as file
 use Rattle.stat_defs.specs.declared.reports.FileEnd.TheVariants.{NotOpened}
-use Rattle.event_script.specs.Steps.{StoppedBy}
+use Rattle.event_script.specs.Answer.{StoppedBy}
 use Rattle.stats_io.specs.States.{SourceState}
-use Rattle.event_script.specs.Reading.{Reading, Moves}
-use Rattle.event_script.proofs.Filling.{later_same, moves_trans}
-use Rattle.event_script.specs.Steps.{IsAnswer, Answers, no_answer, HasEnded, EndsBy, Explains, Follows, events_of, end_of, IfEnded, IfEvent}
-use Rattle.event_script.specs.Keeping.{IsKept}
+use Rattle.event_script.specs.Reader.{Reading, Moves}
+use Rattle.event_script.proofs.Moves.{later_same, moves_trans}
+use Rattle.event_script.specs.Answer.{IsAnswer, TellsEnd, no_answer, HasEnded, EndsBy, Explains, FollowsAnswer, events_answered, end_of, IfEnded, IfEvent}
+use Rattle.event_script.specs.ReaderKept.{IsReaderKept}
 use Rattle.event_script.specs.Grammar.{IsLawful}
 use Rattle.stat_defs.specs.Faults.{Rose}
 use Rattle.event_script.specs.declared.step.Step.{Step}
 use Rattle.event_script.specs.declared.step.Step.TheVariants as step
 use Rattle.std.proofs.lemmas.List.Elements.{All-nil}
 use Rattle.stat_defs.specs.declared.memory.NoMemory.{NoMemory}
-use Rattle.stats_io.specs.declared.pulling.TheConstants.{PULL_BYTES}
 use Rattle.stats_io.specs.declared.pulling.Pulled.TheVariants.{End, Failed, TooMany}
 use Rattle.event_script.specs.declared.limits.TheConstants.{MAX_FILE_BYTES, MAX_EVENTS}
 use Rattle.std.specs.Io.KnownBytes.{IsAtEnd}
 
 module _ {S : Type 0} (state : S → SourceState) (source : S) (bytes : List ℕ) (stop : Pulled) (place new_place : Place) (taken first : ℕ) (events : List Event) (new_ended : Option FileEnd)
     (reads : (others : List Event) (end : FileEnd)
-    → MatchOption new_ended (Reads new_place.number new_place.given (lines_until stop (drop new_place.at bytes)) stop others end) (λ ended. (others ≡ []) × (end ≡ ended))
-    → Reads place.number place.given (lines_until stop (drop place.at bytes)) stop (events ++ others) end)
+    → MatchOption new_ended (LinesGive new_place.number new_place.given (lines_until stop (drop new_place.at bytes)) stop others end) (λ ended. (others ≡ []) × (end ≡ ended))
+    → LinesGive place.number place.given (lines_until stop (drop place.at bytes)) stop (events ++ others) end)
     (given : new_place.given ≡ place.given + length events) where
   core : Moves state
       (record { source = source; number = place.number; given = place.given; offset = place.at; pending = drop place.at bytes; taken = taken; first_faults = first; stopped = Some stop; ended = None })
@@ -52,8 +51,8 @@ module _ {S : Type 0} (state : S → SourceState) (source : S) (bytes : List ℕ
 
 -- a reader does not end as a file does that was not opened
 pub last_is : (stopped : Option Pulled) (ended : Option FileEnd) (end : FileEnd) (found : Option Step) → ended ≡ Some end → StoppedBy stopped end
-    → MatchOption found (end ≡ NotOpened) (λ step. Answers (Ok step) end)
-    → MatchOption found (ended ≡ None) (λ step. (events_of (Ok step) ≡ []) × (end_of (Ok step) ≡ ended))
+    → MatchOption found (end ≡ NotOpened) (λ step. TellsEnd (Ok step) end)
+    → MatchOption found (ended ≡ None) (λ step. (events_answered (Ok step) ≡ []) × (end_of (Ok step) ≡ ended))
 last_is None ended end found is by answers = absurd by
 last_is (Some stop) ended end None is by answers = absurd (subst (λ e. EndsBy stop e) answers by)
 last_is (Some stop) ended end (Some step) is by answers = (answers.0, answers.1 ∙ sym is)
@@ -75,7 +74,7 @@ pub answer_behind : {S : Type 0} (state : S → SourceState) (a b c : Reading S)
     → IsAnswer state a b no_answer → b.number ≡ a.number → IsAnswer state b c answer → IsAnswer state a c answer
 answer_behind state a b c answer p number q = record {
   got = p.got ++ q.got;
-  moves = moves_trans state a b c p.got q.got [] (events_of answer) p.moves q.moves;
+  moves = moves_trans state a b c p.got q.got [] (events_answered answer) p.moves q.moves;
   lawful = q.lawful;
   onward = subst (λ n. IfEvent answer (n < c.number)) number q.onward;
   ended = q.ended;
@@ -102,7 +101,7 @@ explains stop source first at_end failed file.NotOpened by = absurd by
 
 module _ {S : Type 0} (state : S → SourceState) (source : S) (bytes : List ℕ) (stop : Pulled) (place new_place : Place) (taken first : ℕ)
     (stopped : Option Pulled) (ended : Option FileEnd) (is : stopped ≡ Some stop) (none : ended ≡ None)
-    (kept : IsKept bytes place taken first stopped ended (state source)) where
+    (kept : IsReaderKept bytes place taken first stopped ended (state source)) where
   abbrev pub after : Option FileEnd → Reading S
   after o = record { source = source; number = new_place.number; given = new_place.given; offset = new_place.at; pending = drop new_place.at bytes; taken = taken; first_faults = first; stopped = stopped; ended = o }
 
@@ -116,15 +115,15 @@ module _ {S : Type 0} (state : S → SourceState) (source : S) (bytes : List ℕ
 
   -- what was read on from the place is an answer
   pub answer_here : (answer : Result Step NoMemory) → new_place.at ≤ length bytes → new_place.number ≤ new_place.at + 1 → new_place.given ≤ MAX_EVENTS
-      → new_place.given ≡ place.given + length (events_of answer) → IfEvent answer (place.number < new_place.number) → All IsLawful (events_of answer) → IfEnded answer (EndsBy stop)
-      → ((others : List Event) (end : FileEnd) → Follows answer new_place.number new_place.given (lines_until stop (drop new_place.at bytes)) stop others end
-      → Reads place.number place.given (lines_until stop (drop place.at bytes)) stop (events_of answer ++ others) end)
+      → new_place.given ≡ place.given + length (events_answered answer) → IfEvent answer (place.number < new_place.number) → All IsLawful (events_answered answer) → IfEnded answer (EndsBy stop)
+      → ((others : List Event) (end : FileEnd) → FollowsAnswer answer new_place.number new_place.given (lines_until stop (drop new_place.at bytes)) stop others end
+      → LinesGive place.number place.given (lines_until stop (drop place.at bytes)) stop (events_answered answer ++ others) end)
       → IsAnswer state
       (record { source = source; number = place.number; given = place.given; offset = place.at; pending = drop place.at bytes; taken = taken; first_faults = first; stopped = stopped; ended = ended })
       (after (end_of answer)) answer
   answer_here answer within numbered few given onward lawful ends reads = record {
     got = [];
-    moves = moves_step state source bytes stop place new_place taken first (events_of answer) (end_of answer) reads given stopped ended is none;
+    moves = moves_step state source bytes stop place new_place taken first (events_answered answer) (end_of answer) reads given stopped ended is none;
     lawful = lawful;
     onward = onward;
     ended = has_ended (end_of answer) ends;
@@ -134,8 +133,7 @@ module _ {S : Type 0} (state : S → SourceState) (source : S) (bytes : List ℕ
     bound = kept.bound;
   }
 
-
-no_event : (step : Step) (fact : Type 0) → events_of (Ok step) ≡ [] → IfEvent (Ok step) fact
+no_event : (step : Step) (fact : Type 0) → events_answered (Ok step) ≡ [] → IfEvent (Ok step) fact
 no_event (step.Event e) fact none = absurd cc
 no_event step.End fact none = tt
 no_event (step.BadLine n) fact none = tt
@@ -145,7 +143,7 @@ no_event step.TooMany fact none = tt
 no_event step.ReadFault fact none = tt
 
 module _ {S : Type 0} (state : S → SourceState) (source : S) (bytes : List ℕ) (place : Place) (taken first : ℕ) (stopped : Option Pulled) (ended : Option FileEnd)
-    (kept : IsKept bytes place taken first stopped ended (state source)) where
+    (kept : IsReaderKept bytes place taken first stopped ended (state source)) where
   abbrev pub here : Reading S
   here = record { source = source; number = place.number; given = place.given; offset = place.at; pending = drop place.at bytes; taken = taken; first_faults = first; stopped = stopped; ended = ended }
 
@@ -158,7 +156,7 @@ module _ {S : Type 0} (state : S → SourceState) (source : S) (bytes : List ℕ
   few_lines (Some stop) is = omega (arith, kept.within, kept.numbered, kept.short stop is)
 
   -- the end is answered again
-  pub answer_again : (step : Step) → events_of (Ok step) ≡ [] → end_of (Ok step) ≡ ended → IsAnswer state here here (Ok step)
+  pub answer_again : (step : Step) → events_answered (Ok step) ≡ [] → end_of (Ok step) ≡ ended → IsAnswer state here here (Ok step)
   answer_again step none is = record {
     got = [];
     moves = rw none (moves_none state here);

@@ -3,8 +3,8 @@ use Rattle.std.proofs.Common.{◌≡◌, ◌≢◌, ◌==◌, false, length, get
 use native.Mathlib.Decide.{ℕ_discrete}
 use Rattle.stat_defs.specs.declared.events.Event.{Event}
 use Rattle.event_script.specs.Grammar.{IsLineOf, IsPassedOver}
-use Rattle.event_script.specs.Decoded.{event_in}
-use Rattle.event_script.proofs.Spelled.{found_in, line_says}
+use Rattle.event_script.specs.EventIn.{event_in}
+use Rattle.event_script.proofs.EventLines.{found_in, line_says}
 
 pub no_event : (line : List ℕ) → event_in line ≡ None → (e : Event) → IsLineOf line e → ⊥
 no_event line none e is = let found = sym (found_in line e is) ∙ none in absurd cc

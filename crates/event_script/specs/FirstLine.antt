@@ -3,7 +3,7 @@ use Rattle.std.specs.Prelude.{◌≡◌, ◌<◌, ◌≤◌, ◌==◌, ℕ, Bool
 use Rattle.std.specs.Char.{digit_value}
 use Rattle.std.specs.Str.Parse.{AllDigits, digits_value}
 use Rattle.stat_defs.specs.declared.events.Event.{Event}
-use Rattle.event_script.specs.Decoded.{first_line, behind_line, part_then, metric_in}
+use Rattle.event_script.specs.EventIn.{first_line, behind_line, part_then, metric_in}
 
 -- the first part reads as this, and these bytes stand behind its space
 pub record HasPart {X : Type 0} (read : List ℕ → Option X) (text : List ℕ) (x : X) (rest : List ℕ) : Type 0 where

@@ -1,21 +1,20 @@
 -- What stands in the first line of the bytes that are left.
-use Rattle.std.proofs.Common.{◌≡◌, ◌≢◌, ◌<◌, ◌≤◌, ◌+◌, ◌-◌, ◌^◌, ◌==◌, ◌⊎◌, inl, inr, ⊎_elim, ℕ, zero, suc, Bool, true, false, cond, Option, None, Some, option_map, List, [], ◌∷◌, ◌++◌, length, take, drop, get_or, refl, sym, ap, ◌∙◌, subst, arith, append_assoc, append-nil, add-zero, ◌&&◌, length-append}
+use Rattle.std.proofs.Common.{◌≡◌, ◌<◌, ◌≤◌, ◌^◌, ◌⊎◌, inl, inr, ⊎_elim, ℕ, Bool, true, false, Option, None, Some, List, [], ◌∷◌, ◌++◌, length, take, drop, get_or, refl, sym, ap, ◌∙◌, subst, arith, append_assoc, append-nil, add-zero, ◌&&◌, length-append}
 use Rattle.std.specs.List.{list_all}
 use Rattle.std.specs.Char.{digit_value}
 use Rattle.std.specs.Str.Parse.{AllDigits, digits_value}
 use Rattle.std.specs.Fmt.{decimal}
 use Rattle.std.proofs.lemmas.Fmt.{decimal_is_IsNumeral, decimal-digits_value, decimal_digit, first_decimal}
 use Rattle.std.proofs.lemmas.Str.Parse.{numerals_by_value, tells_digits, digits_value-take-le}
-use Rattle.std.proofs.lemmas.Bool.{ne_eqb, eqb-true, cases_lt}
-use Rattle.std.proofs.lemmas.List.{take-append-drop, drop_more, length-take-le, get_or-take, take_at, drop_all, get_or-drop, get_or_append_left}
-use Rattle.stat_defs.specs.declared.events.Event.{Event}
+use Rattle.std.proofs.lemmas.Bool.{cases_lt}
+use Rattle.std.proofs.lemmas.List.{take-append-drop, length-take-le, get_or-take, take_at, drop_all, get_or-drop, get_or_append_left}
 use Rattle.event_script.specs.Grammar.{Lacks}
 use Rattle.stat_defs.specs.Names.{is_printable_byte}
-use Rattle.event_script.specs.Decoded.{first_line, behind_line, part_then, text_of, number_of, readout_of, metric_in}
-use Rattle.event_script.specs.Found.{HasPart, LacksPart, HasMetric, LacksMetric, HasLine, LacksLine, is_end, HasDigits, HasMoreThan}
+use Rattle.event_script.specs.EventIn.{first_line, behind_line, part_then, read_text, read_number, read_readout}
+use Rattle.event_script.specs.FirstLine.{HasPart, LacksPart, HasLine, LacksLine, is_end, HasDigits, HasMoreThan}
 use Rattle.event_script.specs.Said.{IsRunOf, IsPart, IsNoPart, IsLast, IsNoLast}
 use Rattle.event_script.proofs.Splits.{lacks_all, lacks_cons, no_part, part_passes}
-use Rattle.event_script.proofs.Decoding.{then_at, then_none, first_behind, rest_behind, line_parts, text_is, text_reads, number_is, number_reads}
+use Rattle.event_script.proofs.PartThen.{then_at, then_none, first_behind, rest_behind, line_parts, text_is, text_reads, number_is, number_reads}
 
 module _ {X : Type 0} (read : List ℕ → Option X) (text : List ℕ) where
   pub has_part : (part rest : List ℕ) (x : X) → text ≡ part ++ 32 ∷ rest → Lacks 32 part → Lacks 10 part → read part ≡ Some x → HasPart read text x rest
@@ -46,9 +45,10 @@ module _ (text : List ℕ) (count : ℕ) (lacks : Lacks 10 (take count text)) wh
 
   pub line_whole : is_end (drop count text) ≡ true → (first_line text ≡ take count text) × (behind_line text ≡ drop count text)
   line_whole ends =
-      let here = ends_here (drop count text) ends in
-      (line_front ∙ ap (λ l. take count text ++ l) here.0 ∙ append-nil (take count text),
-      ap behind_line (sym (take-append-drop count text)) ∙ rest_behind (take count text) (drop count text) lacks ∙ here.1)
+      let here = ends_here (drop count text) ends in (
+        line_front ∙ ap (λ l. take count text ++ l) here.0 ∙ append-nil (take count text),
+        ap behind_line (sym (take-append-drop count text)) ∙ rest_behind (take count text) (drop count text) lacks ∙ here.1,
+      )
 
 -- the byte that stands behind a front
 next_byte : (text : List ℕ) (count b : ℕ) (bs : List ℕ) → drop count text ≡ b ∷ bs → (count < length text) × (get_or text count 0 ≡ b)
@@ -83,18 +83,18 @@ module _ (test : ℕ → Bool) (not_newline : test 10 ≡ false) (text : List �
       let whole = line_whole text count front_lacks (subst (λ l. is_end l ≡ true) is.behind is.ends) in
       (whole.0 ∙ sym is.first, whole.1 ∙ sym is.behind)
 
-  pub last_reads : (most : ℕ) (part after : List ℕ) → IsLast text count most part after → HasLine (text_of test most) text part after
+  pub last_reads : (most : ℕ) (part after : List ℕ) → IsLast text count most part after → HasLine (read_text test most) text part after
   last_reads most part after is =
       let front = front_is part after most is in
       record {
-        found = ap (text_of test most) front.0 ∙ text_reads test most part is.some is.few (subst (λ l. list_all test l ≡ true) (sym is.first) run.pass);
+        found = ap (read_text test most) front.0 ∙ text_reads test most part is.some is.few (subst (λ l. list_all test l ≡ true) (sym is.first) run.pass);
         behind = front.1;
       }
 
-  pub last_lacks : (most : ℕ) → IsNoLast text count most → LacksLine (text_of test most) text
-  last_lacks most none = by (text_of test most (first_line text)) refl
+  pub last_lacks : (most : ℕ) → IsNoLast text count most → LacksLine (read_text test most) text
+  last_lacks most none = by (read_text test most (first_line text)) refl
     where
-      given : (x : List ℕ) → text_of test most (first_line text) ≡ Some x → ⊥
+      given : (x : List ℕ) → read_text test most (first_line text) ≡ Some x → ⊥
       given x e =
           let is = text_is test most (first_line text) x e in
           ends (is_end (drop count text)) refl
@@ -110,29 +110,29 @@ module _ (test : ℕ → Bool) (not_newline : test 10 ≡ false) (text : List �
               let long : length x ≡ count = ap length (sym is.0 ∙ whole.0) ∙ length-take-le count text run.within in
               let refused = none (omega (arith, is.1)) (omega (arith, is.2)) in cc
 
-      by : (o : Option (List ℕ)) → text_of test most (first_line text) ≡ o → o ≡ None
+      by : (o : Option (List ℕ)) → read_text test most (first_line text) ≡ o → o ≡ None
       by None e = refl
       by (Some x) e = absurd (given x e)
 
-  pub part_reads : test 32 ≡ false → (most : ℕ) (part rest : List ℕ) → IsPart text count most part rest → HasPart (text_of test most) text part rest
+  pub part_reads : test 32 ≡ false → (most : ℕ) (part rest : List ℕ) → IsPart text count most part rest → HasPart (read_text test most) text part rest
   part_reads not_space most part rest is =
       let passes = part_passes test not_space text count most run part rest is in
-      has_part (text_of test most) text part rest part is.parted (lacks_all test 32 part not_space passes) (lacks_all test 10 part not_newline passes)
+      has_part (read_text test most) text part rest part is.parted (lacks_all test 32 part not_space passes) (lacks_all test 10 part not_newline passes)
       (text_reads test most part is.some is.few passes)
 
-  pub part_lacks : test 32 ≡ false → (most : ℕ) → IsNoPart text count most → LacksPart (text_of test most) text
-  part_lacks not_space most none = lacks_part (text_of test most) text (λ part rest x parted reads.
+  pub part_lacks : test 32 ≡ false → (most : ℕ) → IsNoPart text count most → LacksPart (read_text test most) text
+  part_lacks not_space most none = lacks_part (read_text test most) text (λ part rest x parted reads.
       let is = text_is test most part x reads in
       no_part test not_space text count most run none part rest (rw is.0 is.1) (rw is.0 is.2) (rw is.0 is.3) parted)
 
 -- the text of a readout
 module _ (text : List ℕ) (count : ℕ) (run : IsRunOf is_printable_byte text count) where
-  pub readout_reads : is_end (drop count text) ≡ true → HasLine readout_of text (take count text) (drop count text)
+  pub readout_reads : is_end (drop count text) ≡ true → HasLine read_readout text (take count text) (drop count text)
   readout_reads at_end =
       let whole = line_whole text count (front_lacks is_printable_byte refl text count run) at_end in
-      record { found = ap readout_of whole.0 ∙ rw run.pass refl; behind = whole.1 }
+      record { found = ap read_readout whole.0 ∙ rw run.pass refl; behind = whole.1 }
 
-  pub readout_lacks : is_end (drop count text) ≡ false → LacksLine readout_of text
+  pub readout_lacks : is_end (drop count text) ≡ false → LacksLine read_readout text
   readout_lacks no_end = rw (line_fails is_printable_byte refl text count run no_end) refl
 
 -- digits hold no newline
@@ -144,20 +144,20 @@ digit_in : (front : List ℕ) (b : ℕ) (back : List ℕ) → AllDigits 10 (fron
 digit_in [] b back all = all.0
 digit_in (c ∷ cs) b back all = digit_in cs b back all.1
 
-no_number : (most : ℕ) (text : List ℕ) → ((m : ℕ) → number_of most text ≡ Some m → ⊥) → number_of most text ≡ None
-no_number most text none = by (number_of most text) refl
+no_number : (most : ℕ) (text : List ℕ) → ((m : ℕ) → read_number most text ≡ Some m → ⊥) → read_number most text ≡ None
+no_number most text none = by (read_number most text) refl
   where
-    by : (o : Option ℕ) → number_of most text ≡ o → o ≡ None
+    by : (o : Option ℕ) → read_number most text ≡ o → o ≡ None
     by None e = refl
     by (Some m) e = absurd (none m e)
 
 module _ (text : List ℕ) (most : ℕ) (small : most < 2 ^ 64) where
-  pub number_over : HasMoreThan text most → LacksLine (number_of most) text
+  pub number_over : HasMoreThan text most → LacksLine (read_number most) text
   number_over over = no_number most (first_line text) (λ m e.
       let is = number_is most (first_line text) m e in
       let front = line_front text over.count (digits_lack (take over.count text) over.digits) in
       let back : take over.count (first_line text) ≡ take over.count text =
-          ap (take over.count) front ∙ take_at (take over.count text) (first_line (drop over.count text)) over.count (length-take-le over.count text over.within) in
+      ap (take over.count) front ∙ take_at (take over.count text) (first_line (drop over.count text)) over.count (length-take-le over.count text over.within) in
       let least : digits_value 10 (take over.count (first_line text)) ≤ digits_value 10 (first_line text) = digits_value-take-le 10 (first_line text) over.count (omega arith) in
       let same : digits_value 10 (take over.count (first_line text)) ≡ digits_value 10 (take over.count text) = ap (digits_value 10) back in
       omega (arith, is.1, is.2, least, same, over.over))
@@ -169,7 +169,7 @@ module _ (text : List ℕ) (most : ℕ) (small : most < 2 ^ 64) where
     long : length (take count text) ≡ count
     long = length-take-le count text has.within
 
-    pub number_goes_on : is_end (drop count text) ≡ false → LacksLine (number_of most) text
+    pub number_goes_on : is_end (drop count text) ≡ false → LacksLine (read_number most) text
     number_goes_on no_end = no_number most (first_line text) (λ m e.
         let is = number_is most (first_line text) m e in
         let on = goes_on (drop count text) no_end in
@@ -181,10 +181,10 @@ module _ (text : List ℕ) (most : ℕ) (small : most < 2 ^ 64) where
         omega (arith, high, low))
 
     -- no digit stands there
-    none_lacks : count ≡ 0 → LacksLine (number_of most) text
+    none_lacks : count ≡ 0 → LacksLine (read_number most) text
     none_lacks none = by (is_end (drop count text)) refl
       where
-        by : (b : Bool) → is_end (drop count text) ≡ b → LacksLine (number_of most) text
+        by : (b : Bool) → is_end (drop count text) ≡ b → LacksLine (read_number most) text
         by false no_end = number_goes_on no_end
         by true at_end = no_number most (first_line text) (λ m e.
             let is = number_is most (first_line text) m e in
@@ -193,30 +193,30 @@ module _ (text : List ℕ) (most : ℕ) (small : most < 2 ^ 64) where
             omega (arith, some, none, long, ap length (sym is.0 ∙ whole.0)))
 
     -- a zero stands before others
-    zero_lacks : get_or text 0 0 ≡ 48 → 1 < count → LacksLine (number_of most) text
+    zero_lacks : get_or text 0 0 ≡ 48 → 1 < count → LacksLine (read_number most) text
     zero_lacks first_zero more = no_number most (first_line text) (λ m e.
         let is = number_is most (first_line text) m e in
         let line = line_front text count lacks in
         let longer : 2 ≤ length (first_line text) = omega (arith, ap length line, length-append (take count text) (first_line (drop count text)), long, more) in
         let first : get_or (first_line text) 0 0 ≡ 48 =
-            ap (λ l. get_or l 0 0) line ∙ get_or_append_left (take count text) (first_line (drop count text)) 0 0 (omega (arith, long, more)) ∙ get_or-take count text 0 0 (omega (arith, more)) ∙ first_zero in
+        ap (λ l. get_or l 0 0) line ∙ get_or_append_left (take count text) (first_line (drop count text)) 0 0 (omega (arith, long, more)) ∙ get_or-take count text 0 0 (omega (arith, more)) ∙ first_zero in
         ⊎_elim
         (λ positive. let above = first_decimal m positive (omega (arith, is.1)) in omega (arith, above, first, ap (λ (l : List ℕ). get_or l 0 0) is.0))
         (λ none. let single : length (decimal m) ≡ 1 = ap length (decimal_digit m (omega (arith, none))) in omega (arith, single, longer, ap length is.0))
         (cases_lt 0 m))
 
-    pub number_lacks : (count ≡ 0) ⊎ ((get_or text 0 0 ≡ 48) × (1 < count)) → LacksLine (number_of most) text
+    pub number_lacks : (count ≡ 0) ⊎ ((get_or text 0 0 ≡ 48) × (1 < count)) → LacksLine (read_number most) text
     number_lacks (inl none) = none_lacks none
     number_lacks (inr first) = zero_lacks first.0 first.1
 
-    pub number_reads_here : n ≤ most → (1 ≤ count) × (get_or text 0 0 ≡ 48 → count ≡ 1) → is_end (drop count text) ≡ true → HasLine (number_of most) text n (drop count text)
+    pub number_reads_here : n ≤ most → (1 ≤ count) × (get_or text 0 0 ≡ 48 → count ≡ 1) → is_end (drop count text) ≡ true → HasLine (read_number most) text n (drop count text)
     number_reads_here few numeral at_end =
         let whole = line_whole text count lacks at_end in
         let value : digits_value 10 (take count text) ≡ n = has.value in
         let is : decimal n ≡ take count text =
-            ap decimal (sym value) ∙ decimal-digits_value (numerals_by_value _ tells_digits) (take count text) has.digits (omega (arith, long, numeral.0))
-            (λ first. long ∙ numeral.1 (sym (get_or-take count text 0 0 (omega (arith, numeral.0))) ∙ first)) (omega (arith, value, few, small)) in
+        ap decimal (sym value) ∙ decimal-digits_value (numerals_by_value _ tells_digits) (take count text) has.digits (omega (arith, long, numeral.0))
+        (λ first. long ∙ numeral.1 (sym (get_or-take count text 0 0 (omega (arith, numeral.0))) ∙ first)) (omega (arith, value, few, small)) in
         record {
-          found = ap (number_of most) (whole.0 ∙ sym is) ∙ number_reads most n few (omega (arith, few, small));
+          found = ap (read_number most) (whole.0 ∙ sym is) ∙ number_reads most n few (omega (arith, few, small));
           behind = whole.1;
         }

@@ -6,7 +6,7 @@ use Rattle.stat_defs.specs.declared.reports.FileEnd.{FileEnd}
 use Rattle.stats_io.specs.States.{SourceState, IsLater}
 use Rattle.stats_io.specs.declared.pulling.Pulled.{Pulled}
 use Rattle.stats_io.specs.declared.pulling.Pulled.TheVariants.{End, TooMany, Failed}
-use Rattle.event_script.specs.Script.{Reads, lines_until, FileFrom}
+use Rattle.event_script.specs.Script.{LinesGive, lines_until, FileFrom}
 
 -- the source, the number of the next line, the numbers of events and of bytes before it, the bytes that were taken and not yet
 -- read, the number of all that were taken, the source's count of faults at the start, how the source stopped, and the end that
@@ -32,7 +32,7 @@ Comes r more last events end =
     MatchOption r.ended
     (MatchOption r.stopped
     (FileFrom r.number r.given r.offset (r.pending ++ more) last events end)
-    (λ stop. Reads r.number r.given (lines_until stop r.pending) stop events end))
+    (λ stop. LinesGive r.number r.given (lines_until stop r.pending) stop events end))
     (λ ended. (events ≡ []) × (end ≡ ended))
 
 -- nothing comes behind the end, or behind a fault

@@ -9,7 +9,7 @@ use Rattle.stats_io.specs.declared.pulling.Pulled.{Pulled}
 use Rattle.stats_io.specs.declared.pulling.Pulled.TheVariants.{End, Failed}
 use Rattle.event_script.specs.declared.limits.TheConstants.{MAX_FILE_BYTES, MAX_EVENTS}
 use Rattle.event_script.specs.declared.cutting.Place.{Place}
-use Rattle.event_script.specs.Steps.{Explains, StoppedBy}
+use Rattle.event_script.specs.Answer.{Explains, StoppedBy}
 
 -- nothing was read before the source stopped
 pub record IsFresh (bytes : List ℕ) (place : Place) (taken : ℕ) (ended : Option FileEnd) : Type 0 where
@@ -17,7 +17,7 @@ pub record IsFresh (bytes : List ℕ) (place : Place) (taken : ℕ) (ended : Opt
   pub all : taken ≡ length bytes
   pub none_ended : ended ≡ None
 
-pub record IsKept (bytes : List ℕ) (place : Place) (taken first : ℕ) (stopped : Option Pulled) (ended : Option FileEnd) (source : SourceState) : Type 0 where
+pub record IsReaderKept (bytes : List ℕ) (place : Place) (taken first : ℕ) (stopped : Option Pulled) (ended : Option FileEnd) (source : SourceState) : Type 0 where
   pub within : place.at ≤ length bytes
   pub numbered : place.number ≤ place.at + 1
   pub few : place.given ≤ MAX_EVENTS

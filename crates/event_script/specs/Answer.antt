@@ -11,22 +11,22 @@ use Rattle.stats_io.specs.declared.pulling.Pulled.TheVariants.{End}
 use Rattle.stats_io.specs.declared.pulling.TheConstants.{PULL_BYTES}
 use Rattle.event_script.specs.declared.limits.TheConstants.{MAX_FILE_BYTES, MAX_EVENTS}
 use Rattle.event_script.specs.Grammar.{IsLawful}
-use Rattle.event_script.specs.Script.{Reads, end_by}
-use Rattle.event_script.specs.Reading.{Reading, Moves}
+use Rattle.event_script.specs.Script.{LinesGive, end_by}
+use Rattle.event_script.specs.Reader.{Reading, Moves}
 use Rattle.stats_io.specs.declared.pulling.Pulled.{Pulled}
 use Rattle.event_script.specs.declared.step.Step.{Step}
 use Rattle.event_script.specs.declared.step.Step.TheVariants as step
 
 -- the event that an answer gives, if it is one
-abbrev pub events_of : Result Step NoMemory → List Event
-events_of (Ok (step.Event e)) = e ∷ []
-events_of (Ok step.End) = []
-events_of (Ok (step.BadLine n)) = []
-events_of (Ok (step.LineTooLong n)) = []
-events_of (Ok step.TooBig) = []
-events_of (Ok step.TooMany) = []
-events_of (Ok step.ReadFault) = []
-events_of (Err e) = []
+abbrev pub events_answered : Result Step NoMemory → List Event
+events_answered (Ok (step.Event e)) = e ∷ []
+events_answered (Ok step.End) = []
+events_answered (Ok (step.BadLine n)) = []
+events_answered (Ok (step.LineTooLong n)) = []
+events_answered (Ok step.TooBig) = []
+events_answered (Ok step.TooMany) = []
+events_answered (Ok step.ReadFault) = []
+events_answered (Err e) = []
 
 -- the end of the file that an answer tells, if it tells one
 abbrev pub end_of : Result Step NoMemory → Option FileEnd
@@ -54,8 +54,8 @@ IfEvent (Ok step.ReadFault) fact = Unit {0}
 IfEvent (Err e) fact = Unit {0}
 
 -- the answer is this end of the file
-abbrev pub Answers : Result Step NoMemory → FileEnd → Type 0
-Answers answer end = (events_of answer ≡ []) × (end_of answer ≡ Some end)
+abbrev pub TellsEnd : Result Step NoMemory → FileEnd → Type 0
+TellsEnd answer end = (events_answered answer ≡ []) × (end_of answer ≡ Some end)
 
 -- the end is that of the source, or a fault of a line
 abbrev pub EndsBy : Pulled → FileEnd → Type 0
@@ -97,8 +97,8 @@ no_answer = Err (record {})
 -- within their limits, and one pull at most goes past that of the bytes.
 pub record IsAnswer {S : Type 0} (state : S → SourceState) (old new : Reading S) (answer : Result Step NoMemory) : Type 0 where
   pub got : List ℕ
-  pub moves : Moves state old new got (events_of answer)
-  pub lawful : All IsLawful (events_of answer)
+  pub moves : Moves state old new got (events_answered answer)
+  pub lawful : All IsLawful (events_answered answer)
   pub onward : IfEvent answer (old.number < new.number)
   pub ended : IfEnded answer (HasEnded state new)
   pub whole : new.stopped ≡ Some End → IsAtEnd (state new.source).left
@@ -107,6 +107,6 @@ pub record IsAnswer {S : Type 0} (state : S → SourceState) (old new : Reading 
   pub bound : new.taken ≤ MAX_FILE_BYTES + PULL_BYTES
 
 -- what comes behind the answer: nothing behind an end
-abbrev pub Follows : Result Step NoMemory → ℕ → ℕ → List (List ℕ) → Pulled → List Event → FileEnd → Type 0
-Follows answer number given lines stop events end =
-    MatchOption (end_of answer) (Reads number given lines stop events end) (λ ended. (events ≡ []) × (end ≡ ended))
+abbrev pub FollowsAnswer : Result Step NoMemory → ℕ → ℕ → List (List ℕ) → Pulled → List Event → FileEnd → Type 0
+FollowsAnswer answer number given lines stop events end =
+    MatchOption (end_of answer) (LinesGive number given lines stop events end) (λ ended. (events ≡ []) × (end ≡ ended))
