@@ -2,14 +2,15 @@
 ghost use Rattle.std.specs.Prelude.{◌≡◌, ◌<◌, ◌^◌, IfOk, IsUtf8, All, length, map};
 ghost use Rattle.tag_rules.specs.Admission.{IsReadable};
 ghost use Rattle.tag_rules.specs.Bounds.{bounds_for};
-ghost use Rattle.tag_rules.specs.Building.{BuildsOne, Builds, setting_texts};
-ghost use Rattle.tag_rules.specs.NameTests.{with_ok};
+ghost use Rattle.tag_rules.specs.Building.{Builds, setting_texts};
 ghost use Rattle.tag_rules.specs.Settings.{bucket_of};
 
+use crate::building::{Built, build_each};
 use crate::fault::{MakeFault, TagFault};
 use crate::maker::PatternMaker;
 use crate::name_test::NameTest;
 use crate::text::as_text;
+use regex_vm::Backtracker;
 use stat_defs::{Bound, BucketSpec, List, NoMemory};
 use std::alloc::Global;
 use std::marker::Model;
@@ -70,14 +71,7 @@ impl Buckets {
         requires few { length specs.now < 2 ^ 32 }
         ensures { Builds setting_texts specs.now specs.now (K.memory maker.old) (K.memory maker.new) result }
     {
-        let mut settings = Vec::new(alloc);
-        for (i, spec) in specs.iter().enumerate() {
-            match BuiltSetting::build(alloc, maker, spec) {
-                Ok(setting) => settings.push(setting)?,
-                Err(MakeFault::Refused) => return Err(TagFault::BadPattern(i as u32)),
-                Err(MakeFault::NoMemory) => return Err(TagFault::NoMemory),
-            }
-        }
+        let settings = build_each(alloc, maker, specs)?;
         Ok(Buckets { settings })
     }
 
@@ -98,24 +92,29 @@ fn bounds_in<'a>(
 ) -> Result<&'a [Bound], NoMemory>
     ensures { IfOk result (λ bounds. bounds.now ≡ bounds_for (map bucket_of settings.now) name.now) }
 {
+    let mut tracker = Backtracker::new(alloc);
     for setting in settings {
-        if setting.test.matches(alloc, name)? {
+        if setting.test.matches(alloc, &mut tracker, name)? {
             return Ok(setting.bounds.items());
         }
     }
     Ok(&DEFAULT_BOUNDS)
 }
 
-impl BuiltSetting {
-    /// Builds one setting.
+impl Built for BuiltSetting {
+    type Member = BucketSpec;
+
+    ghost texts = { setting_texts };
+
+    ghost CanBuild = { λ setting. IsReadable setting.pattern };
+
+    ghost built_from = { bucket_of };
+
     fn build<K: PatternMaker>(
         alloc: Global,
         maker: &mut K,
         spec: &BucketSpec,
-    ) -> Result<BuiltSetting, MakeFault>
-        requires { IsReadable spec.now.pattern }
-        ensures { BuildsOne setting_texts spec.now (K.memory maker.old) (K.memory maker.new) (with_ok bucket_of result) }
-    {
+    ) -> Result<BuiltSetting, MakeFault> {
         let bounds = copied(alloc, &spec.bounds)?;
         let test = NameTest::build(alloc, maker, &spec.pattern)?;
         Ok(BuiltSetting { test, bounds })

@@ -6,6 +6,10 @@ ghost use Rattle.stat_defs.specs.Names.{IsFullName};
 ghost use Rattle.tag_rules.specs.Admission.{patterns_of, IsReadable};
 ghost use Rattle.tag_rules.specs.Tagging.{IsReadableRule};
 
+use crate::buckets::Buckets;
+use crate::matcher::Matcher;
+use crate::tag_rules::TagRules;
+
 /// The rules, the matcher and the bucket settings of a lawful configuration can be built: the texts of their regular
 /// expressions are UTF-8, and the lists are short.
 pub fn config_law()
@@ -20,3 +24,12 @@ pub fn config_law()
 pub fn name_law()
     ensures { (name : List ℕ) → IsFullName name → IsUtf8 name }
 {}
+
+/// What was built may be given to another thread, and read by many at once: the code compiles.
+pub fn thread_law(rules: &TagRules, matcher: &Matcher, buckets: &Buckets) {
+    for_threads(rules);
+    for_threads(matcher);
+    for_threads(buckets);
+}
+
+fn for_threads<T: Send + Sync>(_value: &T) {}
