@@ -1,3 +1,6 @@
 pub mod Faults
 pub mod Names
+pub mod Events
 pub mod Configs
+pub mod Books
+pub mod Texts
