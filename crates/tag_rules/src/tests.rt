@@ -354,7 +354,7 @@ fn beside_regex(rt: HostRuntime) -> Result<(), Fail> {
             assert_eq!(rt; by_pattern(alloc, &pattern, name)?, wanted, "of {text} and {name}");
         }
     }
-    assert_eq!(rt; found, 140);
+    assert_eq!(rt; found, 106);
     Ok(())
 }
 
