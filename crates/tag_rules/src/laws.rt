@@ -1,8 +1,10 @@
 //! What the calls of this crate ask for holds of lawful configurations and of full names.
-ghost use Rattle.std.specs.Prelude.{◌<◌, ◌^◌, ℕ, List, IsUtf8, All, length};
+ghost use Rattle.std.specs.Prelude.{◌<◌, ◌^◌, ℕ, List, IsUtf8, All, length, map};
+ghost use Rattle.std.specs.List.Sorted.{IsStrictlyIncreasing};
 ghost use Rattle.stat_defs.specs.declared.configs.Config.{Config};
 ghost use Rattle.stat_defs.specs.Configs.{IsConfig};
 ghost use Rattle.stat_defs.specs.Names.{IsFullName};
+ghost use Rattle.tag_rules.specs.Bounds.{bounds_for};
 ghost use Rattle.tag_rules.specs.Admission.{patterns_of, IsReadable};
 ghost use Rattle.tag_rules.specs.Tagging.{IsReadableRule};
 
@@ -18,6 +20,11 @@ pub fn config_law()
         → All IsReadable (patterns_of config.matcher) × (length (patterns_of config.matcher) < 2 ^ 32) }
     ensures buckets { (config : Config) → IsConfig config
         → All (λ setting. IsReadable setting.pattern) config.buckets × (length config.buckets < 2 ^ 32) }
+{}
+
+/// The bounds of every histogram rise under a lawful configuration.
+pub fn bounds_law()
+    ensures { (config : Config) → IsConfig config → (name : List ℕ) → IsStrictlyIncreasing (map (λ bound. bound.halves) (bounds_for config.buckets name)) }
 {}
 
 /// A full name is a text.

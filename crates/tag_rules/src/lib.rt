@@ -20,7 +20,7 @@ mod text;
 
 pub use buckets::Buckets;
 pub use fault::{MakeFault, TagFault};
-pub use laws::{config_law, name_law, thread_law};
+pub use laws::{bounds_law, config_law, name_law, thread_law};
 pub use maker::PatternMaker;
 pub use matcher::Matcher;
 pub use pat::{MAX_STATES, MAX_TABLE_BYTES, Pat};

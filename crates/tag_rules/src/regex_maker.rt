@@ -39,7 +39,7 @@ impl Model for RegexMaker {
 }
 
 impl RegexMaker {
-    /// A maker that was not called yet. It takes no memory.
+    /// A maker that was not called yet.
     pub fn new(fails: Vec<u64>) -> RegexMaker
         ensures { result ≡ record { fails = fails.items; calls = 0; refusals = 0; last = []; made = [] } }
     {

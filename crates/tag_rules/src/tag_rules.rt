@@ -61,7 +61,7 @@ impl TagRules {
         Ok(TagRules { rules })
     }
 
-    /// The tags of the full name, and what of the name is left. Each rule is searched for at most once.
+    /// The tags of the full name, and what of the name is left.
     pub fn split(&self, alloc: Global, name: &[u8]) -> Result<Tagged, NoMemory>
         requires { IsUtf8 name.now }
         ensures { IfOk result (λ t. t ≡ tagged self.now name.now) }
@@ -134,11 +134,11 @@ impl TagRule {
         ensures { IfOk result (λ g. g ≡ gives name.now (spec_of self.now)) }
     {
         match &self.rule {
-            BuiltRule::Fixed(value) => Ok(Some(self.given(alloc, value.bytes(), None)?)),
+            BuiltRule::Fixed(value) => Ok(Some(self.with_value(alloc, value.bytes(), None)?)),
             BuiltRule::Regex(pattern) => match pattern.captured(alloc, tracker, name)? {
                 Some((first, value)) => {
                     let value = &name.as_bytes()[value.0..value.1];
-                    Ok(Some(self.given(alloc, value, Some(first))?))
+                    Ok(Some(self.with_value(alloc, value, Some(first))?))
                 }
                 None => Ok(None),
             },
@@ -146,7 +146,7 @@ impl TagRule {
     }
 
     // The rule's tag with that value, and the place that is removed.
-    fn given(
+    fn with_value(
         &self,
         alloc: Global,
         value: &[u8],

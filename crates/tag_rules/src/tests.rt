@@ -14,7 +14,8 @@ use std::test::Fail;
 /// is missing; the shortest text up to a dot, which may be empty; what one rule removes and so makes a match for another,
 /// which looks at the name as it was; a code, which has three digits and ends the name; a class, which has one digit before
 /// `xx`, which ends the name.
-const SPLITS: &str = "cluster.foo_cluster.upstream_rq_timeout | cluster.upstream_rq_timeout envoy.cluster_name=foo_cluster
+const SPLITS: &str =
+    "cluster.foo_cluster.upstream_rq_timeout | cluster.upstream_rq_timeout envoy.cluster_name=foo_cluster
 cluster.c.upstream_rq_2xx | cluster.upstream_rq_xx envoy.response_code_class=2 envoy.cluster_name=c
 cluster.c.upstream_rq_200 | cluster.upstream_rq envoy.response_code=200 envoy.cluster_name=c
 http.admin.downstream_rq_5xx | http.downstream_rq_xx envoy.response_code_class=5 envoy.http_conn_manager_prefix=admin
@@ -351,7 +352,11 @@ fn beside_regex(rt: HostRuntime) -> Result<(), Fail> {
         for name in NAMES.split(' ') {
             let wanted = by_regex(alloc, &other, name)?;
             found = found.wrapping_add(wanted.0 as u64);
-            assert_eq!(rt; by_pattern(alloc, &pattern, name)?, wanted, "of {text} and {name}");
+            assert_eq!(rt;
+                by_pattern(alloc, &pattern, name)?,
+                wanted,
+                "of {text} and {name}"
+            );
         }
     }
     assert_eq!(rt; found, 106);
