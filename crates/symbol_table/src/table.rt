@@ -78,6 +78,7 @@ impl SymbolTable {
         ensures uses { IfOk result (λ numbers. (n : ℕ) → uses_at self.new n ≡ uses_at self.old n + times n numbers) }
         ensures text { IfOk result (λ numbers. text_in self.new numbers ≡ name.now) }
         ensures total { OnOk result (total self.new ≡ total self.old + length (tokens name.now)) }
+        ensures table { OnOk result (IsTable self.new) }
         ensures err { OnErr result (self.new ≡ self.old) }
     {
         let parts = tokens_of(alloc, name)?;
@@ -106,6 +107,7 @@ impl SymbolTable {
         ensures dropped { self.new ≡ uncounted_all self.old name.now }
         ensures uses { (n : ℕ) → uses_at self.new n + times n name.now ≡ uses_at self.old n }
         ensures total { total self.new + length name.now ≡ total self.old }
+        ensures table { IsTable self.new }
     {
         let numbers = name.symbols();
         for n in numbers {
