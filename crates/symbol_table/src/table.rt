@@ -84,6 +84,7 @@ impl SymbolTable {
         let parts = tokens_of(alloc, name)?;
         let mut numbers = Vec::with_capacity(alloc, parts.len())?;
         self.intern_all(alloc, &parts, &mut numbers)?;
+        let _in_use = self.numbers_in_use();
         Ok(StatName::of(Numbers::of(numbers)))
     }
 
@@ -109,10 +110,21 @@ impl SymbolTable {
         ensures total { total self.new + length name.now ≡ total self.old }
         ensures table { IsTable self.new }
     {
-        let numbers = name.symbols();
+        self.drop_numbers(name.symbols());
+    }
+
+    /// Takes one use of each of these numbers away, as [`SymbolTable::drop_name`] does.
+    pub fn drop_numbers(&mut self, numbers: &[u32])
+        requires { (n : ℕ) → times n numbers.now ≤ uses_at self.old n }
+        ensures dropped { self.new ≡ uncounted_all self.old numbers.now }
+        ensures uses { (n : ℕ) → uses_at self.new n + times n numbers.now ≡ uses_at self.old n }
+        ensures total { total self.new + length numbers.now ≡ total self.old }
+        ensures table { IsTable self.new }
+    {
         for n in numbers {
             self.uncount(*n);
         }
+        let _in_use = self.numbers_in_use();
     }
 
     /// The tokens of a name, with dots between them.

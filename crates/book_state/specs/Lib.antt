@@ -1,0 +1,16 @@
+pub mod State
+pub mod Finding
+pub mod Step
+pub mod Log
+pub mod Bearing
+pub mod Safe
+pub mod RunState
+pub mod SafeLaws
+pub mod Follows
+pub mod Laws
+pub mod Worked
+pub mod SafeWorked
+pub mod Scopes
+pub mod ScopesKept
+pub mod Metrics
+pub mod MetricsKept
