@@ -8,8 +8,7 @@ use lib.Pointwise.{pointwise}
 use Rattle.stat_defs.specs.declared.configs.TheConstants.{MAX_PATTERN_BYTES, MAX_TAG_RULES, MAX_TAG_VALUE_BYTES}
 use Rattle.stat_defs.specs.declared.configs.Rule.TheVariants.{Regex, Fixed}
 use Rattle.stat_defs.specs.declared.events.TheConstants.{MAX_NAME_BYTES}
-use Rattle.stat_defs.specs.Configs.{is_printable_byte}
-use Rattle.stat_defs.specs.Names.{is_name_byte}
+use Rattle.stat_defs.specs.Names.{is_name_byte, is_printable_byte}
 use Rattle.serde_json.specs.Data.{Items, no_items, item, Data, string}
 use Rattle.boot_file.specs.declared.default_tags.DefaultTag.{DefaultTag}
 use Rattle.boot_file.specs.declared.default_tags.DefaultTag.TheVariants.{ResponseCode, ResponseCodeClass, ClusterName, ConnManagerPrefix}

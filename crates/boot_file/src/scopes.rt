@@ -3,24 +3,21 @@ ghost use Rattle.std.specs.Prelude.{◌≡◌, ◌==◌, ◌≢◌, ◌<◌, ◌
 ghost use Rattle.std.specs.List.{list_all};
 ghost use Rattle.serde_json.specs.View.{view, items_view};
 ghost use Rattle.stat_defs.specs.Configs.{IsScopeSpec, AreScopes};
-ghost use Rattle.stat_defs.specs.Names.{is_label_byte, IsLabel, IsScopePrefix};
+ghost use Rattle.stat_defs.specs.Names as names;
+ghost use Rattle.stat_defs.specs.Names.{IsLabel, IsScopePrefix};
 ghost use Rattle.boot_values.specs.Gives.{Gives};
 ghost use Rattle.boot_file.specs.Scoping.{is_label, is_scope_prefix, without_dot, is_taken, label_at, prefix_at, scope_at, root, scopes_from, scopes_of};
 
 use crate::tags::has_name_bytes;
 use boot_values::{BootFault, Place, bad_part, items_at, member};
 use serde_json::Value;
-use stat_defs::{List, MAX_LABEL_BYTES, MAX_NAME_BYTES, MAX_SCOPES, NoMemory, ScopeSpec, Txt};
+use stat_defs::{
+    List, MAX_LABEL_BYTES, MAX_NAME_BYTES, MAX_SCOPES, NoMemory, ScopeSpec, Txt, is_label_byte,
+};
 use std::alloc::Global;
 
-fn is_label_byte(b: u8) -> bool
-    ensures { result ≡ is_label_byte b }
-{
-    b'0' <= b && b <= b'9' || b'A' <= b && b <= b'Z' || b'a' <= b && b <= b'z' || b == b'_'
-}
-
 fn has_label_bytes(text: &[u8]) -> bool
-    ensures { result ≡ list_all is_label_byte text.now }
+    ensures { result ≡ list_all names.is_label_byte text.now }
 {
     text.iter().all(|b| is_label_byte(*b))
 }

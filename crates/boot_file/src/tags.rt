@@ -2,8 +2,9 @@
 ghost use Rattle.std.specs.Prelude.{◌≡◌, ◌≢◌, ◌<◌, ◌≤◌, ◌+◌, ◌^◌, codes, length, [], All, Option, Some, None, Ok, Err, IsTrue, MatchResult, IfOk, option_map};
 ghost use Rattle.std.specs.List.{list_all};
 ghost use Rattle.serde_json.specs.View.{view, items_view};
-ghost use Rattle.stat_defs.specs.Configs.{is_printable_byte, IsRule};
-ghost use Rattle.stat_defs.specs.Names.{is_name_byte, IsLocalName};
+ghost use Rattle.stat_defs.specs.Configs.{IsRule};
+ghost use Rattle.stat_defs.specs.Names as names;
+ghost use Rattle.stat_defs.specs.Names.{is_printable_byte, IsLocalName};
 ghost use Rattle.boot_values.specs.Gives.{Gives};
 ghost use Rattle.boot_file.specs.Lawful.{IsPlacedTag};
 ghost use Rattle.boot_file.specs.Tags.{called, placed, defaults_where, is_local_name, is_regex_text, is_fixed_text, tag_name_at, default_at, regex_at, fixed_at, rule_at, tag_at, tags_from, tags_of};
@@ -13,19 +14,13 @@ use boot_values::{BootFault, Place, items_at, member, path_of, switch_at};
 use serde_json::Value;
 use stat_defs::{
     MAX_NAME_BYTES, MAX_PATTERN_BYTES, MAX_TAG_RULES, MAX_TAG_VALUE_BYTES, NoMemory, Rule, TagSpec,
-    Txt,
+    Txt, is_name_byte,
 };
 use std::alloc::Global;
 
-fn is_name_byte(b: u8) -> bool
-    ensures { result ≡ is_name_byte b }
-{
-    b'!' <= b && b <= b'~'
-}
-
 /// Whether all bytes are printable and no spaces.
 pub(crate) fn has_name_bytes(text: &[u8]) -> bool
-    ensures { result ≡ list_all is_name_byte text.now }
+    ensures { result ≡ list_all names.is_name_byte text.now }
 {
     text.iter().all(|b| is_name_byte(*b))
 }

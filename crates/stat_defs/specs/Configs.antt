@@ -1,5 +1,5 @@
 -- What every configuration keeps (Envoy's statistics configuration reference; the limits are this project's own).
-use Rattle.std.specs.Prelude.{◌≡◌, ◌≢◌, ◌≤◌, ◌+◌, ◌*◌, ℕ, Bool, true, ◌&&◌, nat_le, List, [], ◌∷◌, length, map, All, codes}
+use Rattle.std.specs.Prelude.{◌≡◌, ◌≢◌, ◌≤◌, ◌+◌, ◌*◌, ℕ, true, List, [], ◌∷◌, length, map, All, codes}
 use Rattle.std.specs.List.{list_all, AllPairs, AllZip}
 use Rattle.std.specs.List.Sorted.{IsStrictlyIncreasing}
 use Rattle.std.specs.Str.{IsUtf8}
@@ -15,7 +15,7 @@ use Rattle.stat_defs.specs.declared.configs.BucketSpec.{BucketSpec}
 use Rattle.stat_defs.specs.declared.configs.ScopeSpec.{ScopeSpec}
 use Rattle.stat_defs.specs.declared.configs.Config.{Config}
 use Rattle.stat_defs.specs.declared.configs.TheConstants.{MAX_TAG_RULES, MAX_PATTERNS, MAX_PATTERN_BYTES, MAX_TAG_VALUE_BYTES, MAX_BUCKET_SETTINGS, MAX_BOUNDS, MAX_BOUND, MAX_SCOPES, MAX_FLUSHES, MAX_FLUSH_EVERY}
-use Rattle.stat_defs.specs.Names.{IsLabel, IsLocalName, IsScopePrefix}
+use Rattle.stat_defs.specs.Names.{is_printable_byte, IsLabel, IsLocalName, IsScopePrefix}
 
 -- the text of a pattern is UTF-8 and has at most 1,024 bytes
 pub record IsPatternText (text : List ℕ) : Type 0 where
@@ -28,10 +28,6 @@ text_of (pattern.Prefix text) = text
 text_of (pattern.Suffix text) = text
 text_of (pattern.Contains text) = text
 text_of (pattern.SafeRegex text) = text
-
--- a space or another printable byte
-abbrev pub is_printable_byte : ℕ → Bool
-is_printable_byte b = nat_le 32 b && nat_le b 126
 
 -- a regular expression has 1 to 1,024 bytes, a fixed value at most 255 printable ones
 abbrev pub IsRule : Rule → Type 0

@@ -11,6 +11,10 @@ is_label_byte b = (nat_le 48 b && nat_le b 57) || (nat_le 65 b && nat_le b 90) |
 abbrev pub is_name_byte : ℕ → Bool
 is_name_byte b = nat_le 33 b && nat_le b 126
 
+-- a space or another printable byte
+abbrev pub is_printable_byte : ℕ → Bool
+is_printable_byte b = nat_le 32 b && nat_le b 126
+
 -- a scope's label has 1 to 32 letters, digits and low lines
 pub record IsLabel (label : List ℕ) : Type 0 where
   pub not_empty : 1 ≤ length label

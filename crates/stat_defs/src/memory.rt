@@ -1,10 +1,21 @@
 //! Want of memory.
 
 use std::alloc::{AllocError, AllocFailed};
+use std::fmt::{Display, Formatter, Result as Written, Write};
 
 /// There was no memory. After this answer the object is as it was, where its call says nothing else.
 #[derive(Clone, Copy, Debug, PartialEq, Eq)]
 pub struct NoMemory;
+
+impl Display for NoMemory {
+    ghost use Rattle.std.specs.Prelude.{Some, codes};
+
+    ghost output = { λ _. Some (codes "out of memory") };
+
+    fn fmt<W: Write>(&self, f: &mut Formatter<W>) -> Written {
+        f.write_str("out of memory")
+    }
+}
 
 impl From<AllocError> for NoMemory {
     fn from(_: AllocError) -> Self {

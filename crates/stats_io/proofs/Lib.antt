@@ -1,3 +1,3 @@
 pub mod Pieces
-pub mod Held
-pub mod Fronts
+pub mod FirstNamed
+pub mod Front

@@ -1,7 +1,11 @@
-pub mod Pulls
-pub mod Pushes
-pub mod Feed
-pub mod Files
-pub mod Edge
+pub mod States
+pub mod Pull
+pub mod Push
+pub mod Open
+pub mod OpenFault
+pub mod PullUpTo
 pub mod Told
-pub mod Limits
+pub mod MemSource
+pub mod MemSink
+pub mod MemShelf
+pub mod Adapters

@@ -1,5 +1,6 @@
-//! Files and streams of the system, the trusted edge: they count their failures and tell no content.
-ghost use Rattle.std.specs.Prelude.{◌≡◌, None, []};
+//! Readers, writers and the files of the system, the trusted edge. They count their failures, and tell the bytes that std tells of
+//! a reader or a writer: of files and streams of the system, none.
+ghost use Rattle.std.specs.Prelude.{None, []};
 
 use crate::shelf::{OpenFault, Shelf};
 use crate::sink::{Push, Sink};
@@ -20,19 +21,30 @@ pub struct FileSource<F> {
 
 impl<F> Model for FileSource<F> {
     ghost use Rattle.std.specs.Prelude.{string_bytes};
-    ghost use Rattle.stats_io.specs.Edge.{OpenFile};
+    ghost use Rattle.stats_io.specs.Adapters.{FileSourceState};
 
-    ghost Value = { OpenFile };
+    ghost Value = { FileSourceState F };
 
-    ghost view = { λ s. record { name = string_bytes s.name; faults = s.faults } };
+    ghost view = { λ s. record { reader = s.inner; name = string_bytes s.name; faults = s.faults } };
+}
+
+impl<F> FileSource<F> {
+    ghost use Rattle.std.specs.Prelude.{◌≡◌, string_bytes};
+
+    /// A reader under that name, whose reads have not failed yet.
+    pub fn new(inner: F, name: String) -> FileSource<F>
+        ensures { result ≡ record { reader = inner; name = string_bytes name; faults = 0 } }
+    {
+        FileSource {
+            inner,
+            name,
+            faults: 0,
+        }
+    }
 }
 
 impl<F: Read> Source for FileSource<F> {
-    ghost left = { λ _. None };
-
-    ghost origin = { λ s. s.name };
-
-    ghost faults = { λ s. s.faults };
+    ghost state = { λ s. record { left = F.remaining s.reader; origin = s.name; faults = s.faults } };
 
     fn pull(&mut self, into: &mut [u8]) -> Pull {
         match self.inner.read(into) {
@@ -59,15 +71,17 @@ pub struct FolderShelf<'a, R> {
 }
 
 impl<'a, R> Model for FolderShelf<'a, R> {
-    ghost use Rattle.stats_io.specs.Edge.{Folder};
-    ghost use Rattle.stats_io.specs.Files.{last_name};
+    ghost use Rattle.stats_io.specs.States.{ShelfState};
+    ghost use Rattle.stats_io.specs.Adapters.{last_name};
 
-    ghost Value = { Folder };
+    ghost Value = { ShelfState };
 
     ghost view = { λ s. record { faults = s.faults; failed = last_name s.failed } };
 }
 
 impl<'a, R: Files> FolderShelf<'a, R> {
+    ghost use Rattle.std.specs.Prelude.{◌≡◌};
+
     /// The folder, on which no opening has failed yet.
     pub fn new(rt: &'a R) -> FolderShelf<'a, R>
         ensures { result ≡ record { faults = 0; failed = [] } }
@@ -88,18 +102,12 @@ where
 
     ghost holds = { λ s name. None };
 
-    ghost faults = { λ s. s.faults };
-
-    ghost failed = { λ s. s.failed };
+    ghost state = { λ s. s };
 
     fn open(&mut self, alloc: Global, name: &str) -> Result<FileSource<R::File>, OpenFault> {
         let copy = String::from_str(alloc, name)?;
         match fs::open(self.rt, name) {
-            Ok(inner) => Ok(FileSource {
-                inner,
-                name: copy,
-                faults: 0,
-            }),
+            Ok(inner) => Ok(FileSource::new(inner, copy)),
             Err(_) => {
                 self.faults = self.faults.saturating_add(1);
                 self.failed = Some(copy);
@@ -113,7 +121,7 @@ where
     }
 }
 
-/// A standard stream, or another writer. Contracts see it as its count of faults. A write of no bytes counts as a failure.
+/// A standard stream, or another writer. A write that fails is counted, and so is one that takes no bytes.
 #[derive(Drop)]
 pub struct StdSink<W> {
     inner: W,
@@ -121,26 +129,26 @@ pub struct StdSink<W> {
 }
 
 impl<W> Model for StdSink<W> {
-    ghost use Rattle.std.specs.Prelude.{ℕ};
+    ghost use Rattle.stats_io.specs.Adapters.{StdSinkState};
 
-    ghost Value = { ℕ };
+    ghost Value = { StdSinkState W };
 
-    ghost view = { λ s. s.faults };
+    ghost view = { λ s. record { writer = s.inner; faults = s.faults } };
 }
 
-impl<W: Write> StdSink<W> {
+impl<W> StdSink<W> {
+    ghost use Rattle.std.specs.Prelude.{◌≡◌};
+
     /// A sink whose writes have not failed yet.
     pub fn new(inner: W) -> StdSink<W>
-        ensures { result ≡ 0 }
+        ensures { result ≡ record { writer = inner; faults = 0 } }
     {
         StdSink { inner, faults: 0 }
     }
 }
 
 impl<W: Write> Sink for StdSink<W> {
-    ghost written = { λ _. None };
-
-    ghost faults = { λ s. s };
+    ghost state = { λ s. record { written = W.contents s.writer; faults = s.faults } };
 
     fn push(&mut self, piece: &[u8]) -> Push {
         match self.inner.write(piece) {

@@ -1,7 +1,6 @@
 //! Files of a shelf in memory.
 ghost use Rattle.std.specs.Prelude.{◌≡◌, MatchOption, None, map};
-ghost use Rattle.stats_io.specs.Feed.{file_named};
-ghost use Rattle.stats_io.specs.Files.{stored, IsFirstNamed};
+ghost use Rattle.stats_io.specs.MemShelf.{mem_file, file_named, IsFirstNamed};
 
 /// A file of a shelf in memory: what a source that is opened on it gives, in pieces of at most `piece` bytes, at least 1.
 /// Its pulls whose numbers, from 0, stand in `fails` fail.
@@ -15,7 +14,7 @@ pub struct MemFile {
 
 // The place of the first file of that name.
 pub fn first_named(files: &[MemFile], name: &str) -> Option<usize>
-    ensures { MatchOption result (file_named (map stored files.now) name.now ≡ None)
+    ensures { MatchOption result (file_named (map mem_file files.now) name.now ≡ None)
         (λ place. IsFirstNamed files.now place name.now) }
 {
     for (place, file) in files.iter().enumerate() {

@@ -18,7 +18,7 @@ pub use file::MemFile;
 pub use mem_shelf::MemShelf;
 pub use mem_sink::MemSink;
 pub use mem_source::{MemSource, SureSource};
-pub use pulling::{Pulled, pull_up_to};
+pub use pulling::{PULL_BYTES, Pulled, pull_up_to};
 pub use shelf::{OpenFault, Shelf};
 pub use sink::{Push, Sink, WriteFault, push_all};
 pub use source::{Pull, Source};

@@ -1,7 +1,8 @@
 //! A shelf in memory.
-ghost use Rattle.std.specs.Prelude.{◌≡◌, ◌≤◌, ◌+◌, ◌-◌, ◌^◌, ◌⊎◌, ℕ, List, Some, None, [], map, All, IfOk, OnOk, Contains, min};
-ghost use Rattle.stats_io.specs.Feed.{IsFeedOf, file_named, held_by};
-ghost use Rattle.stat_defs.specs.Faults.{Rose};
+ghost use Rattle.std.specs.Prelude.{◌≡◌, ◌≢◌, ◌≤◌, ◌+◌, ◌-◌, ◌^◌, ◌⊎◌, ℕ, List, None, [], map, All, Err, IfOk, OnOk, Contains, min};
+ghost use Rattle.stats_io.specs.Open.{IsUnpulled, IsUnopened};
+ghost use Rattle.stats_io.specs.MemSource.{as_source};
+ghost use Rattle.stats_io.specs.MemShelf.{IsSourceOf, as_shelf, file_named, held_by};
 
 use crate::file::{MemFile, first_named};
 use crate::mem_source::MemSource;
@@ -22,13 +23,12 @@ pub struct MemShelf {
 
 impl Model for MemShelf {
     ghost use Rattle.std.specs.Prelude.{map, All};
-    ghost use Rattle.stats_io.specs.Feed.{Rack};
-    ghost use Rattle.stats_io.specs.Files.{stored, HasPiece, last_failed};
+    ghost use Rattle.stats_io.specs.MemShelf.{MemShelfState, mem_file, HasPiece, last_failed};
 
-    ghost Value = { Rack };
+    ghost Value = { MemShelfState };
 
     ghost view = { λ s. record {
-      files = map stored s.files.items;
+      files = map mem_file s.files.items;
       fails = s.fails.items;
       calls = s.calls;
       faults = s.faults;
@@ -39,13 +39,13 @@ impl Model for MemShelf {
 }
 
 impl MemShelf {
-    ghost use Rattle.stats_io.specs.Files.{stored, HasPiece};
+    ghost use Rattle.stats_io.specs.MemShelf.{mem_file, HasPiece};
 
     /// A shelf of these files, on which nothing was opened yet.
     pub fn new(files: Vec<MemFile>, fails: Vec<u64>) -> MemShelf
         requires { All HasPiece files.items }
         ensures { result ≡ record {
-          files = map stored files.items;
+          files = map mem_file files.items;
           fails = fails.items;
           calls = 0;
           faults = 0;
@@ -82,29 +82,22 @@ impl Shelf for MemShelf {
 
     ghost holds = { λ s name. held_by s.files name };
 
-    ghost faults = { λ s. s.faults };
-
-    ghost failed = { λ s. s.failed };
+    ghost state = { as_shelf };
 
     fn open(&mut self, alloc: Global, name: &str) -> Result<MemSource, OpenFault>
-        ensures left { IfOk result (λ source. Some source.left ≡ held_by self.old.files name.now) }
-        ensures origin { IfOk result (λ source. source.origin ≡ name.now) }
-        ensures fresh { IfOk result (λ source. source.faults ≡ 0) }
-        ensures rose { result ≡ Err OpenFault.Failed → Rose self.old.faults self.new.faults }
-        ensures name { result ≡ Err OpenFault.Failed → self.new.failed ≡ name.now }
-        ensures opened { OnOk result (self.new.faults ≡ self.old.faults) }
-        ensures opened_name { OnOk result (self.new.failed ≡ self.old.failed) }
-        ensures no_memory { result ≡ Err OpenFault.NoMemory → self.new.faults ≡ self.old.faults }
-        ensures no_memory_name { result ≡ Err OpenFault.NoMemory → self.new.failed ≡ self.old.failed }
-        ensures kept { (other : List ℕ) → held_by self.new.files other ≡ held_by self.old.files other }
+        ensures opened { IfOk result (λ source. IsUnpulled (held_by self.old.files name.now) name.now (as_source source)) }
+        ensures failed { result ≡ Err OpenFault.Failed → IsUnopened name.now (as_shelf self.old) (as_shelf self.new) }
+        ensures kept { result ≢ Err OpenFault.Failed → as_shelf self.new ≡ as_shelf self.old }
+        ensures contents { (other : List ℕ) → held_by self.new.files other ≡ held_by self.old.files other }
         ensures later { self.old.faults ≤ self.new.faults }
 
         // Which openings fail, and what an opened source is.
-        ensures source { IfOk result (λ source. IsFeedOf name.now (file_named self.old.files name.now) source) }
+        ensures source { IfOk result (λ source. IsSourceOf name.now (file_named self.old.files name.now) source) }
         ensures sure { OnOk result (¬ (Contains self.old.fails self.old.calls)) }
         ensures fails { result ≡ Err OpenFault.Failed
             → Contains self.old.fails self.old.calls ⊎ (file_named self.old.files name.now ≡ None) }
-        ensures same { (self.new.files ≡ self.old.files) × (self.new.fails ≡ self.old.fails) }
+        ensures same_files { self.new.files ≡ self.old.files }
+        ensures same_fails { self.new.fails ≡ self.old.fails }
         ensures calls { ¬ (result ≡ Err OpenFault.NoMemory) → self.new.calls ≡ min (self.old.calls + 1) (2 ^ 64 - 1) }
         ensures unchanged { result ≡ Err OpenFault.NoMemory → self.new ≡ self.old }
     {

@@ -1,7 +1,8 @@
 //! A sink in memory.
-ghost use Rattle.std.specs.Prelude.{◌≡◌, ◌<◌, ◌≤◌, ◌⊎◌, Some, [], length, IfOk, Contains, min, ◌+◌, ◌-◌, ◌^◌};
-ghost use Rattle.stats_io.specs.Pushes.{IfTook, FitsPiece, Pushes};
+ghost use Rattle.std.specs.Prelude.{◌≡◌, ◌<◌, ◌≤◌, ◌⊎◌, [], length, IfOk, Contains, min, ◌+◌, ◌-◌, ◌^◌};
 ghost use Rattle.stat_defs.specs.Faults.{Rose};
+ghost use Rattle.stats_io.specs.Push.{IfTook, FitsPiece, Pushes};
+ghost use Rattle.stats_io.specs.MemSink.{as_sink};
 
 use crate::sink::{Push, Sink};
 use stat_defs::NoMemory;
@@ -22,9 +23,9 @@ pub struct MemSink {
 
 impl Model for MemSink {
     ghost use Rattle.std.specs.Prelude.{◌≤◌, length, vec_capacity};
-    ghost use Rattle.stats_io.specs.Feed.{Tray};
+    ghost use Rattle.stats_io.specs.MemSink.{MemSinkState};
 
-    ghost Value = { Tray };
+    ghost Value = { MemSinkState };
 
     ghost view = { λ s. record {
       written = s.bytes.items;
@@ -75,21 +76,23 @@ impl MemSink {
 }
 
 impl Sink for MemSink {
-    ghost written = { λ s. Some s.written };
-
-    ghost faults = { λ s. s.faults };
+    ghost state = { as_sink };
 
     fn push(&mut self, piece: &[u8]) -> Push
         requires { 0 < length piece.now }
         ensures bound { FitsPiece result (length piece.now) }
-        ensures bytes { Pushes (Some self.old.written) (Some self.new.written) result piece.now }
+        ensures bytes { Pushes (as_sink self.old) (as_sink self.new) result piece.now }
         ensures later { self.old.faults ≤ self.new.faults }
         ensures failed { result ≡ Push.Failed → Rose self.old.faults self.new.faults }
-        ensures fits { IfTook result (λ k. k ≡ min (min (length piece.now) self.old.piece) (self.old.room - length self.old.written)) }
+        ensures fits { IfTook result
+            (λ k. k ≡ min (min (length piece.now) self.old.piece) (self.old.room - length self.old.written)) }
         ensures kept { IfTook result (λ _. self.new.faults ≡ self.old.faults) }
         ensures sure { IfTook result (λ _. ¬ (Contains self.old.fails self.old.calls)) }
-        ensures fails { result ≡ Push.Failed → Contains self.old.fails self.old.calls ⊎ (length self.old.written ≡ self.old.room) }
-        ensures same { (self.new.piece ≡ self.old.piece) × (self.new.fails ≡ self.old.fails) × (self.new.room ≡ self.old.room) }
+        ensures fails { result ≡ Push.Failed
+            → Contains self.old.fails self.old.calls ⊎ (length self.old.written ≡ self.old.room) }
+        ensures same_piece { self.new.piece ≡ self.old.piece }
+        ensures same_fails { self.new.fails ≡ self.old.fails }
+        ensures same_room { self.new.room ≡ self.old.room }
         ensures calls { self.new.calls ≡ min (self.old.calls + 1) (2 ^ 64 - 1) }
     {
         let call = self.calls;

@@ -1,7 +1,9 @@
 //! Sources in memory.
-ghost use Rattle.std.specs.Prelude.{◌≡◌, ◌<◌, ◌≤◌, ◌↔◌, Some, length, string_bytes, Contains, min, ◌+◌, ◌-◌, ◌^◌};
-ghost use Rattle.stats_io.specs.Pulls.{IfBytes, FitsRoom, Pulls};
+ghost use Rattle.std.specs.Prelude.{◌≡◌, ◌<◌, ◌≤◌, ◌↔◌, length, string_bytes, Contains, min, ◌+◌, ◌-◌, ◌^◌};
 ghost use Rattle.stat_defs.specs.Faults.{Rose};
+ghost use Rattle.stats_io.specs.States.{IsLater};
+ghost use Rattle.stats_io.specs.Pull.{IfBytes, FitsRoom, Pulls};
+ghost use Rattle.stats_io.specs.MemSource.{as_source, as_sure_source};
 
 use crate::source::{Pull, Source};
 use std::marker::Model;
@@ -20,9 +22,9 @@ pub struct MemSource {
 
 impl Model for MemSource {
     ghost use Rattle.std.specs.Prelude.{◌≤◌, drop, length, string_bytes};
-    ghost use Rattle.stats_io.specs.Feed.{Feed};
+    ghost use Rattle.stats_io.specs.MemSource.{MemSourceState};
 
-    ghost Value = { Feed };
+    ghost Value = { MemSourceState };
 
     ghost view = { λ s. record {
       origin = string_bytes s.origin;
@@ -62,23 +64,19 @@ impl MemSource {
 }
 
 impl Source for MemSource {
-    ghost left = { λ s. Some s.left };
-
-    ghost origin = { λ s. s.origin };
-
-    ghost faults = { λ s. s.faults };
+    ghost state = { as_source };
 
     fn pull(&mut self, into: &mut [u8]) -> Pull
         requires { 0 < length into.old }
         ensures bound { FitsRoom result (length into.old) }
-        ensures bytes { Pulls (Some self.old.left) (Some self.new.left) result into.new }
-        ensures later { self.old.faults ≤ self.new.faults }
+        ensures bytes { Pulls (as_source self.old) (as_source self.new) result into.new }
         ensures failed { result ≡ Pull.Failed → Rose self.old.faults self.new.faults }
-        ensures origin { self.new.origin ≡ self.old.origin }
+        ensures later { IsLater (as_source self.old) (as_source self.new) }
         ensures fails { (result ≡ Pull.Failed) ↔ Contains self.old.fails self.old.calls }
         ensures whole_piece { IfBytes result (λ k. k ≡ min (min (length self.old.left) self.old.piece) (length into.old)) }
         ensures sure { ¬ (result ≡ Pull.Failed) → self.new.faults ≡ self.old.faults }
-        ensures same { (self.new.piece ≡ self.old.piece) × (self.new.fails ≡ self.old.fails) }
+        ensures same_piece { self.new.piece ≡ self.old.piece }
+        ensures same_fails { self.new.fails ≡ self.old.fails }
         ensures calls { self.new.calls ≡ min (self.old.calls + 1) (2 ^ 64 - 1) }
     {
         let call = self.calls;
@@ -113,9 +111,9 @@ pub struct SureSource {
 
 impl Model for SureSource {
     ghost use Rattle.std.specs.Prelude.{◌≤◌, drop, length, string_bytes};
-    ghost use Rattle.stats_io.specs.Feed.{SureFeed};
+    ghost use Rattle.stats_io.specs.MemSource.{SureSourceState};
 
-    ghost Value = { SureFeed };
+    ghost Value = { SureSourceState };
 
     ghost view = { λ s. record {
       origin = string_bytes s.origin;
@@ -146,18 +144,14 @@ impl SureSource {
 }
 
 impl Source for SureSource {
-    ghost left = { λ s. Some s.left };
-
-    ghost origin = { λ s. s.origin };
-
-    ghost faults = { λ s. 0 };
+    ghost state = { as_sure_source };
 
     fn pull(&mut self, into: &mut [u8]) -> Pull
         requires { 0 < length into.old }
         ensures bound { FitsRoom result (length into.old) }
-        ensures bytes { Pulls (Some self.old.left) (Some self.new.left) result into.new }
+        ensures bytes { Pulls (as_sure_source self.old) (as_sure_source self.new) result into.new }
+        ensures later { IsLater (as_sure_source self.old) (as_sure_source self.new) }
         ensures sure { ¬ (result ≡ Pull.Failed) }
-        ensures origin { self.new.origin ≡ self.old.origin }
         ensures whole_piece { IfBytes result (λ k. k ≡ min (min (length self.old.left) self.old.piece) (length into.old)) }
         ensures same { self.new.piece ≡ self.old.piece }
     {

@@ -1,13 +1,15 @@
 //! A source, pulled up to a limit.
-ghost use Rattle.std.specs.Prelude.{◌≡◌, ◌<◌, ◌≤◌, IfOk, length};
-ghost use Rattle.stats_io.specs.Limits.{Grows, Stops};
+ghost use Rattle.std.specs.Prelude.{◌≡◌, ◌<◌, ◌≤◌, ◌+◌, max, IfOk, length};
+ghost use Rattle.stats_io.specs.States.{IsLater};
+ghost use Rattle.stats_io.specs.PullUpTo.{Grows, StopsBy};
+ghost use Rattle.stats_io.specs.declared.pulling.TheConstants as limits;
 
 use crate::source::{Pull, Source};
 use stat_defs::NoMemory;
 use std::alloc::Global;
 
-// A pull has room for so many bytes.
-const PULL_BYTES: usize = 65_536;
+/// A pull takes at most so many bytes.
+pub const PULL_BYTES: usize = 65_536;
 
 /// Where the pulling of a source stopped: at its end, at its first fault, or at the first byte too many.
 #[derive(Clone, Copy, Debug, PartialEq, Eq)]
@@ -25,18 +27,18 @@ fn zeros(alloc: Global, count: usize) -> Result<Vec<u8>, NoMemory>
 }
 
 /// Pulls the source until it ends, fails or has given so many bytes that there are more than `limit`, and adds what came
-/// behind the bytes that are there. Less than `limit` and two pieces of 65,536 bytes are held. Without memory the bytes
-/// that came before stay.
+/// behind the bytes that are there. One pull at most goes past the limit (`bound`). Without memory the bytes that came before
+/// stay.
 pub fn pull_up_to<S: Source>(
     alloc: Global,
     source: &mut S,
     limit: usize,
     bytes: &mut Vec<u8>,
 ) -> Result<Pulled, NoMemory>
-    ensures got { Grows (S.left source.old) (S.left source.new) bytes.old.items bytes.new.items }
-    ensures stops { IfOk result (λ stop. Stops limit (S.left source.new) (S.faults source.old) (S.faults source.new) (length bytes.new.items) stop) }
-    ensures later { S.faults source.old ≤ S.faults source.new }
-    ensures origin { S.origin source.new ≡ S.origin source.old }
+    ensures got { Grows (S.state source.old) (S.state source.new) bytes.old.items bytes.new.items }
+    ensures stops { IfOk result (λ by. StopsBy by limit (S.state source.old) (S.state source.new) (length bytes.new.items)) }
+    ensures bound { length bytes.new.items ≤ max (length bytes.old.items) (limit + limits.PULL_BYTES) }
+    ensures later { IsLater (S.state source.old) (S.state source.new) }
 {
     let mut chunk = zeros(alloc, PULL_BYTES)?;
     pull_by(source, limit, bytes, &mut chunk)
@@ -50,10 +52,10 @@ fn pull_by<S: Source>(
     chunk: &mut [u8],
 ) -> Result<Pulled, NoMemory>
     requires { 0 < length chunk.old }
-    ensures got { Grows (S.left source.old) (S.left source.new) bytes.old.items bytes.new.items }
-    ensures stops { IfOk result (λ stop. Stops limit (S.left source.new) (S.faults source.old) (S.faults source.new) (length bytes.new.items) stop) }
-    ensures later { S.faults source.old ≤ S.faults source.new }
-    ensures origin { S.origin source.new ≡ S.origin source.old }
+    ensures got { Grows (S.state source.old) (S.state source.new) bytes.old.items bytes.new.items }
+    ensures stops { IfOk result (λ by. StopsBy by limit (S.state source.old) (S.state source.new) (length bytes.new.items)) }
+    ensures bound { length bytes.new.items ≤ max (length bytes.old.items) (limit + length chunk.old) }
+    ensures later { IsLater (S.state source.old) (S.state source.new) }
 {
     while bytes.len() <= limit {
         bytes.reserve(chunk.len())?;

@@ -1,10 +1,13 @@
 //! What opens sources by their names.
-ghost use Rattle.std.specs.Prelude.{◌≡◌, ◌≤◌, ℕ, List, Option, IfOk, OnOk, IsErrOf};
+ghost use Rattle.std.specs.Prelude.{◌≡◌, ◌≢◌, ◌≤◌, ℕ, List, Option, Err, IfOk};
 ghost use Rattle.stats_io.specs.declared.shelf.OpenFault.TheVariants.{NoMemory};
-ghost use Rattle.stat_defs.specs.Faults.{Rose};
+ghost use Rattle.stats_io.specs.States.{ShelfState};
+ghost use Rattle.stats_io.specs.Open.{IsUnpulled, IsUnopened};
 
 use crate::source::Source;
 use std::alloc::{AllocError, Global};
+use std::error::Error;
+use std::fmt::{Display, Formatter, Result as Written, Write};
 use std::marker::Send;
 
 /// Why no source was opened.
@@ -14,6 +17,22 @@ pub enum OpenFault {
     Failed,
     NoMemory,
 }
+
+impl Display for OpenFault {
+    ghost use Rattle.std.specs.Prelude.{Some};
+    ghost use Rattle.stats_io.specs.OpenFault.{open_fault_text};
+
+    ghost output = { λ fault. Some (open_fault_text fault) };
+
+    fn fmt<W: Write>(&self, f: &mut Formatter<W>) -> Written {
+        match self {
+            OpenFault::Failed => f.write_str("not opened"),
+            OpenFault::NoMemory => f.write_str("out of memory"),
+        }
+    }
+}
+
+impl Error for OpenFault {}
 
 impl From<AllocError> for OpenFault {
     ghost from_gives = { λ _ e. e ≡ NoMemory };
@@ -30,27 +49,19 @@ pub trait Shelf {
     /// What each name holds, where the shelf tells it.
     ghost holds: { Self → List ℕ → Option (List ℕ) };
 
-    /// How often an opening has failed, up to the last value of a `u64`. It never falls.
-    ghost faults: { Self → ℕ };
-
-    /// The name whose opening failed last.
-    ghost failed: { Self → List ℕ };
+    /// How often an opening has failed, up to the last value of a `u64`, which never falls, and the name whose opening failed
+    /// last.
+    ghost state: { Self → ShelfState };
 
     /// Opens the source of that name, whose count of faults is 0. What any name holds stays.
     fn open(&mut self, alloc: Global, name: &str) -> Result<Self::S, OpenFault>
-        ensures left { IfOk result (λ source. Self.S.left source ≡ holds self.old name.now) }
-        ensures origin { IfOk result (λ source. Self.S.origin source ≡ name.now) }
-        ensures fresh { IfOk result (λ source. Self.S.faults source ≡ 0) }
-        ensures rose { result ≡ Err OpenFault.Failed → Rose (faults self.old) (faults self.new) }
-        ensures name { result ≡ Err OpenFault.Failed → failed self.new ≡ name.now }
-        ensures opened { OnOk result (faults self.new ≡ faults self.old) }
-        ensures opened_name { OnOk result (failed self.new ≡ failed self.old) }
-        ensures no_memory { result ≡ Err OpenFault.NoMemory → faults self.new ≡ faults self.old }
-        ensures no_memory_name { result ≡ Err OpenFault.NoMemory → failed self.new ≡ failed self.old }
-        ensures kept { (other : List ℕ) → holds self.new other ≡ holds self.old other }
-        ensures later { faults self.old ≤ faults self.new };
+        ensures opened { IfOk result (λ source. IsUnpulled (holds self.old name.now) name.now (Self.S.state source)) }
+        ensures failed { result ≡ Err OpenFault.Failed → IsUnopened name.now (state self.old) (state self.new) }
+        ensures kept { result ≢ Err OpenFault.Failed → state self.new ≡ state self.old }
+        ensures contents { (other : List ℕ) → holds self.new other ≡ holds self.old other }
+        ensures later { (state self.old).faults ≤ (state self.new).faults };
 
     /// The count of faults.
     fn fault_count(&self) -> u64
-        ensures { result ≡ faults self.now };
+        ensures { result ≡ (state self.now).faults };
 }

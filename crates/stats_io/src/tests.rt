@@ -1,7 +1,28 @@
+ghost use Rattle.std.specs.Prelude.{Some};
+
 use super::*;
 use std::alloc::Global;
-use std::fs;
+use std::io::Write;
 use std::test::Fail;
+use std::{fs, io};
+
+// A writer that takes one byte at a time, as a pipe may.
+#[derive(Drop)]
+struct NarrowWriter {
+    bytes: Vec<u8>,
+}
+
+impl Write for NarrowWriter {
+    ghost contents = { λ w. Some w.bytes.items };
+
+    fn write(&mut self, buf: &[u8]) -> io::Result<usize> {
+        self.bytes.write(&buf[..buf.len().min(1)])
+    }
+
+    fn flush(&mut self) -> io::Result<()> {
+        Ok(())
+    }
+}
 
 fn shelf_of(alloc: Global, bytes: &[u8], fails: Vec<u64>) -> Result<MemShelf, Fail> {
     let file = MemFile {
@@ -70,6 +91,18 @@ fn a_real_stream(rt: HostRuntime) -> Result<(), Fail> {
     let mut full = StdSink::new(fs::create(&rt, "/dev/full")?);
     assert_eq!(rt; push_all(&mut full, b"abc"), Err(WriteFault));
     assert_eq!(rt; full.fault_count(), 1);
+    Ok(())
+}
+
+#[test]
+fn a_writer_that_takes_one_byte_at_a_time(rt: HostRuntime) -> Result<(), Fail> {
+    let mut writer = NarrowWriter {
+        bytes: Vec::new(rt.alloc()),
+    };
+    let mut sink = StdSink::new(&mut writer);
+    assert_eq!(rt; push_all(&mut sink, b"abc"), Ok(()));
+    assert_eq!(rt; sink.fault_count(), 0);
+    assert_eq!(rt; writer.bytes.as_slice(), b"abc".as_slice());
     Ok(())
 }
 

@@ -1,29 +1,44 @@
 //! The text of a flush in the StatsD line format.
 #![tactic(auto)]
 
-ghost use Rattle.std.specs.Prelude.{◌≡◌, ◌≤◌, ◌++◌, ◌∷◌, [], map, filter, nat_lt, OnOk, OnErr, IfOk};
-ghost use Rattle.std.specs.List.{flat_map};
-ghost use Rattle.std.specs.Io.KnownBytes.{Appends};
-ghost use Rattle.stat_defs.specs.Faults.{Rose};
-ghost use Rattle.stats_io.specs.Pushes.{AppendsFront};
-ghost use Rattle.statsd_text.specs.Statsd.{plain_byte, counter_line, statsd_text};
+ghost use Rattle.std.specs.Prelude.{◌≡◌, ◌≤◌, ◌++◌, Err, map, OnOk, IfOk};
+ghost use Rattle.stats_io.specs.Push.{WritesWhole, WritesFront};
+ghost use Rattle.statsd_text.specs.Statsd.{plain_byte, counter_line, lines_of, statsd_text};
 ghost use Rattle.statsd_text.specs.declared.TextFault.TheVariants.{NoMemory};
 
 use stat_defs::{CounterRow, FlushView, Txt};
 use stats_io::{Sink, WriteFault, push_all};
 use std::alloc::{AllocError, Global};
+use std::error::Error;
+use std::fmt::{Display, Formatter, Result as Written, Write};
 
 #[cfg(test)]
 mod tests;
 
-/// Why a text was not written whole. A front of it was written.
+/// Why a text was not written whole.
 #[derive(Clone, Copy, Debug, PartialEq, Eq)]
 pub enum TextFault {
-    /// A push failed, and the sink's count of faults rose.
+    /// A push failed, and the sink's count of faults rose. A front of the text was written.
     WriteFault,
-    /// There was no memory.
+    /// There was no memory, and nothing was written.
     NoMemory,
 }
+
+impl Display for TextFault {
+    ghost use Rattle.std.specs.Prelude.{Some};
+    ghost use Rattle.statsd_text.specs.TextFault.{text_fault_text};
+
+    ghost output = { λ fault. Some (text_fault_text fault) };
+
+    fn fmt<W: Write>(&self, f: &mut Formatter<W>) -> Written {
+        match self {
+            TextFault::WriteFault => f.write_str("write failed"),
+            TextFault::NoMemory => f.write_str("out of memory"),
+        }
+    }
+}
+
+impl Error for TextFault {}
 
 impl From<AllocError> for TextFault {
     ghost from_gives = { λ _ e. e ≡ NoMemory };
@@ -66,7 +81,7 @@ fn put_counter(
 }
 
 fn text_of(alloc: Global, rows: &[CounterRow], prefix: &[u8]) -> Result<Vec<u8>, AllocError>
-    ensures { IfOk result (λ text. text.items ≡ flat_map (counter_line prefix.now) (filter (λ row. nat_lt 0 row.total) rows.now)) }
+    ensures { IfOk result (λ text. text.items ≡ lines_of prefix.now rows.now) }
 {
     let mut text = Vec::new(alloc);
     for row in rows {
@@ -85,11 +100,11 @@ pub fn write_statsd<O: Sink>(
     prefix: &Txt,
     out: &mut O,
 ) -> Result<(), TextFault>
-    ensures whole { OnOk result (Appends (O.written out.old) (O.written out.new) (statsd_text prefix.now view.now)) }
-    ensures front { OnErr result (AppendsFront (O.written out.old) (O.written out.new) (statsd_text prefix.now view.now)) }
-    ensures later { O.faults out.old ≤ O.faults out.new }
-    ensures cause { result ≡ Err TextFault.WriteFault → Rose (O.faults out.old) (O.faults out.new) }
-    ensures kept { ¬ (result ≡ Err TextFault.WriteFault) → O.faults out.new ≡ O.faults out.old }
+    ensures whole { OnOk result (WritesWhole (O.state out.old) (O.state out.new) (statsd_text prefix.now view.now)) }
+    ensures front { result ≡ Err TextFault.WriteFault
+        → WritesFront (O.state out.old) (O.state out.new) (statsd_text prefix.now view.now) }
+    ensures no_memory { result ≡ Err TextFault.NoMemory → out.new ≡ out.old }
+    ensures later { (O.state out.old).faults ≤ (O.state out.new).faults }
 {
     let text = text_of(alloc, view.counters.items(), prefix.bytes())?;
     match push_all(out, &text) {

@@ -1,13 +1,14 @@
-use Rattle.std.proofs.Common.{◌≡◌, ◌≤◌, ◌<◌, ◌-◌, ◌+◌, length}
-use Rattle.stats_io.specs.Limits.{Grows}
+use Rattle.std.proofs.Common.{◌≡◌, ◌≤◌, ◌-◌, ◌+◌, max, length}
+use Rattle.stats_io.specs.States.{IsLater}
+use Rattle.stats_io.specs.PullUpTo.{Grows}
 use Rattle.stats_io.proofs.pulling.pull_by.Given as goal
 
 abbrev pub invariant-loop-bytes : goal.invariant-loop-bytes
 invariant-loop-bytes g l = record {
-  got : Grows (g.S.Source.left l.fn.source) (g.S.Source.left l.source) l.fn.bytes.items l.bytes.items;
-  later : g.S.Source.faults l.fn.source ≤ g.S.Source.faults l.source;
-  origin : g.S.Source.origin l.source ≡ g.S.Source.origin l.fn.source;
-  room : 0 < length l.chunk;
+  got : Grows (g.S.Source.state l.fn.source) (g.S.Source.state l.source) l.fn.bytes.items l.bytes.items;
+  later : IsLater (g.S.Source.state l.fn.source) (g.S.Source.state l.source);
+  room : length l.chunk ≡ length l.fn.chunk;
+  bound : length l.bytes.items ≤ max (length l.fn.bytes.items) (l.limit + length l.fn.chunk);
 }
 
 abbrev pub decreases-loop-bytes : goal.decreases-loop-bytes

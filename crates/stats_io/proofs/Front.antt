@@ -4,7 +4,7 @@ use Rattle.std.proofs.lemmas.List.{take-append-le, take_min}
 use Rattle.std.proofs.Math.Seq.{take-append-add}
 use Rattle.std.specs.Io.KnownBytes.{Appends}
 use Rattle.std.proofs.KnownBytes.{Appends-trans}
-use Rattle.stats_io.specs.Pushes.{AppendsFront}
+use Rattle.stats_io.specs.Push.{AppendsFront}
 
 -- a front of the first piece is a front of both
 pub front_first : (x y : Option (List ℕ)) (a b : List ℕ) → AppendsFront x y a → AppendsFront x y (a ++ b)
