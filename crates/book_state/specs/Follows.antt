@@ -15,7 +15,8 @@ use Rattle.stat_defs.specs.declared.history.Call.TheVariants as call
 use Rattle.stat_defs.specs.declared.history.Reply.{Reply}
 use Rattle.stat_defs.specs.declared.history.Reply.TheVariants as reply
 use Rattle.stat_defs.specs.declared.history.Entry.{Entry}
-use Rattle.book_state.specs.State.{NameRules, State, seat_of, held_under}
+use Rattle.stat_defs.specs.Keys.{held_under}
+use Rattle.book_state.specs.State.{NameRules, State, seat_of}
 use Rattle.book_state.specs.Step.{effect}
 use Rattle.book_state.specs.Log.{empty}
 
@@ -49,7 +50,7 @@ abbrev pub tag_of : State → ℕ → ℕ
 tag_of s seat = option_map_or (λ row. row.tag) (seat_of s seat) 0
 
 abbrev pub held_verdict : State → ℕ → Key → Option Verdict
-held_verdict s seat key = option_and_then (λ row. option_map (λ h. h.verdict) (held_under key row)) (seat_of s seat)
+held_verdict s seat key = option_and_then (λ row. option_map (λ h. h.verdict) (held_under key row.held)) (seat_of s seat)
 
 -- one entry: this call, and the reply that tells the verdict
 abbrev pub MakesOne : Call → Verdict → List Own → Type 0

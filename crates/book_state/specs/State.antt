@@ -15,6 +15,7 @@ use Rattle.stat_defs.specs.declared.metrics.Tagged.{Tagged}
 use Rattle.stat_defs.specs.declared.events.Key.{Key}
 use Rattle.stat_defs.specs.declared.history.Verdict.{Verdict}
 use Rattle.stat_defs.specs.Names.{tokens}
+pub use Rattle.stat_defs.specs.Keys.{same_text, same_kind, Held}
 
 -- what a book is told of full names: whether the matcher admits one, and which tags are drawn out of it
 pub record NameRules : Type 0 where
@@ -32,12 +33,6 @@ pub record Row : Type 0 where
   pub metric : Metric
   pub bearers : List ℕ
 
--- what a seat holds under a key: the verdict, and the scope that it was found through
-pub record Held : Type 0 where
-  pub key : Key
-  pub scope : ℕ
-  pub verdict : Verdict
-
 -- a worker's seat; its tag is the number of releases that it has acknowledged
 pub record Seat : Type 0 where
   pub tag : ℕ
@@ -51,25 +46,6 @@ pub record State : Type 0 where
   pub releases : ℕ
   -- those of the workers: seat 1 stands at place 0
   pub seats : List Seat
-
-abbrev pub same_text : List ℕ → List ℕ → Bool
-same_text a b = pointwise nat_eq a b
-
-abbrev pub same_kind : Kind → Kind → Bool
-same_kind Counter Counter = true
-same_kind Gauge Gauge = true
-same_kind Histogram Histogram = true
-same_kind Text Text = true
-same_kind _ _ = false
-
-abbrev pub same_mode : Mode → Mode → Bool
-same_mode Uninit Uninit = true
-same_mode Accumulate Accumulate = true
-same_mode Never Never = true
-same_mode _ _ = false
-
-abbrev pub same_key : Key → Key → Bool
-same_key a b = same_text a.label b.label && (same_kind a.kind b.kind && (same_mode a.mode b.mode && same_text a.name b.name))
 
 abbrev pub is_gone : Life → Bool
 is_gone Gone = true
@@ -127,10 +103,6 @@ Uses s token n = (at : ℕ) × (slice_get (symbols_in s) at ≡ Some (token, n))
 abbrev pub seat_of : State → ℕ → Option Seat
 seat_of s zero = None
 seat_of s (suc at) = slice_get s.seats at
-
--- what the seat holds under a key
-abbrev pub held_under : Key → Seat → Option Held
-held_under key seat = find (λ h. same_key h.key key) seat.held
 
 -- every worker that has not ended has acknowledged this release
 abbrev pub all_acknowledged : List Seat → ℕ → Bool

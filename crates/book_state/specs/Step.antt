@@ -20,7 +20,8 @@ use Rattle.stat_defs.specs.declared.history.Reply.{Reply}
 use Rattle.stat_defs.specs.declared.history.Reply.TheVariants as reply
 use Rattle.stat_defs.specs.Names.{tokens}
 use Rattle.symbol_table.specs.Drawing.{DrawsAll}
-use Rattle.book_state.specs.State.{NameRules, Scope, Row, Seat, State, same_kind, metrics_of, ids_from, live_scope, Uses, seat_of, held_under, all_acknowledged, bears}
+use Rattle.stat_defs.specs.Keys.{held_under}
+use Rattle.book_state.specs.State.{NameRules, Scope, Row, Seat, State, same_kind, metrics_of, ids_from, live_scope, Uses, seat_of, all_acknowledged, bears}
 use Rattle.book_state.specs.Finding.{Outcome, NoScope, Rejected, Known, NoRoom, OverLimit, New, outcome, scope_of, name_of}
 
 -- the list with f at one place
@@ -147,7 +148,7 @@ Allowed rules seat (call.OpenScope label prefix) reply.LabelTaken s = Works s se
 Allowed rules seat (call.Release label) (reply.Released id) s = Works s seat × (live_scope s label ≡ Some id.0)
 Allowed rules seat (call.Release label) reply.NoScope s = Works s seat × (live_scope s label ≡ None)
 -- a seat finds only what it does not hold
-Allowed rules seat (call.Find key) reply s = Working s seat (λ row. IsNone (held_under key row)) × Tells s key (outcome rules s key) reply
+Allowed rules seat (call.Find key) reply s = Working s seat (λ row. IsNone (held_under key row.held)) × Tells s key (outcome rules s key) reply
 Allowed rules seat (call.SetText id text) reply.TextSet s = Working s seat (λ row. holds_text id.0 row ≡ true)
 -- a seat acknowledges only what it has not acknowledged yet
 Allowed rules seat call.Ack (reply.Acked tag) s = Working s seat (λ row. row.tag < s.releases) × (tag ≡ s.releases)

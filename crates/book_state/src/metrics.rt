@@ -11,7 +11,7 @@ ghost use Rattle.book_state.specs.Metrics.{metric_of, change_all, lose, found_ag
 
 use crate::scopes::ScopeTable;
 use crate::tables::{NameKey, NameTable};
-use indexmap::IndexMap;
+use name_map::{HashKey, name_map};
 use stat_defs::{Kind, Life, Metric, MetricId, Mode, NoMemory, Txt};
 use std::alloc::Global;
 use std::marker::Model;
@@ -47,13 +47,13 @@ impl Model for MetricTable {
 }
 
 impl MetricTable {
-    /// A table without metrics.
-    pub fn new(alloc: Global) -> MetricTable
+    /// A table without metrics, which is hashed under this key.
+    pub fn new(alloc: Global, key: HashKey) -> MetricTable
         ensures { result ≡ [] }
     {
         MetricTable {
             rows: Vec::new(alloc),
-            known: IndexMap::new(alloc),
+            known: name_map(alloc, key),
             histograms: 0,
         }
     }

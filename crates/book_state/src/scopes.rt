@@ -10,7 +10,8 @@ ghost use Rattle.book_state.specs.Scopes.{scope_of_view, opened, emptied, bearin
 ghost use Rattle.book_state.specs.ScopesKept.{row_shown};
 
 use crate::tables::LabelTable;
-use indexmap::{IndexMap, IndexSet};
+use indexmap::IndexSet;
+use name_map::{HashKey, name_map};
 use stat_defs::{NoMemory, Txt};
 use std::alloc::Global;
 use std::marker::Model;
@@ -47,13 +48,13 @@ impl Model for ScopeTable {
 }
 
 impl ScopeTable {
-    /// A table without scopes.
-    pub fn new(alloc: Global) -> ScopeTable
+    /// A table without scopes, which is hashed under this key.
+    pub fn new(alloc: Global, key: HashKey) -> ScopeTable
         ensures { result ≡ [] }
     {
         ScopeTable {
             rows: Vec::new(alloc),
-            live: IndexMap::new(alloc),
+            live: name_map(alloc, key),
         }
     }
 

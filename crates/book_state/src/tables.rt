@@ -1,7 +1,6 @@
-//! The tables that are keyed by texts from files. The type of their maps is named here alone.
-ghost use Rattle.std.specs.Prelude.{◌≡◌};
+//! The tables that are keyed by texts from files.
 
-use indexmap::IndexMap;
+use name_map::NameMap;
 use stat_defs::{Kind, Txt};
 
 /// What a metric is known by.
@@ -12,7 +11,7 @@ pub struct NameKey {
 }
 
 /// Numbers by labels.
-pub type LabelTable = IndexMap<Txt, u32>;
+pub type LabelTable = NameMap<Txt, u32>;
 
 /// Numbers by kinds and full names.
-pub type NameTable = IndexMap<NameKey, u32>;
+pub type NameTable = NameMap<NameKey, u32>;

@@ -10,10 +10,10 @@ use crate::slots::{
     Slot, add_use, drop_use, list_token, next_free, number_of, put_last, token_at, unlist_token,
     write_slot,
 };
+use name_map::{HashKey, NameMap, name_map};
 use stat_defs::{NoMemory, Numbers, Txt};
 use stat_name::StatName;
 use std::alloc::Global;
-use std::collections::HashMap;
 use std::marker::Model;
 
 /// The uses of all tokens together stay below so many.
@@ -24,7 +24,7 @@ pub const MAX_USES: usize = 16_777_216;
 #[derive(Drop)]
 pub struct SymbolTable {
     slots: Vec<Slot>,
-    index: HashMap<Txt, u32>,
+    index: NameMap<Txt, u32>,
     /// All slots below this place are in use.
     free_from: usize,
     in_use: u32,
@@ -47,17 +47,18 @@ impl Model for SymbolTable {
 }
 
 impl SymbolTable {
-    /// A table without tokens.
-    pub fn new(alloc: Global) -> Result<SymbolTable, NoMemory>
-        ensures empty { IfOk result (λ table. table ≡ map.empty) }
-        ensures total { IfOk result (λ table. total table ≡ 0) }
+    /// A table without tokens, which is hashed under this key.
+    pub fn new(alloc: Global, key: HashKey) -> SymbolTable
+        ensures empty { result ≡ map.empty }
+        ensures total { total result ≡ 0 }
+        ensures table { IsTable result }
     {
-        Ok(SymbolTable {
+        SymbolTable {
             slots: Vec::new(alloc),
-            index: HashMap::new(alloc),
+            index: name_map(alloc, key),
             free_from: 0,
             in_use: 0,
-        })
+        }
     }
 
     /// How many numbers are in use. Every table keeps to `IsTable`.
