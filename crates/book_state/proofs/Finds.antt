@@ -70,21 +70,22 @@ known_at s kind name id e =
     }
 
 -- what the reply of a find tells
-pub record Makes (s : State) (key : Key) (o : Option ℕ) (full : Bool) (id : MetricId) (numbers : List ℕ) : Type 0 where
+pub record Makes (s : State) (key : Key) (o k : Option ℕ) (full : Bool) (id : MetricId) (numbers : List ℕ) : Type 0 where
   pub scope : ℕ
   pub live : o ≡ Some scope
+  pub unknown : k ≡ None
   pub room : full ≡ false
   pub next : id.0 ≡ length s.metrics
   pub drawn : DrawsAll (Uses s) (tokens (name_of s key)) numbers
 
 pub tells_made : (s : State) (key : Key) (o : Option ℕ) (a : Bool) (k : Option ℕ) (full over : Bool) (id : MetricId) (numbers : List ℕ)
-    → Tells s key (first_case o a k full over) (reply.Made id numbers) → Makes s key o full id numbers
+    → Tells s key (first_case o a k full over) (reply.Made id numbers) → Makes s key o k full id numbers
 tells_made s key None a k full over id numbers t = absurd t
 tells_made s key (Some sc) false k full over id numbers t = absurd t
 tells_made s key (Some sc) true (Some i) full over id numbers t = absurd t
 tells_made s key (Some sc) true None true over id numbers t = absurd t
 tells_made s key (Some sc) true None false true id numbers t = absurd t
-tells_made s key (Some sc) true None false false id numbers t = record { scope = sc; live = refl; room = refl; next = t.0; drawn = t.1 }
+tells_made s key (Some sc) true None false false id numbers t = record { scope = sc; live = refl; unknown = refl; room = refl; next = t.0; drawn = t.1 }
 
 pub tells_found : (s : State) (key : Key) (o : Option ℕ) (a : Bool) (k : Option ℕ) (full over : Bool) (id : MetricId)
     → Tells s key (first_case o a k full over) (reply.Found id) → (sc : ℕ) × (o ≡ Some sc) × (k ≡ Some id.0)
@@ -186,7 +187,7 @@ bearer_stays : (k scope : ℕ) (ks : List ℕ) (t : Bool) → has k ks ≡ true 
 bearer_stays k scope ks true b = b
 bearer_stays k scope ks false b = any_push (nat_eq k) ks scope ∙ ap (λ (t : Bool). t || nat_eq k scope) b
 
-bearer_new : (scope : ℕ) (ks : List ℕ) (t : Bool) → has scope ks ≡ t → has scope (cond t ks (ks ++ scope ∷ [])) ≡ true
+pub bearer_new : (scope : ℕ) (ks : List ℕ) (t : Bool) → has scope ks ≡ t → has scope (cond t ks (ks ++ scope ∷ [])) ≡ true
 bearer_new scope ks true e = e
 bearer_new scope ks false e = any_push (nat_eq scope) ks scope ∙ rw (e, same_number scope) refl
 
@@ -199,10 +200,10 @@ bearer_was k scope ks false b = elim (one_of (has k ks) (nat_eq k scope) (sym (a
   is_same : (a b : ℕ) → nat_eq a b ≡ true → a ≡ b
   is_same a b e = grind (arith, nat_tests)
 
-other_way : (a b : ℕ) → nat_eq a b ≡ false → nat_eq b a ≡ false
+pub other_way : (a b : ℕ) → nat_eq a b ≡ false → nat_eq b a ≡ false
 other_way a b e = grind (arith, nat_tests)
 
-apart_push : (scope : ℕ) (ks : List ℕ) → NoDoubles ks → has scope ks ≡ false → NoDoubles (ks ++ scope ∷ [])
+pub apart_push : (scope : ℕ) (ks : List ℕ) → NoDoubles ks → has scope ks ≡ false → NoDoubles (ks ++ scope ∷ [])
 apart_push scope [] apart none = (refl, tt)
 apart_push scope (k ∷ ks) apart none =
     let parts = neither (nat_eq scope k) (has scope ks) none in
@@ -211,7 +212,7 @@ apart_push scope (k ∷ ks) apart none =
       neither true b e = absurd (true_false e)
       neither false b e = (refl, e)
 
-bearers_apart : (scope : ℕ) (ks : List ℕ) (t : Bool) → has scope ks ≡ t → NoDoubles ks → NoDoubles (cond t ks (ks ++ scope ∷ []))
+pub bearers_apart : (scope : ℕ) (ks : List ℕ) (t : Bool) → has scope ks ≡ t → NoDoubles ks → NoDoubles (cond t ks (ks ++ scope ∷ []))
 bearers_apart scope ks true e apart = apart
 bearers_apart scope ks false e apart = apart_push scope ks apart e
 

@@ -14,3 +14,7 @@ mod Finds
 pub mod Safety
 pub mod Staying
 pub mod Growing
+pub mod Entering
+mod Storing
+mod Applying
+mod Stepping

@@ -1,5 +1,5 @@
 -- A release takes the scope from all metrics, though the code goes over those alone that the scope bears.
-use Rattle.std.proofs.Common.{◌≡◌, ◌≢◌, ℕ, zero, suc, ◌+◌, ◌-◌, ◌<◌, ◌==◌, nat_eq, nat_le, not, ◌||◌, Bool, true, false, cond, Option, Some, None, List, [], ◌∷◌, map, filter, length, slice_get, get_or, All, refl, ap, sym, ◌∙◌, arith, inl, inr}
+use Rattle.std.proofs.Common.{◌≡◌, ◌≢◌, ℕ, zero, suc, ◌+◌, ◌-◌, ◌<◌, ◌≤◌, ◌==◌, nat_eq, nat_le, not, ◌||◌, Bool, true, false, cond, Option, Some, None, List, [], ◌∷◌, map, filter, length, slice_get, get_or, All, refl, ap, sym, ◌∙◌, arith, inl, inr}
 use Rattle.std.proofs.lemmas.Bool.Decides.{nat_tests}
 use Rattle.std.proofs.Math.Bool.{or-true}
 use Rattle.std.proofs.lemmas.List.Elements.{All-from_get_or}
@@ -33,7 +33,7 @@ none_step : (scope k : ℕ) (ks : List ℕ) (t : Bool) → nat_eq scope k ≡ t 
 none_step scope k ks true e h rest = absurd (true_false h)
 none_step scope k ks false e h rest = rw e (ap (λ (l : List ℕ). k ∷ l) rest)
 
-none_taken : (scope : ℕ) (ks : List ℕ) → has scope ks ≡ false → others scope ks ≡ ks
+pub none_taken : (scope : ℕ) (ks : List ℕ) → has scope ks ≡ false → others scope ks ≡ ks
 none_taken scope [] h = refl
 none_taken scope (k ∷ ks) h = none_step scope k ks (nat_eq scope k) refl h (none_taken scope ks (or_parts (nat_eq scope k) (has scope ks) h))
 
@@ -46,7 +46,7 @@ one_step scope k ks true e once h rest =
 one_step scope k ks false e once h rest = let r = rest h in rw e (omega (arith, r))
 
 -- a scope that stood once among the bearers was one of them
-one_taken : (scope : ℕ) (ks : List ℕ) → NoDoubles ks → has scope ks ≡ true → length (others scope ks) + 1 ≡ length ks
+pub one_taken : (scope : ℕ) (ks : List ℕ) → NoDoubles ks → has scope ks ≡ true → length (others scope ks) + 1 ≡ length ks
 one_taken scope [] apart h = absurd (true_false (sym h))
 one_taken scope (k ∷ ks) apart h = one_step scope k ks (nat_eq scope k) refl apart.0 h (one_taken scope ks apart.1)
 
@@ -167,3 +167,17 @@ has_at (k ∷ ids) (suc i) h = rw (has_at ids i (omega (arith, h))) (or-true (na
 
 pub has_all : (P : ℕ → Type 0) (ids : List ℕ) → ((k : ℕ) → has k ids ≡ true → P k) → All P ids
 has_all P ids each = All-from_get_or P ids 0 (λ i h. each (get_or ids i 0) (has_at ids i h))
+
+-- numbers below n, each once, are at most n
+pub few_apart : (n : ℕ) (ks : List ℕ) → NoDoubles ks → ((k : ℕ) → has k ks ≡ true → k < n) → length ks ≤ n
+few_apart zero [] apart below = omega arith
+few_apart zero (k ∷ ks) apart below = let h : has k (k ∷ ks) ≡ true = rw (same_number k) refl in absurd (omega (arith, below k h))
+few_apart (suc n) ks apart below =
+    few_step n ks (has n ks) refl apart (few_apart n (others n ks) (apart_others n ks apart) (λ k h.
+        elim (eq_or k n) [
+          | inl e ↦ absurd (true_false (sym h ∙ (ap (λ (j : ℕ). has j (others n ks)) e ∙ has_gone n ks)))
+          | inr ne ↦ let was = below k (has_left n k ks h) in omega (arith, was, ne)
+        ])) where
+  few_step : (n : ℕ) (ks : List ℕ) (t : Bool) → has n ks ≡ t → NoDoubles ks → length (others n ks) ≤ n → length ks ≤ suc n
+  few_step n ks true h apart few = let one = one_taken n ks apart h in omega (arith, one, few)
+  few_step n ks false h apart few = let same = ap length (none_taken n ks h) in omega (arith, same, few)

@@ -14,3 +14,5 @@ pub mod Scopes
 pub mod ScopesKept
 pub mod Metrics
 pub mod MetricsKept
+pub mod Stored
+pub mod StateKept

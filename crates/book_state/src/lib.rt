@@ -4,7 +4,10 @@
 mod laws;
 mod limits;
 mod metrics;
+mod names;
 mod scopes;
+mod seats;
+mod state;
 mod tables;
 mod worked;
 
@@ -12,6 +15,8 @@ pub use laws::{
     a_chain_grows, a_legal_log_is_safe, a_log_grows, metrics_stay, others_leave_a_seat,
 };
 pub use limits::{MAX_HISTOGRAMS, MAX_METRICS, MAX_OPENINGS, MAX_TOKENS, MAX_WORKERS};
+pub use state::BookState;
+pub use tables::NameKey;
 pub use worked::{
     gone_in_the_last_sweep, retired_and_found_again, safe_and_not, shared_symbols, sweep_waits,
 };

@@ -91,6 +91,7 @@ impl ScopeTable {
         requires free { live_in (map scope_of_view self.old) label.now ≡ None }
         requires next { id ≡ length self.old }
         ensures opened { OnOk result (self.new ≡ self.old ++ opened label.now prefix.now ∷ []) }
+        ensures few { length self.old < 2 ^ 32 }
         ensures err { OnErr result (self.new ≡ self.old) }
     {
         let key = label.clone()?;
