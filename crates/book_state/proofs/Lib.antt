@@ -18,3 +18,4 @@ pub mod Entering
 mod Storing
 mod Applying
 mod Stepping
+mod Naming
