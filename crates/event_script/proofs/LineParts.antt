@@ -12,7 +12,8 @@ use Rattle.event_script.specs.Grammar.{Lacks}
 use Rattle.stat_defs.specs.Names.{is_printable_byte}
 use Rattle.event_script.specs.EventIn.{first_line, behind_line, part_then, read_text, read_number, read_readout}
 use Rattle.event_script.specs.FirstLine.{HasPart, LacksPart, HasLine, LacksLine, is_end, HasDigits, HasMoreThan}
-use Rattle.event_script.specs.Said.{IsRunOf, IsPart, IsNoPart, IsLast, IsNoLast}
+use Rattle.event_script.specs.Lanes.{IsRunOf}
+use Rattle.event_script.specs.FirstLine.{IsPart, IsNoPart, IsLast, IsNoLast}
 use Rattle.event_script.proofs.Splits.{lacks_all, lacks_cons, no_part, part_passes}
 use Rattle.event_script.proofs.PartThen.{then_at, then_none, first_behind, rest_behind, line_parts, text_is, text_reads, number_is, number_reads}
 

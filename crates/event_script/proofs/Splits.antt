@@ -3,7 +3,8 @@ use Rattle.std.proofs.Common.{◌≡◌, ◌≢◌, ◌+◌, ℕ, zero, suc, Boo
 use Rattle.std.proofs.lemmas.List.{get_or_at, length-append}
 use Rattle.std.specs.List.{list_all}
 use Rattle.event_script.specs.Grammar.{Lacks}
-use Rattle.event_script.specs.Said.{IsRunOf, IsPart, IsNoPart}
+use Rattle.event_script.specs.Lanes.{IsRunOf}
+use Rattle.event_script.specs.FirstLine.{IsPart, IsNoPart}
 use Rattle.stat_defs.specs.Names.{IsLabel, IsLocalName, is_label_byte, is_name_byte}
 
 pub lacks_rest : (byte x : ℕ) (xs : List ℕ) → Lacks byte (x ∷ xs) → Lacks byte xs

@@ -20,13 +20,7 @@ use Rattle.event_script.specs.declared.step.Step.TheVariants as step
 -- the event that an answer gives, if it is one
 abbrev pub events_answered : Result Step NoMemory → List Event
 events_answered (Ok (step.Event e)) = e ∷ []
-events_answered (Ok step.End) = []
-events_answered (Ok (step.BadLine n)) = []
-events_answered (Ok (step.LineTooLong n)) = []
-events_answered (Ok step.TooBig) = []
-events_answered (Ok step.TooMany) = []
-events_answered (Ok step.ReadFault) = []
-events_answered (Err e) = []
+events_answered other = []
 
 -- the end of the file that an answer tells, if it tells one
 abbrev pub end_of : Result Step NoMemory → Option FileEnd
@@ -45,13 +39,7 @@ IfEnded answer fact = IfSome (end_of answer) fact
 
 abbrev pub IfEvent : Result Step NoMemory → Type 0 → Type 0
 IfEvent (Ok (step.Event e)) fact = fact
-IfEvent (Ok step.End) fact = Unit {0}
-IfEvent (Ok (step.BadLine n)) fact = Unit {0}
-IfEvent (Ok (step.LineTooLong n)) fact = Unit {0}
-IfEvent (Ok step.TooBig) fact = Unit {0}
-IfEvent (Ok step.TooMany) fact = Unit {0}
-IfEvent (Ok step.ReadFault) fact = Unit {0}
-IfEvent (Err e) fact = Unit {0}
+IfEvent other fact = Unit {0}
 
 -- the answer is this end of the file
 abbrev pub TellsEnd : Result Step NoMemory → FileEnd → Type 0
@@ -59,23 +47,18 @@ TellsEnd answer end = (events_answered answer ≡ []) × (end_of answer ≡ Some
 
 -- the end is that of the source, or a fault of a line
 abbrev pub EndsBy : Pulled → FileEnd → Type 0
-EndsBy stop (file.BadLine n) = Unit {0}
-EndsBy stop (file.LineTooLong n) = Unit {0}
-EndsBy stop file.TooMany = Unit {0}
 EndsBy stop file.Whole = end_by stop ≡ file.Whole
 EndsBy stop file.TooBig = end_by stop ≡ file.TooBig
 EndsBy stop file.ReadFault = end_by stop ≡ file.ReadFault
 EndsBy stop file.NotOpened = ⊥
+EndsBy stop other = Unit {0}
 
 -- why the file ended so: the source has nothing left, or its count of faults rose
 abbrev pub Explains : SourceState → ℕ → FileEnd → Type 0
 Explains source first file.Whole = IsAtEnd source.left
 Explains source first file.ReadFault = Rose first source.faults
-Explains source first (file.BadLine n) = Unit {0}
-Explains source first file.TooBig = Unit {0}
-Explains source first (file.LineTooLong n) = Unit {0}
-Explains source first file.TooMany = Unit {0}
 Explains source first file.NotOpened = ⊥
+Explains source first other = Unit {0}
 
 -- the source had stopped, and the end is its end or a fault of a line
 abbrev pub StoppedBy : Option Pulled → FileEnd → Type 0

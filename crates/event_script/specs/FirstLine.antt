@@ -1,5 +1,5 @@
 -- What the reader finds in the first line of the bytes that are left.
-use Rattle.std.specs.Prelude.{◌≡◌, ◌<◌, ◌≤◌, ◌==◌, ℕ, Bool, true, Option, None, Some, List, [], ◌∷◌, length, take, slice_index}
+use Rattle.std.specs.Prelude.{◌≡◌, ◌≢◌, ◌<◌, ◌≤◌, ◌==◌, ℕ, Bool, true, false, Option, None, Some, List, [], ◌∷◌, ◌++◌, length, take, drop, slice_index}
 use Rattle.std.specs.Char.{digit_value}
 use Rattle.std.specs.Str.Parse.{AllDigits, digits_value}
 use Rattle.stat_defs.specs.declared.events.Event.{Event}
@@ -48,3 +48,26 @@ pub record HasMoreThan (text : List ℕ) (most : ℕ) : Type 0 where
   pub within : count ≤ length text
   pub digits : AllDigits 10 (take count text)
   pub over : most < digits_value 10 (take count text)
+
+-- the text's first bytes, 1 to so many, and those behind the space that ends them
+pub record IsPart (text : List ℕ) (at most : ℕ) (part rest : List ℕ) : Type 0 where
+  pub first : part ≡ take at text
+  pub some : 1 ≤ length part
+  pub few : length part ≤ most
+  pub parted : text ≡ part ++ 32 ∷ rest
+
+-- no space stands at that place, or there are none or too many bytes before it
+abbrev pub IsNoPart : List ℕ → ℕ → ℕ → Type 0
+IsNoPart text at most = 1 ≤ at → at ≤ most → at < length text → slice_index text at ≢ 32
+
+-- the text's first bytes, 1 to so many, with which a line ends, and those behind it
+pub record IsLast (text : List ℕ) (at most : ℕ) (part after : List ℕ) : Type 0 where
+  pub first : part ≡ take at text
+  pub behind : after ≡ drop at text
+  pub some : 1 ≤ length part
+  pub few : length part ≤ most
+  pub ends : is_end after ≡ true
+
+-- no line ends at that place, or there are none or too many bytes before it
+abbrev pub IsNoLast : List ℕ → ℕ → ℕ → Type 0
+IsNoLast text at most = 1 ≤ at → at ≤ most → is_end (drop at text) ≡ false

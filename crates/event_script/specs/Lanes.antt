@@ -1,5 +1,6 @@
 -- What one load of bytes says of those that stand first.
-use Rattle.std.specs.Prelude.{◌≡◌, ℕ, ◌+◌, if◌then◌else◌, ◌<◌, ◌≤◌, ◌==◌, Bool, true, false, List, length, slice_index}
+use Rattle.std.specs.Prelude.{◌≡◌, ℕ, ◌+◌, if◌then◌else◌, ◌<◌, ◌≤◌, ◌==◌, Bool, true, false, List, length, take, slice_index}
+use Rattle.std.specs.List.{list_all}
 use Rattle.std.specs.Int.{w64, trailing_zeros}
 
 -- the bytes from at up to end pass the test
@@ -18,3 +19,9 @@ first_set mask n = if mask == 0 then n else trailing_zeros w64 mask
 -- so many bytes stand first that pass the test
 abbrev pub IsFront : (ℕ → Bool) → List ℕ → ℕ → Type 0
 IsFront test text count = (count ≤ length text) × AllPassBetween test text 0 count
+
+-- so many bytes that pass the test stand first, and then one that doesn't or none
+pub record IsRunOf (test : ℕ → Bool) (text : List ℕ) (count : ℕ) : Type 0 where
+  pub within : count ≤ length text
+  pub pass : list_all test (take count text) ≡ true
+  pub longest : count < length text → test (slice_index text count) ≡ false

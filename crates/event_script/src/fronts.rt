@@ -1,7 +1,7 @@
 //! How many bytes of a class stand first.
 ghost use Rattle.std.specs.Prelude.{◌≡◌, ◌≤◌, length};
 ghost use Rattle.stat_defs.specs.Names as names;
-ghost use Rattle.event_script.specs.Said.{IsRunOf};
+ghost use Rattle.event_script.specs.Lanes.{IsRunOf};
 ghost use Rattle.event_script.specs.Lanes.{IsFront};
 
 use crate::lanes::{LANES, label_run, name_run};

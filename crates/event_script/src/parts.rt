@@ -1,6 +1,6 @@
 //! The parts of a line.
 ghost use Rattle.std.specs.Prelude.{◌≡◌, ◌≢◌, ◌≤◌, ◌++◌, ◌∷◌, ℕ, List, MatchOption, length};
-ghost use Rattle.event_script.specs.Said.{IsPart, IsNoPart, IsLast, IsNoLast};
+ghost use Rattle.event_script.specs.FirstLine.{IsPart, IsNoPart, IsLast, IsNoLast};
 ghost use Rattle.event_script.specs.EventIn.{read_word, read_mode, read_label, read_name, read_readout};
 ghost use Rattle.event_script.specs.FirstLine.{HasPart, LacksPart, HasMetric, LacksMetric, HasLine, LacksLine};
 
