@@ -7,7 +7,7 @@ ghost use Rattle.event_script.specs.Answer as steps;
 use stat_defs::{Event, FileEnd, NoMemory};
 
 /// What a reader answers: the next event of a file, or how the file ended. Lines are numbered from 1.
-#[derive(Drop, Debug)]
+#[derive(Drop, Debug, PartialEq, Eq)]
 pub enum Step {
     Event(Event),
     /// The file was read to its end.

@@ -116,7 +116,8 @@ inc root a 00\n\x01bad 1\x02\
 inc root a 4294967295\n\x01inc root a 4294967295|end\x02\
 inc root a 4294967296\n\x01bad 1\x02\
 inc root a 1 2\n\x01bad 1\x02\
-add root g acc 5\nsub root g never 6\nset root g uninit 0\n\x01add root g acc 5|sub root g never 6|set root g uninit 0|end\x02\
+inc a b 1\nadd root g acc 5\nsub root g never 6\nset root g uninit 0\nrec root h 9\ntext root v a  b\nopen l a.b.\nrelease l\n\
+\x01inc a b 1|add root g acc 5|sub root g never 6|set root g uninit 0|rec root h 9|text root v a  b|open l a.b|release l|end\x02\
 sub root g acc 9223372036854775807\n\x01sub root g acc 9223372036854775807|end\x02\
 sub root g acc 9223372036854775808\n\x01bad 1\x02\
 add root g 5\n\x01bad 1\x02\
@@ -165,6 +166,30 @@ fn files(rt: HostRuntime) -> Result<(), NoMemory> {
         rows = rows.saturating_add(1);
     }
     assert_eq!(rt; rows, 64);
+    Ok(())
+}
+
+// One line of each kind, and those whose texts are the hardest to write.
+const KINDS: &[u8] = b"\
+inc root a 0\nadd root g uninit 18\nsub root g acc 9223372036854775807\nset root g never 0\nrec root h 18446744073709551615\n\
+text root v \ntext root v  a b \nopen l -\nopen l a.b\nopen l a.b..\nopen l -..\nrelease l\n";
+
+#[test]
+fn written_and_read_again(rt: HostRuntime) -> Result<(), NoMemory> {
+    let alloc = rt.alloc();
+    let mut lines = lines_of(alloc, KINDS, 7, Vec::new(alloc))?;
+    let mut count = 0u64;
+    for _ in 0..20 {
+        let Step::Event(event) = lines.next(alloc)? else {
+            break;
+        };
+        let mut line = Vec::new(alloc);
+        write_event(alloc, &event, &mut line)?;
+        let mut again = lines_of(alloc, &line, 100_000, Vec::new(alloc))?;
+        assert!(rt; again.next(alloc)? == Step::Event(event), "line {count}");
+        count = count.saturating_add(1);
+    }
+    assert_eq!(rt; count, 12);
     Ok(())
 }
 
