@@ -15,7 +15,7 @@ use Rattle.boot_values.specs.declared.matcher.Side.{Side}
 use Rattle.boot_values.specs.declared.matcher.Side.TheVariants.{Exclusion, Inclusion}
 use Rattle.boot_values.specs.declared.place.Place.{Place}
 use Rattle.boot_values.specs.declared.place.Place.TheVariants.{Excluded, Included}
-use Rattle.boot_values.specs.Gives.{and_then}
+use Rattle.boot_values.specs.Agrees.{and_then}
 use Rattle.boot_values.specs.Patterns.{pattern_at}
 use Rattle.boot_values.specs.Values.{member, has, section_at, items_at}
 

@@ -15,7 +15,7 @@ use Rattle.boot_values.specs.declared.fault.BootFault.TheVariants.{BadKey}
 use Rattle.boot_values.specs.declared.json.Limits.{Limits}
 use Rattle.boot_values.specs.declared.place.Place.TheVariants.{Scope}
 use Rattle.boot_file.specs.declared.run.Run.{Run}
-use Rattle.boot_values.specs.Gives.{and_then}
+use Rattle.boot_values.specs.Agrees.{and_then}
 use Rattle.boot_values.specs.Paths.{path_of}
 use Rattle.boot_values.specs.Values.{member, section_at, whole_at, items_at}
 

@@ -4,9 +4,9 @@ use Rattle.boot_values.specs.declared.fault.BootFault.{BootFault}
 use Rattle.boot_values.specs.declared.fault.BootFault.TheVariants.{NoMemory}
 
 -- the value that is meant, or the fault that is meant
-abbrev pub Gives : {A : Type 0} → Result A BootFault → Result A BootFault → Type 0
-Gives (Ok a) meant = meant ≡ Ok a
-Gives (Err fault) meant = fault ≢ NoMemory → meant ≡ Err fault
+abbrev pub Agrees : {A : Type 0} → Result A BootFault → Result A BootFault → Type 0
+Agrees (Ok a) meant = meant ≡ Ok a
+Agrees (Err fault) meant = fault ≢ NoMemory → meant ≡ Err fault
 
 -- the first fault stands: what comes behind it is not looked at
 abbrev pub and_then : {A B : Type 0} → Result A BootFault → (A → Result B BootFault) → Result B BootFault

@@ -1,5 +1,5 @@
--- The patterns of a configuration, in the order in which they are built: the tag rules', the matcher's and the bucket settings'
--- (Envoy's statistics configuration reference; the order and the paths are this project's own).
+-- The patterns of a configuration, in the order in which they are built (Envoy's statistics configuration reference; the order
+-- and the paths are this project's own).
 use Rattle.std.specs.Prelude.{ℕ, List, [], ◌∷◌, ◌++◌, codes, length, map}
 use Rattle.std.specs.List.{range_with_len}
 use Rattle.stat_defs.specs.declared.configs.TagSpec.{TagSpec}
@@ -19,6 +19,10 @@ pub record Asked : Type 0 where
 abbrev pub told_by : List ℕ → List (List ℕ) → List Asked
 told_by path texts = map (λ text. record { path = path; text = text }) texts
 
+-- the texts alone
+abbrev pub texts_of : List Asked → List (List ℕ)
+texts_of all = map (λ (one : Asked). one.text) all
+
 -- the texts that members ask for, each with the path of its member
 abbrev pub asked_by : {A : Type 0} → (A → List (List ℕ)) → List (List ℕ) → List A → List Asked
 asked_by texts [] members = []
@@ -32,11 +36,14 @@ paths_in list count part = map (λ i. indexed list i part) (range_with_len 0 cou
 abbrev pub matcher_paths : MatchSpec → List (List ℕ)
 matcher_paths matcher.AdmitAll = []
 matcher_paths matcher.RejectAll = []
-matcher_paths (matcher.Exclude patterns) = paths_in (codes "stats_config.stats_matcher.exclusion_list.patterns") (length patterns) (codes ".safe_regex.regex")
-matcher_paths (matcher.Include patterns) = paths_in (codes "stats_config.stats_matcher.inclusion_list.patterns") (length patterns) (codes ".safe_regex.regex")
+matcher_paths (matcher.Exclude patterns) =
+    paths_in (codes "stats_config.stats_matcher.exclusion_list.patterns") (length patterns) (codes ".safe_regex.regex")
+matcher_paths (matcher.Include patterns) =
+    paths_in (codes "stats_config.stats_matcher.inclusion_list.patterns") (length patterns) (codes ".safe_regex.regex")
 
 abbrev pub setting_paths : List BucketSpec → List (List ℕ)
-setting_paths settings = paths_in (codes "stats_config.histogram_bucket_settings") (length settings) (codes ".match.safe_regex.regex")
+setting_paths settings =
+    paths_in (codes "stats_config.histogram_bucket_settings") (length settings) (codes ".match.safe_regex.regex")
 
 abbrev pub of_tags : List (List ℕ) → List TagSpec → List Asked
 of_tags paths specs = asked_by rule_texts paths specs
@@ -47,5 +54,13 @@ of_matcher spec = asked_by pattern_texts (matcher_paths spec) (patterns_of spec)
 abbrev pub of_buckets : List BucketSpec → List Asked
 of_buckets settings = asked_by setting_texts (setting_paths settings) settings
 
+-- the patterns that a store of statistics keeps for good: those of its tag rules and of its matcher
+abbrev pub of_store : Config → List Asked
+of_store config = of_tags config.tag_paths config.tags ++ of_matcher config.matcher
+
+-- those of the flushes' views: of the bucket settings, and of the tag rules once more
+abbrev pub of_views : Config → List Asked
+of_views config = of_buckets config.buckets ++ of_tags config.tag_paths config.tags
+
 abbrev pub asked : Config → List Asked
-asked config = of_tags config.tag_paths config.tags ++ (of_matcher config.matcher ++ of_buckets config.buckets)
+asked config = of_store config ++ of_views config

@@ -7,7 +7,7 @@ use Rattle.serde_json.specs.Data.{Items, no_items, item, Data, string, array}
 use Rattle.boot_values.specs.declared.fault.BootFault.{BootFault}
 use Rattle.boot_values.specs.declared.fault.BootFault.TheVariants.{BadKey}
 use Rattle.boot_values.specs.declared.place.Place.TheVariants.{Sink}
-use Rattle.boot_values.specs.Gives.{and_then}
+use Rattle.boot_values.specs.Agrees.{and_then}
 use Rattle.boot_values.specs.Paths.{path_of}
 use Rattle.boot_file.specs.Tags.{is_local_name}
 use Rattle.boot_values.specs.Values.{member, section_at}

@@ -1,6 +1,7 @@
 -- What is said of a bootstrap that was not loaded. This project's own.
 use Rattle.std.specs.Prelude.{ℕ, List, ◌++◌, codes}
 use Rattle.std.specs.Fmt.{decimal}
+use Rattle.boot_values.specs.BootFault.{boot_fault_text}
 use Rattle.boot_values.specs.declared.fault.BootFault.{BootFault}
 use Rattle.boot_values.specs.declared.fault.BootFault.TheVariants as wrong
 use Rattle.boot_load.specs.declared.fault.LoadFault.{LoadFault}
@@ -21,3 +22,11 @@ boot_line (Faulty fault) = faulty_line fault
 boot_line (BadPattern path) = codes "boot: bad pattern at " ++ (path ++ codes "\n")
 boot_line ReadFailed = codes "boot: read failed\n"
 boot_line NoMemory = codes "out of memory\n"
+
+-- without a path
+abbrev pub load_fault_text : LoadFault → List ℕ
+load_fault_text TooBig = codes "too big"
+load_fault_text (Faulty fault) = boot_fault_text fault
+load_fault_text (BadPattern path) = codes "bad pattern"
+load_fault_text ReadFailed = codes "read failed"
+load_fault_text NoMemory = codes "out of memory"

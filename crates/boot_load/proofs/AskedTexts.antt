@@ -6,14 +6,10 @@ use Rattle.tag_rules.specs.Making.{Memory, after_making}
 use Rattle.tag_rules.specs.Building.{IsCutAt, Builds}
 use Rattle.tag_rules.specs.declared.fault.TagFault.{TagFault}
 use Rattle.tag_rules.specs.declared.fault.TagFault.TheVariants as tag
-use Rattle.boot_load.specs.Asking.{Asked, told_by, asked_by}
-use Rattle.boot_load.specs.Loading.{IsPatternRefused}
-use Rattle.boot_load.specs.Building.{BuildsAll, HasPathIn, IsTold}
+use Rattle.boot_load.specs.Asked.{Asked, texts_of, told_by, asked_by}
+use Rattle.boot_load.specs.Build.{IsPatternRefused, FailsToBuild, BuildsAll, HasPathIn, IsTold}
 use Rattle.boot_load.specs.declared.fault.LoadFault.{LoadFault}
 use Rattle.boot_load.specs.declared.fault.LoadFault.TheVariants as load
-
-abbrev texts_of : List Asked → List (List ℕ)
-texts_of all = map (λ (a : Asked). a.text) all
 
 texts-append : (one two : List Asked) → texts_of (one ++ two) ≡ texts_of one ++ texts_of two
 texts-append [] two = refl
@@ -93,9 +89,9 @@ module _ {A : Type 0} (texts : A → List (List ℕ)) where
   -- a build, with its fault told by paths
   pub told_build : {B : Type 0} (paths : List (List ℕ)) (members : List A) (setting : B) (old new : Memory) (fault : TagFault) (told : LoadFault)
       → length paths ≡ length members → Builds texts members setting old new (Err fault) → IsTold paths fault told
-      → BuildsAll (asked_by texts paths members) setting old new (Err told)
+      → FailsToBuild (asked_by texts paths members) old new told
   told_build paths members setting old new (tag.BadPattern i) told e built is = rw (is.2) (refused_at paths members old new i is.0 e is.1 built)
-  told_build paths members setting old new tag.NoMemory told e built is = rw (is, built.made) (refl, refl)
+  told_build paths members setting old new tag.NoMemory told e built is = rw (is, built.made) (record { count = refl; last = refl })
 
   pub whole_build : {B : Type 0} (paths : List (List ℕ)) (members : List A) (setting made : B) (old new : Memory)
       → length paths ≡ length members → Builds texts members setting old new (Ok made) → BuildsAll (asked_by texts paths members) setting old new (Ok made)
@@ -124,18 +120,18 @@ refused_later one two path old mid new e is = record {
 }
 
 -- a part that failed, in the whole
-pub first_failed : {A B : Type 0} (one two : List Asked) (part : A) (whole : B) (old new : Memory) (fault : LoadFault)
-    → BuildsAll one part old new (Err fault) → BuildsAll (one ++ two) whole old new (Err fault)
-first_failed one two part whole old new (load.BadPattern path) h = refused_first one two path old new h
-first_failed one two part whole old new load.NoMemory h = h
-first_failed one two part whole old new load.TooBig h = h
-first_failed one two part whole old new (load.Faulty fault) h = h
-first_failed one two part whole old new load.ReadFailed h = h
+pub first_failed : (one two : List Asked) (old new : Memory) (fault : LoadFault) → FailsToBuild one old new fault → FailsToBuild (one ++ two) old new fault
+first_failed one two old new (load.BadPattern path) h = refused_first one two path old new h
+first_failed one two old new load.NoMemory h = h
+first_failed one two old new load.TooBig h = h
+first_failed one two old new (load.Faulty fault) h = h
+first_failed one two old new load.ReadFailed h = h
 
-pub later_failed : {A B : Type 0} (one two : List Asked) (part : A) (whole : B) (old mid new : Memory) (fault : LoadFault) → mid ≡ after_making (texts_of one) old
-    → BuildsAll two part mid new (Err fault) → BuildsAll (one ++ two) whole old new (Err fault)
-later_failed one two part whole old mid new (load.BadPattern path) e h = refused_later one two path old mid new e h
-later_failed one two part whole old mid new load.NoMemory e h = (h.0 ∙ ap (λ (m : Memory). m.count) e, h.1 ∙ ap (λ (m : Memory). m.last) e)
-later_failed one two part whole old mid new load.TooBig e h = h
-later_failed one two part whole old mid new (load.Faulty fault) e h = h
-later_failed one two part whole old mid new load.ReadFailed e h = h
+pub later_failed : (one two : List Asked) (old mid new : Memory) (fault : LoadFault) → mid ≡ after_making (texts_of one) old
+    → FailsToBuild two mid new fault → FailsToBuild (one ++ two) old new fault
+later_failed one two old mid new (load.BadPattern path) e h = refused_later one two path old mid new e h
+later_failed one two old mid new load.NoMemory e h =
+    record { count = h.count ∙ ap (λ (m : Memory). m.count) e; last = h.last ∙ ap (λ (m : Memory). m.last) e }
+later_failed one two old mid new load.TooBig e h = h
+later_failed one two old mid new (load.Faulty fault) e h = h
+later_failed one two old mid new load.ReadFailed e h = h

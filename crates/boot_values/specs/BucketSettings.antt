@@ -12,7 +12,7 @@ use Rattle.serde_json.specs.Data.{Items, no_items, item, Data, number, array, un
 use Rattle.boot_values.specs.declared.fault.BootFault.{BootFault}
 use Rattle.boot_values.specs.declared.fault.BootFault.TheVariants.{BadKey, BadBucket}
 use Rattle.boot_values.specs.declared.place.Place.TheVariants.{Setting, Match}
-use Rattle.boot_values.specs.Gives.{and_then}
+use Rattle.boot_values.specs.Agrees.{and_then}
 use Rattle.boot_values.specs.Paths.{path_of}
 use Rattle.boot_values.specs.Patterns.{pattern_at}
 use Rattle.boot_values.specs.Values.{member, items_at, item_count}
