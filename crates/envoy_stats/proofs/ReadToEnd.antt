@@ -6,6 +6,7 @@ use Rattle.stat_defs.specs.declared.events.Event.{Event}
 use Rattle.stat_defs.specs.declared.memory.NoMemory.{NoMemory}
 use Rattle.stat_defs.specs.declared.reports.FileEnd.{FileEnd}
 use Rattle.stat_defs.specs.declared.reports.FileEnd.TheVariants.{Whole, BadLine, LineTooLong, TooBig, TooMany, ReadFault, NotOpened}
+use Rattle.stats_io.specs.States.{SourceState}
 use Rattle.event_script.specs.declared.step.Step.{Step}
 use Rattle.event_script.specs.declared.step.Stop.{Stop}
 use Rattle.event_script.specs.declared.step.Stop.TheVariants as stop
@@ -15,9 +16,9 @@ use Rattle.event_script.specs.Run.{IsRun}
 use Rattle.event_script.proofs.Runs.{run_of}
 use Rattle.event_script.proofs.Filling.{moves_trans}
 use Rattle.envoy_stats.specs.declared.reading.FileRun.{FileRun}
-use Rattle.envoy_stats.specs.Reading.{ReadsSource}
-use Rattle.envoy_stats.specs.Reporting.{taken_at}
-use Rattle.envoy_stats.proofs.Following.{SoFar}
+use Rattle.envoy_stats.specs.FileRun.{IsSourceRun}
+use Rattle.envoy_stats.specs.Report.{taken_at}
+use Rattle.envoy_stats.proofs.SoFar.{SoFar}
 use Rattle.counter_store.specs.Counting.{History}
 
 -- what holds of the end that was answered
@@ -38,41 +39,41 @@ was_opened : (stopped : Option Stop) (end : FileEnd) → StoppedBy stopped end �
 was_opened None end by e = by
 was_opened (Some stop) end by e = subst (λ (x : FileEnd). StoppedBy (Some stop) x) e by
 
-module _ {S : Type 0} (left : S → Option (List ℕ)) (origin : S → List ℕ) (faults : S → ℕ) where
+module _ {S : Type 0} (state : S → SourceState) where
   pub read_all : (source : S) (init old new : Reading S) (earlier later : History) (run : FileRun)
-      → SoFar left origin init old earlier later run.verdicts.items
-      → init ≡ record { source = source; number = 1; given = 0; offset = 0; pending = []; taken = 0; first_faults = faults source; stopped = None; ended = None }
-      → (answer : Result Step NoMemory) → Answers answer run.end.end → (got : List ℕ) → Moves left old new got (events_of answer)
+      → SoFar state init old earlier later run.verdicts
+      → init ≡ record { source = source; number = 1; given = 0; offset = 0; pending = []; taken = 0; first_faults = (state source).faults; stopped = None; ended = None }
+      → (answer : Result Step NoMemory) → Answers answer run.end.end → (got : List ℕ) → Moves state old new got (events_of answer)
       → IfEnded answer (λ end. new.ended ≡ Some end) → IfEnded answer (λ end. StoppedBy new.stopped end)
-      → IfEnded answer (λ end. Explains (left new.source) new.first_faults (faults new.source) end)
-      → (new.stopped ≡ Some stop.Whole → IsAtEnd (left new.source)) → new.first_faults ≡ old.first_faults → origin new.source ≡ origin old.source
-      → run.end.taken ≡ taken_at run.end.end new.taken → run.end.faults_before ≡ faults source → run.end.faults_after ≡ faults new.source
-      → ReadsSource left origin faults source earlier later run
+      → IfEnded answer (λ end. Explains (state new.source).left new.first_faults (state new.source).faults end)
+      → (new.stopped ≡ Some stop.Whole → IsAtEnd (state new.source).left) → new.first_faults ≡ old.first_faults → (state new.source).origin ≡ (state old.source).origin
+      → run.end.taken ≡ taken_at run.end.end new.taken → run.end.faults_before ≡ (state source).faults → run.end.faults_after ≡ (state new.source).faults
+      → IsSourceRun state source earlier later run
   read_all source init old new earlier later run so is answer answers got moves ended by explained at_end first same_origin taken_is before_is after_is =
       let end = run.end.end in
-      let last : Moves left old new got [] = subst (λ (es : List Event). Moves left old new got es) answers.0 moves in
-      let all = moves_trans left init old new so.got got so.events [] so.moves last in
+      let last : Moves state old new got [] = subst (λ (es : List Event). Moves state old new got es) answers.0 moves in
+      let all = moves_trans state init old new so.got got so.events [] so.moves last in
       let from_start = rw (is, append-nil) at all in
       let stopped : StoppedBy new.stopped end = at_end_of answer end (λ e. StoppedBy new.stopped e) answers by in
-      let why : Explains (left new.source) new.first_faults (faults new.source) end = at_end_of answer end (λ e. Explains (left new.source) new.first_faults (faults new.source) e) answers explained in
-      let faults_first : new.first_faults ≡ faults source = first ∙ so.first ∙ ap (λ r. r.first_faults) is in
+      let why : Explains (state new.source).left new.first_faults (state new.source).faults end = at_end_of answer end (λ e. Explains (state new.source).left new.first_faults (state new.source).faults e) answers explained in
+      let faults_first : new.first_faults ≡ (state source).faults = first ∙ so.first ∙ ap (λ r. r.first_faults) is in
       record {
         events = so.events;
-        is_run = subst (λ (n : ℕ). IsRun (left source) end n so.events) (sym taken_is)
-            (run_taken (left source) end new.taken so.events
-            (run_of left source new (faults source) (so.got ++ got) so.events end from_start (at_end_of answer end (λ e. new.ended ≡ Some e) answers ended) stopped at_end));
-        applies = record {
+        is_run = subst (λ (n : ℕ). IsRun (state source).left end n so.events) (sym taken_is)
+            (run_taken (state source).left end new.taken so.events
+            (run_of state source new (state source).faults (so.got ++ got) so.events end from_start (at_end_of answer end (λ e. new.ended ≡ Some e) answers ended) stopped at_end));
+        is_applied = record {
           applied = so.applied;
           verdicts_are = so.verdicts_are;
           few = omega (arith, so.few, so.bound);
         };
         opened = was_opened new.stopped end stopped;
         later = new.source;
-        same_origin = same_origin ∙ so.same_origin ∙ ap (λ r. origin r.source) is;
+        origin = same_origin ∙ so.origin ∙ ap (λ r. (state r.source).origin) is;
         given = so.got ++ got;
         consumed = from_start.consumed;
         taken = taken_is ∙ ap (taken_at end) (from_start.taken ∙ zero-add (length (so.got ++ got)));
         count_before = before_is;
         count_after = after_is;
-        rose = λ fault. rw (before_is, after_is, ← faults_first) (subst (λ (e : FileEnd). Explains (left new.source) new.first_faults (faults new.source) e) fault why);
+        rose = λ fault. rw (before_is, after_is, ← faults_first) (subst (λ (e : FileEnd). Explains (state new.source).left new.first_faults (state new.source).faults e) fault why);
       }

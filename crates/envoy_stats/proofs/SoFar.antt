@@ -9,6 +9,7 @@ use Rattle.stat_defs.specs.declared.events.Event.{Event}
 use Rattle.stat_defs.specs.declared.events.Event.TheVariants.{Inc, Gauge, Rec, SetText, OpenScope, Release}
 use Rattle.stat_defs.specs.declared.history.Verdict.{Verdict}
 use Rattle.stat_defs.specs.declared.history.Verdict.TheVariants.{Accepted, Opened, Released, LabelTaken, NoScope, Rejected, OverLimit, NoRoom}
+use Rattle.stats_io.specs.States.{SourceState}
 use Rattle.event_script.specs.declared.pulling.TheConstants.{MAX_FILE_BYTES}
 use Rattle.event_script.specs.Grammar.{IsLawful}
 use Rattle.event_script.specs.Reading.{Reading, Moves}
@@ -73,28 +74,28 @@ few_counters rules events = omega (
 )
 
 -- the events so far, applied behind the earlier ones, between the reader as it was made and as it is now
-pub record SoFar {S : Type 0} (left : S → Option (List ℕ)) (origin : S → List ℕ) (init now : Reading S) (earlier later : History) (given : List Verdict) : Type 0 where
+pub record SoFar {S : Type 0} (state : S → SourceState) (init now : Reading S) (earlier later : History) (given : List Verdict) : Type 0 where
   pub got : List ℕ
   pub events : List Event
-  pub moves : Moves left init now got events
+  pub moves : Moves state init now got events
   pub applied : later ≡ record earlier { events = earlier.events ++ events }
   pub verdicts_are : given ≡ verdicts earlier.rules earlier.events events
   pub few : length events + 1 ≤ now.number
   pub bound : now.number ≤ MAX_FILE_BYTES + 1
   pub first : now.first_faults ≡ init.first_faults
-  pub same_origin : origin now.source ≡ origin init.source
+  pub origin : (state now.source).origin ≡ (state init.source).origin
 
-module _ {S : Type 0} (left : S → Option (List ℕ)) (origin : S → List ℕ) where
-  moves_none : (r : Reading S) → Moves left r r [] []
+module _ {S : Type 0} (state : S → SourceState) where
+  moves_none : (r : Reading S) → Moves state r r [] []
   moves_none r = record {
-    consumed = Consumes-nil (left r.source);
+    consumed = Consumes-nil (state r.source).left;
     taken = sym (add-zero r.taken);
     given = sym (add-zero r.given);
     follows = λ more last may. may;
     answers = λ more last others end may comes. comes;
   }
 
-  pub so_far_none : (init : Reading S) (earlier : History) (given : List Verdict) → init.number ≡ 1 → given ≡ [] → SoFar left origin init init earlier earlier given
+  pub so_far_none : (init : Reading S) (earlier : History) (given : List Verdict) → init.number ≡ 1 → given ≡ [] → SoFar state init init earlier earlier given
   so_far_none init earlier given one none_given = record {
     got = [];
     events = [];
@@ -104,18 +105,18 @@ module _ {S : Type 0} (left : S → Option (List ℕ)) (origin : S → List ℕ)
     few = omega (arith, one);
     bound = omega (arith, one);
     first = refl;
-    same_origin = refl;
+    origin = refl;
   }
 
   -- one event more
-  pub so_far_more : (init old new : Reading S) (earlier later latest : History) (given : List Verdict) (verdict : Verdict) → SoFar left origin init old earlier later given
-      → (event : Event) (got : List ℕ) → Moves left old new got (event ∷ []) → old.number < new.number → new.number ≤ MAX_FILE_BYTES + 1 → new.first_faults ≡ old.first_faults → origin new.source ≡ origin old.source
+  pub so_far_more : (init old new : Reading S) (earlier later latest : History) (given : List Verdict) (verdict : Verdict) → SoFar state init old earlier later given
+      → (event : Event) (got : List ℕ) → Moves state old new got (event ∷ []) → old.number < new.number → new.number ≤ MAX_FILE_BYTES + 1 → new.first_faults ≡ old.first_faults → (state new.source).origin ≡ (state old.source).origin
       → verdict ≡ verdict_of later.rules (counters later.rules later.events) event → latest ≡ record later { events = later.events ++ event ∷ [] }
-      → SoFar left origin init new earlier latest (given ++ verdict ∷ [])
-  so_far_more init old new earlier later latest given verdict so event got step on bound first same_origin is_verdict is_applied = record {
+      → SoFar state init new earlier latest (given ++ verdict ∷ [])
+  so_far_more init old new earlier later latest given verdict so event got step on bound first origin is_verdict is_applied = record {
     got = so.got ++ got;
     events = so.events ++ (event ∷ []);
-    moves = moves_trans left init old new so.got got so.events (event ∷ []) so.moves step;
+    moves = moves_trans state init old new so.got got so.events (event ∷ []) so.moves step;
     applied = is_applied ∙ ap {A = History} {B = History} (λ h. record h { events = h.events ++ event ∷ [] }) so.applied
         ∙ ap {B = History} (λ es. record earlier { events = es }) (append_assoc earlier.events so.events (event ∷ []));
     verdicts_are =
@@ -124,10 +125,10 @@ module _ {S : Type 0} (left : S → Option (List ℕ)) (origin : S → List ℕ)
     few = omega (arith, so.few, on, length-append so.events (event ∷ []));
     bound = bound;
     first = first ∙ so.first;
-    same_origin = same_origin ∙ so.same_origin;
+    origin = origin ∙ so.origin;
   }
 
   -- the events behind the earlier ones are few
-  pub room_so_far : (init now : Reading S) (earlier later : History) (given : List Verdict) → SoFar left origin init now earlier later given
+  pub room_so_far : (init now : Reading S) (earlier later : History) (given : List Verdict) → SoFar state init now earlier later given
       → length earlier.events + MAX_FILE_BYTES < 2 ^ 31 → length later.events < 2 ^ 31
   room_so_far init now earlier later given so room = omega (arith, so.few, so.bound, room, length-append earlier.events so.events, ap (λ h. length h.events) so.applied)

@@ -1,105 +1,127 @@
 -- How a call ends, and what it leaves. This project's own.
-use Rattle.std.specs.Prelude.{◌≡◌, ◌≢◌, ◌⊎◌, ◌==◌, if◌then◌else◌, ℕ, Option, Some, None, Ok, Err, List, [], ◌∷◌, map}
-use Rattle.std.specs.Io.KnownBytes.{Appends, Keeps}
+use Rattle.std.specs.Prelude.{◌≡◌, ◌≢◌, ◌⊎◌, ◌↔◌, ◌==◌, if◌then◌else◌, ℕ, Option, Some, None, Ok, Err, List, [], ◌∷◌, map, codes}
+use Rattle.std.specs.Io.KnownBytes.{Appends}
+use Rattle.std.specs.IoError.{error_kind}
+use Rattle.std_io.specs.declared.io.error.Error.{Error}
+use Rattle.std.specs.declared.io.ErrorKind.TheVariants.{OutOfMemory}
 use Rattle.stat_defs.specs.Faults.{Rose}
 use Rattle.stat_defs.specs.declared.reports.FileEnd.{FileEnd}
 use Rattle.stat_defs.specs.declared.reports.FileEnd.TheVariants.{Whole, BadLine, LineTooLong, TooBig, TooMany, ReadFault, NotOpened}
 use Rattle.stat_defs.specs.declared.reports.Report.{Report}
-use Rattle.stats_io.specs.Pushes.{AppendsFront}
-use Rattle.tag_rules.specs.Making.{Memory}
+use Rattle.stats_io.specs.States.{SinkState}
+use Rattle.stats_io.specs.Push.{AppendsFront, WritesWhole, WritesFront}
 use Rattle.boot_load.specs.declared.loading.Boot.{Boot}
 use Rattle.boot_load.specs.declared.fault.LoadFault.{LoadFault}
 use Rattle.boot_load.specs.declared.fault.LoadFault.TheVariants as unloaded
-use Rattle.boot_load.specs.Loading.{ShelfMemory, Loads}
-use Rattle.boot_load.specs.Telling.{boot_line}
-use Rattle.envoy_stats.specs.Files.{FileRead, AreFiles}
-use Rattle.envoy_stats.specs.Reporting.{rules_of, report_of}
+use Rattle.boot_load.specs.Load.{Loads}
+use Rattle.boot_load.specs.BootLine.{boot_line}
+use Rattle.envoy_stats.specs.declared.status.TheConstants.{DONE, NO_COMMAND, BAD_BOOT, BAD_FILE, UNREADABLE, UNWRITTEN, NO_MEMORY}
+use Rattle.envoy_stats.specs.Command.{IsReplay, IsCommand}
+use Rattle.envoy_stats.specs.World.{World, Sight}
+use Rattle.envoy_stats.specs.FileRead.{FileRead, AreFiles}
+use Rattle.envoy_stats.specs.Report.{counting_rules, report_of}
 use Rattle.envoy_stats.specs.Output.{IsOutput}
-use Rattle.envoy_stats.specs.Telling.{out_of_memory, said_of}
+use Rattle.envoy_stats.specs.FaultLines.{usage, out_of_memory, said_of}
 
--- what a sink tells: the bytes that were written, and its count of faults
-pub record SinkState : Type 0 where
-  pub written : Option (List ℕ)
-  pub faults : ℕ
-
--- where the sink's count did not rise, the text was written to it
-abbrev pub Says : SinkState → SinkState → List ℕ → Type 0
-Says before after text = ¬ Rose before.faults after.faults → Appends before.written after.written text
-
--- the status of a file's end: 3 for a file that breaks the rules, 4 for one that could not be read
+-- the status of a file's end
 abbrev pub status_of : FileEnd → ℕ
-status_of Whole = 0
-status_of (BadLine n) = 3
-status_of (LineTooLong n) = 3
-status_of TooBig = 3
-status_of TooMany = 3
-status_of ReadFault = 4
-status_of NotOpened = 4
+status_of Whole = DONE
+status_of (BadLine n) = BAD_FILE
+status_of (LineTooLong n) = BAD_FILE
+status_of TooBig = BAD_FILE
+status_of TooMany = BAD_FILE
+status_of ReadFault = UNREADABLE
+status_of NotOpened = UNREADABLE
 
 -- the status of the first file that was not read whole
 abbrev pub status_of_all : List FileEnd → ℕ
-status_of_all [] = 0
-status_of_all (end ∷ ends) = if status_of end == 0 then status_of_all ends else status_of end
+status_of_all [] = DONE
+status_of_all (end ∷ ends) = if status_of end == DONE then status_of_all ends else status_of end
 
--- the status of a bootstrap that was not loaded: 2 for one that breaks the rules, 4 for one that could not be read
+-- the status of a bootstrap that was not loaded
 abbrev pub status_of_boot : LoadFault → ℕ
-status_of_boot unloaded.TooBig = 2
-status_of_boot (unloaded.Faulty fault) = 2
-status_of_boot (unloaded.BadPattern path) = 2
-status_of_boot unloaded.ReadFailed = 4
-status_of_boot unloaded.NoMemory = 6
+status_of_boot unloaded.TooBig = BAD_BOOT
+status_of_boot (unloaded.Faulty fault) = BAD_BOOT
+status_of_boot (unloaded.BadPattern path) = BAD_BOOT
+status_of_boot unloaded.ReadFailed = UNREADABLE
+status_of_boot unloaded.NoMemory = NO_MEMORY
 
--- All of the output was written, no push failed, and the status is that of the files' ends. Or the status is 5: a push failed,
--- and what was written is a front of the output.
-abbrev pub IsWritten : SinkState → SinkState → List ℕ → ℕ → List FileEnd → Type 0
-IsWritten before after output status ends =
-    ((status ≡ status_of_all ends) × Appends before.written after.written output × (after.faults ≡ before.faults))
-    ⊎ ((status ≡ 5) × AppendsFront before.written after.written output × Rose before.faults after.faults)
+-- where the sink's count did not rise, the text was written to it
+abbrev pub IsSaid : SinkState → SinkState → List ℕ → Type 0
+IsSaid before after text = ¬ Rose before.faults after.faults → Appends before.written after.written text
 
-module _ {S : Type 0} (left : S → Option (List ℕ)) (origin : S → List ℕ) (faults : S → ℕ) (holds : List ℕ → Option (List ℕ)) (boot : List ℕ) (names : List (List ℕ))
-    (shelf_before shelf_after : ShelfMemory) (maker_before maker_after : Memory) (out_before out_after err_before err_after : SinkState) where
-  -- the bootstrap was loaded, with all its patterns, and then these files were read
-  pub record IsRunOver (loaded : Boot) (files : List FileRead) : Type 0 where
-    pub between : ShelfMemory
-    pub boot_loaded : Loads origin faults (holds boot) boot shelf_before between maker_before maker_after (Ok loaded)
-    pub files_read : AreFiles left origin faults holds names between shelf_after files
+-- All of the text was written, and the status is this one. Or a push failed behind a front of the text, which has a status of
+-- its own.
+abbrev pub IsWritten : SinkState → SinkState → List ℕ → ℕ → ℕ → Type 0
+IsWritten before after text whole status =
+    ((status ≡ whole) × WritesWhole before after text) ⊎ ((status ≡ UNWRITTEN) × WritesFront before after text)
 
-  -- The report is that of the files that were read, and their output was written.
-  pub record IsReplayed (status : ℕ) (report : Report) : Type 0 where
-    pub loaded : Boot
-    pub files : List FileRead
-    pub run : IsRunOver loaded files
-    pub report_is : report ≡ report_of (rules_of loaded.config) files
-    pub output : List ℕ
-    pub output_is : IsOutput loaded.config files output
-    pub written : IsWritten out_before out_after output status (map (λ file. file.end.end) files)
-    pub said : Says err_before err_after (said_of (map (λ file. file.end.end) files) status)
+module _ {K F S O E : Type 0} (see : Sight K F S O E) (before after : World K F O E) where
+  -- the words are no command: all but `err` is as it was
+  pub record IsRefused : Type 0 where
+    pub maker : after.maker ≡ before.maker
+    pub shelf : after.shelf ≡ before.shelf
+    pub out : after.out ≡ before.out
+    pub said : IsSaid (see.err before.err) (see.err after.err) usage
 
-  -- the bootstrap was not loaded, and nothing was written
-  pub record IsBootFault (status : ℕ) : Type 0 where
-    pub fault : LoadFault
-    pub cause : Loads origin faults (holds boot) boot shelf_before shelf_after maker_before maker_after (Err fault)
-    pub no_want : fault ≢ unloaded.NoMemory
-    pub status_is : status ≡ status_of_boot fault
-    pub unwritten : out_after ≡ out_before
-    pub said : Says err_before err_after (boot_line fault)
+  module _ (boot : List ℕ) (names : List (List ℕ)) where
+    -- the bootstrap was loaded, with all its patterns, and then these files were read
+    pub record IsRunOver (loaded : Boot) (files : List FileRead) : Type 0 where
+      pub between : F
+      pub boot_loaded : Loads see.source (see.holds before.shelf boot) boot (see.shelf before.shelf) (see.shelf between)
+          (see.maker before.maker) (see.maker after.maker) (Ok loaded)
+      pub files_read : AreFiles see.shelf see.source (see.holds before.shelf) names between after.shelf files
 
-  -- a front was written of the output of files that were read
-  pub record IsCutShort : Type 0 where
-    pub loaded : Boot
-    pub files : List FileRead
-    pub run : IsRunOver loaded files
-    pub output : List ℕ
-    pub output_is : IsOutput loaded.config files output
-    pub front : AppendsFront out_before.written out_after.written output
+    -- the report is that of the files that were read, and their output was written
+    pub record IsReplayed (status : ℕ) (report : Report) : Type 0 where
+      pub loaded : Boot
+      pub files : List FileRead
+      pub run : IsRunOver loaded files
+      pub report_is : report ≡ report_of (counting_rules loaded.config) files
+      pub output : List ℕ
+      pub output_is : IsOutput loaded.config files output
+      pub written : IsWritten (see.out before.out) (see.out after.out) output (status_of_all (map (λ file. file.end.end) files)) status
+      pub said : IsSaid (see.err before.err) (see.err after.err) (said_of (map (λ file. file.end.end) files) status)
 
-  -- memory was wanting: nothing was written, or a front of such an output
-  pub record IsGivenUp (status : ℕ) : Type 0 where
-    pub status_is : status ≡ 6
-    pub written : Keeps out_before.written out_after.written ⊎ IsCutShort
-    pub said : Says err_before err_after out_of_memory
+    -- the bootstrap was not loaded, and nothing was written; for `-` no file was opened
+    pub record IsBootFault (status : ℕ) : Type 0 where
+      pub fault : LoadFault
+      pub cause : Loads see.source (see.holds before.shelf boot) boot (see.shelf before.shelf) (see.shelf after.shelf)
+          (see.maker before.maker) (see.maker after.maker) (Err fault)
+      pub no_want : fault ≢ unloaded.NoMemory
+      pub status_is : status ≡ status_of_boot fault
+      pub unwritten : after.out ≡ before.out
+      pub usual : boot ≡ codes "-" → after.shelf ≡ before.shelf
+      pub said : IsSaid (see.err before.err) (see.err after.err) (boot_line fault)
 
-  -- a report comes where the bootstrap was loaded and memory was there
-  abbrev pub Replays : ℕ → Option Report → Type 0
-  Replays status None = IsBootFault status ⊎ IsGivenUp status
-  Replays status (Some report) = IsReplayed status report
+    -- a front was written of the output of files that were read
+    pub record IsCutShort : Type 0 where
+      pub loaded : Boot
+      pub files : List FileRead
+      pub run : IsRunOver loaded files
+      pub output : List ℕ
+      pub output_is : IsOutput loaded.config files output
+      pub front : AppendsFront (see.out before.out).written (see.out after.out).written output
+
+    -- memory was wanting: nothing was written, or a front of such an output
+    pub record IsGivenUp (status : ℕ) : Type 0 where
+      pub status_is : status ≡ NO_MEMORY
+      pub written : (after.out ≡ before.out) ⊎ IsCutShort
+      pub said : IsSaid (see.err before.err) (see.err after.err) out_of_memory
+
+    -- a report comes where the bootstrap was loaded and memory was there
+    abbrev pub Replays : ℕ → Option Report → Type 0
+    Replays status None = IsBootFault status ⊎ IsGivenUp status
+    Replays status (Some report) = IsReplayed status report
+
+  -- what a call with these words does: the contract of `quiet_stats`
+  pub record IsCall (words : List (List ℕ)) (status : ℕ) (report : Option Report) : Type 0 where
+    pub usage_status : (status ≡ NO_COMMAND) ↔ ¬ IsCommand words
+    pub refused : ¬ IsCommand words → (report ≡ None) × IsRefused
+    pub replayed : (boot : List ℕ) → (names : List (List ℕ)) → IsReplay words boot names → Replays boot names status report
+
+-- the words could not be read: for want of memory, or since one of them is no text
+abbrev pub IsUnreadable : SinkState → SinkState → Error → ℕ → Type 0
+IsUnreadable before after fault status =
+    (error_kind fault ≡ OutOfMemory → (status ≡ NO_MEMORY) × IsSaid before after out_of_memory)
+    × (error_kind fault ≢ OutOfMemory → (status ≡ NO_COMMAND) × IsSaid before after usage)

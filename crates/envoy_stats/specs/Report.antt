@@ -8,12 +8,13 @@ use Rattle.stat_defs.specs.declared.reports.Delta.{Delta}
 use Rattle.stat_defs.specs.declared.reports.FileEnd.{FileEnd}
 use Rattle.stat_defs.specs.declared.reports.FileEnd.TheVariants.{Whole, BadLine, LineTooLong, TooBig, TooMany, ReadFault, NotOpened}
 use Rattle.stat_defs.specs.declared.reports.Report.{Report}
+use Rattle.stat_defs.specs.declared.reports.WorkerEnd.{WorkerEnd}
 use Rattle.counter_store.specs.Counting.{Rules, verdicts, tally}
-use Rattle.envoy_stats.specs.Files.{FileRead, all_events}
+use Rattle.envoy_stats.specs.FileRead.{FileRead, all_events}
 
 -- the configured scopes are live, and the configured matcher decides which names are admitted
-abbrev pub rules_of : Config → Rules
-rules_of config = record { scopes = config.scopes; matcher = config.matcher }
+abbrev pub counting_rules : Config → Rules
+counting_rules config = record { scopes = config.scopes; matcher = config.matcher }
 
 -- a list of verdicts for each file, which is applied behind the earlier ones
 abbrev pub verdicts_behind : Rules → List Event → List FileRead → List (List Verdict)
@@ -27,15 +28,20 @@ delta_of place = record { id = record { 0 = place.0 }; n = place.1.1 }
 abbrev pub deltas : List (List ℕ × ℕ) → List Delta
 deltas entries = map delta_of (enumerate_from 0 entries)
 
--- one flush of all that was counted, and no log yet
-abbrev pub report_of : Rules → List FileRead → Report
-report_of rules files = record {
-  verdicts = verdicts_behind rules [] files;
-  flushes = (record { at = 0; deltas = deltas (tally rules (all_events files)); gauges = []; parts = [] }) ∷ [];
+-- one flush of these counters, and no log yet
+abbrev pub report_with : List (List Verdict) → List (List ℕ × ℕ) → List WorkerEnd → Report
+report_with verdicts entries ends = record {
+  verdicts = verdicts;
+  flushes = (record { at = 0; deltas = deltas entries; gauges = []; parts = [] }) ∷ [];
   log = [];
   reads = [];
-  ends = map (λ file. file.end) files;
+  ends = ends;
 }
+
+-- of files that were read, whose events were counted by these rules
+abbrev pub report_of : Rules → List FileRead → Report
+report_of rules files =
+    report_with (verdicts_behind rules [] files) (tally rules (all_events files)) (map (λ file. file.end) files)
 
 -- the bytes that were taken are told where the source failed
 abbrev pub taken_at : FileEnd → ℕ → ℕ

@@ -5,17 +5,18 @@ use Rattle.stat_defs.specs.Faults.{Rose}
 use Rattle.stat_defs.specs.declared.reports.FileEnd.{FileEnd}
 use Rattle.stat_defs.specs.declared.reports.FileEnd.TheVariants.{Whole, BadLine, LineTooLong, TooBig, TooMany, ReadFault, NotOpened}
 use Rattle.stat_defs.specs.declared.reports.WorkerEnd.{WorkerEnd}
-use Rattle.boot_load.specs.Loading.{ShelfMemory}
+use Rattle.stats_io.specs.States.{SourceState, ShelfState}
+use Rattle.stats_io.specs.Open.{IsUnopened}
 
-module _ {S : Type 0} (left : S → Option (List ℕ)) (origin : S → List ℕ) (faults : S → ℕ) (content : Option (List ℕ)) (name : List ℕ) (before after : ShelfMemory) where
+module _ {S : Type 0} (source : S → SourceState) (content : Option (List ℕ)) (name : List ℕ) (before after : ShelfState) where
   -- The file was opened, which leaves the shelf's count. The end's two counts are those of its source: 0 as it was opened, and
   -- that of a later state, which has given these bytes of the file.
   pub record IsOpened (given : List ℕ) (end : WorkerEnd) : Type 0 where
     pub later : S
-    pub same_origin : origin later ≡ name
-    pub consumed : Consumes content (left later) given
+    pub origin : (source later).origin ≡ name
+    pub consumed : Consumes content (source later).left given
     pub count_before : end.faults_before ≡ 0
-    pub count_after : end.faults_after ≡ faults later
+    pub count_after : end.faults_after ≡ (source later).faults
     pub shelf : after ≡ before
 
   -- the source's count rose, and so many bytes were taken from it
@@ -25,7 +26,7 @@ module _ {S : Type 0} (left : S → Option (List ℕ)) (origin : S → List ℕ)
     pub rose : Rose end.faults_before end.faults_after
     pub taken : end.taken ≡ length given
 
-  -- the source did not fail
+  -- the file was read up to this end
   pub record IsRead (end : WorkerEnd) : Type 0 where
     pub given : List ℕ
     pub opened : IsOpened given end
@@ -35,8 +36,7 @@ module _ {S : Type 0} (left : S → Option (List ℕ)) (origin : S → List ℕ)
   pub record IsFailedOpening (end : WorkerEnd) : Type 0 where
     pub count_before : end.faults_before ≡ before.faults
     pub count_after : end.faults_after ≡ after.faults
-    pub rose : Rose before.faults after.faults
-    pub name_failed : after.failed ≡ name
+    pub unopened : IsUnopened name before after
     pub taken : end.taken ≡ 0
 
   -- the cause of a file's end

@@ -4,11 +4,12 @@ use Rattle.std.proofs.lemmas.List.{take_all, take-append-le, length-append}
 use Rattle.std.proofs.KnownBytes.{Consumes-trans}
 use Rattle.stat_defs.specs.declared.events.Event.{Event}
 use Rattle.stat_defs.specs.declared.reports.FileEnd.{FileEnd}
+use Rattle.stats_io.specs.States.{SourceState}
 use Rattle.event_script.specs.declared.step.Stop.{Stop}
 use Rattle.event_script.specs.declared.step.Stop.TheVariants.{Whole, TooBig, ReadFault}
 use Rattle.event_script.specs.declared.pulling.TheConstants.{MAX_FILE_BYTES}
 use Rattle.event_script.specs.Script.{Reads, lines_until, FileFrom}
-use Rattle.stats_io.specs.Limits.{Grows}
+use Rattle.stats_io.specs.PullUpTo.{Grows}
 use Rattle.event_script.specs.Pulled.{Stops}
 use Rattle.event_script.specs.Keeping.{IsFresh}
 use Rattle.event_script.specs.declared.cutting.Place.{Place}
@@ -39,10 +40,10 @@ module _ (old got : List ℕ) (events : List Event) (end : FileEnd) where
   filled after before now TooBig stops more last may reads = past_limit more last stops reads
 
 -- two moves in a row
-pub moves_trans : {S : Type 0} (left : S → Option (List ℕ)) (a b c : Reading S) (got more : List ℕ) (events others : List Event)
-    → Moves left a b got events → Moves left b c more others → Moves left a c (got ++ more) (events ++ others)
-moves_trans left a b c got more events others p q = record {
-  consumed = Consumes-trans (left a.source) (left b.source) (left c.source) got more p.consumed q.consumed;
+pub moves_trans : {S : Type 0} (state : S → SourceState) (a b c : Reading S) (got more : List ℕ) (events others : List Event)
+    → Moves state a b got events → Moves state b c more others → Moves state a c (got ++ more) (events ++ others)
+moves_trans state a b c got more events others p q = record {
+  consumed = Consumes-trans (state a.source).left (state b.source).left (state c.source).left got more p.consumed q.consumed;
   taken = omega (arith, p.taken, q.taken, length-append got more);
   given = omega (arith, p.given, q.given, length-append events others);
   follows = λ rest last may. rw (append_assoc got more rest) (p.follows (more ++ rest) last (q.follows rest last may));
@@ -50,11 +51,11 @@ moves_trans left a b c got more events others p q = record {
       rw (append_assoc got more rest, append_assoc events others later) (p.answers (more ++ rest) last (others ++ later) end (q.follows rest last may) (q.answers rest last later end may comes));
 }
 
-module _ {S : Type 0} (left : S → Option (List ℕ)) (source new_source : S) (bytes new_bytes : List ℕ) (grows : Grows (left source) (left new_source) bytes new_bytes) (first : ℕ) where
+module _ {S : Type 0} (state : S → SourceState) (source new_source : S) (bytes new_bytes : List ℕ) (grows : Grows (state source) (state new_source) bytes new_bytes) (first : ℕ) where
   lengths : length new_bytes ≡ length bytes + length grows.got
   lengths = ap length grows.appended ∙ length-append bytes grows.got
 
-  kept_core : Moves left
+  kept_core : Moves state
       (record { source = source; number = 1; given = 0; offset = 0; pending = bytes; taken = length bytes; first_faults = first; stopped = None; ended = None })
       (record { source = new_source; number = 1; given = 0; offset = 0; pending = new_bytes; taken = length new_bytes; first_faults = first; stopped = None; ended = None })
       grows.got []
@@ -68,7 +69,7 @@ module _ {S : Type 0} (left : S → Option (List ℕ)) (source new_source : S) (
         subst (λ (l : List ℕ). FileFrom 1 0 0 l last others end) same comes;
   }
 
-  filled_core : (stop : Stop) (before now : ℕ) → Stops (left new_source) before now (length new_bytes) stop → Moves left
+  filled_core : (stop : Stop) (before now : ℕ) → Stops (state new_source).left before now (length new_bytes) stop → Moves state
       (record { source = source; number = 1; given = 0; offset = 0; pending = bytes; taken = length bytes; first_faults = first; stopped = None; ended = None })
       (record { source = new_source; number = 1; given = 0; offset = 0; pending = take MAX_FILE_BYTES new_bytes; taken = length new_bytes; first_faults = first; stopped = Some stop; ended = None })
       grows.got []
@@ -78,20 +79,20 @@ module _ {S : Type 0} (left : S → Option (List ℕ)) (source new_source : S) (
     given = refl;
     follows = λ more last may. tt;
     answers = λ more last others end may comes.
-        filled bytes grows.got others end (left new_source) before now stop
-        (subst (λ (l : List ℕ). Stops (left new_source) before now (length l) stop) grows.appended stops) more last may
+        filled bytes grows.got others end (state new_source).left before now stop
+        (subst (λ (l : List ℕ). Stops (state new_source).left before now (length l) stop) grows.appended stops) more last may
         (subst (λ (l : List ℕ). Reads 1 0 (lines_until stop (take MAX_FILE_BYTES l)) stop others end) grows.appended comes);
   }
 
   module _ (place : Place) (taken : ℕ) (stopped : Option Stop) (ended : Option FileEnd) (none : stopped ≡ None) (is : IsFresh bytes place taken ended) where
-    pub moves_kept : (count : ℕ) → count ≡ length new_bytes → Moves left
+    pub moves_kept : (count : ℕ) → count ≡ length new_bytes → Moves state
         (record { source = source; number = place.number; given = place.given; offset = place.at; pending = drop place.at bytes; taken = taken; first_faults = first; stopped = stopped; ended = ended })
         (record { source = new_source; number = place.number; given = place.given; offset = place.at; pending = drop place.at new_bytes; taken = count; first_faults = first; stopped = stopped; ended = ended })
         grows.got []
     moves_kept count e = rw (is.at_start, is.all, none, is.none_ended, e) kept_core
 
     pub moves_filled : (count : ℕ) → count ≡ length new_bytes → (cut : List ℕ) → cut ≡ take MAX_FILE_BYTES new_bytes
-        → (stop : Stop) (before now : ℕ) → Stops (left new_source) before now (length new_bytes) stop → Moves left
+        → (stop : Stop) (before now : ℕ) → Stops (state new_source).left before now (length new_bytes) stop → Moves state
         (record { source = source; number = place.number; given = place.given; offset = place.at; pending = drop place.at bytes; taken = taken; first_faults = first; stopped = stopped; ended = ended })
         (record { source = new_source; number = place.number; given = place.given; offset = place.at; pending = drop place.at cut; taken = count; first_faults = first; stopped = Some stop; ended = ended })
         grows.got []

@@ -9,6 +9,7 @@ use Rattle.std.specs.Io.KnownBytes.{Consumes, IsAtEnd}
 use Rattle.stat_defs.specs.declared.events.Event.{Event}
 use Rattle.stat_defs.specs.declared.reports.FileEnd.{FileEnd}
 use Rattle.stat_defs.specs.declared.reports.FileEnd.TheVariants as file
+use Rattle.stats_io.specs.States.{SourceState}
 use Rattle.event_script.specs.declared.step.Stop.{Stop}
 use Rattle.event_script.specs.declared.step.Stop.TheVariants.{Whole, TooBig, ReadFault}
 use Rattle.event_script.specs.declared.pulling.TheConstants.{MAX_FILE_BYTES}
@@ -172,12 +173,12 @@ module _ (before after : Option (List ℕ)) (got : List ℕ) (events : List Even
   run_is stop file.NotOpened by at_end script = absurd by
 
 -- Where the reader was new, what it read is the run of its file.
-pub run_of : {S : Type 0} (left : S → Option (List ℕ)) (source : S) (now : Reading S) (first : ℕ) (got : List ℕ) (events : List Event) (end : FileEnd)
-    → Moves left (record { source = source; number = 1; given = 0; offset = 0; pending = []; taken = 0; first_faults = first; stopped = None; ended = None }) now got events
-    → now.ended ≡ Some end → StoppedBy now.stopped end → (now.stopped ≡ Some Whole → IsAtEnd (left now.source))
-    → IsRun (left source) end now.taken events
-run_of left source now first got events end moves ended by at_end =
-    subst (λ (n : ℕ). IsRun (left source) end n events) (sym (moves.taken ∙ zero-add (length got))) (stopped_cases now.stopped refl by)
+pub run_of : {S : Type 0} (state : S → SourceState) (source : S) (now : Reading S) (first : ℕ) (got : List ℕ) (events : List Event) (end : FileEnd)
+    → Moves state (record { source = source; number = 1; given = 0; offset = 0; pending = []; taken = 0; first_faults = first; stopped = None; ended = None }) now got events
+    → now.ended ≡ Some end → StoppedBy now.stopped end → (now.stopped ≡ Some Whole → IsAtEnd (state now.source).left)
+    → IsRun (state source).left end now.taken events
+run_of state source now first got events end moves ended by at_end =
+    subst (λ (n : ℕ). IsRun (state source).left end n events) (sym (moves.taken ∙ zero-add (length got))) (stopped_cases now.stopped refl by)
   where
     come : (more : List ℕ) (last : Stop) → Comes now more last [] end
     come more last =
@@ -189,7 +190,7 @@ run_of left source now first got events end moves ended by at_end =
     answers : (stop : Stop) → now.stopped ≡ Some stop → (more : List ℕ) (last : Stop) → MayFollow (Some stop) more last → FileFrom 1 0 0 (got ++ more) last events end
     answers stop is more last may = subst (λ (es : List Event). FileFrom 1 0 0 (got ++ more) last es end) (append-nil events) (moves.answers more last [] end (rw is may) (come more last))
 
-    stopped_cases : (s : Option Stop) → now.stopped ≡ s → StoppedBy s end → IsRun (left source) end (length got) events
+    stopped_cases : (s : Option Stop) → now.stopped ≡ s → StoppedBy s end → IsRun (state source).left end (length got) events
     stopped_cases None is by' = absurd by'
     stopped_cases (Some stop) is by' =
-        (run_is (left source) (left now.source) got events moves.consumed stop end by' (λ e. at_end (is ∙ ap (λ x. Some x) e)) (answers stop is))
+        (run_is (state source).left (state now.source).left got events moves.consumed stop end by' (λ e. at_end (is ∙ ap (λ x. Some x) e)) (answers stop is))

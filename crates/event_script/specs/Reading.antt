@@ -3,6 +3,7 @@ use Rattle.std.specs.Prelude.{◌≡◌, ◌+◌, ℕ, Option, Some, None, Match
 use Rattle.std.specs.Io.KnownBytes.{Consumes}
 use Rattle.stat_defs.specs.declared.events.Event.{Event}
 use Rattle.stat_defs.specs.declared.reports.FileEnd.{FileEnd}
+use Rattle.stats_io.specs.States.{SourceState}
 use Rattle.event_script.specs.declared.step.Stop.{Stop}
 use Rattle.event_script.specs.declared.step.Stop.TheVariants.{Whole, TooBig, ReadFault}
 use Rattle.event_script.specs.Script.{Reads, lines_until, FileFrom}
@@ -43,8 +44,8 @@ MayFollow (Some TooBig) more last = Unit {0}
 
 -- From old to new these bytes were taken from the source and these events given, and what comes from new on is what was to
 -- come behind them.
-pub record Moves {S : Type 0} (left : S → Option (List ℕ)) (old new : Reading S) (got : List ℕ) (events : List Event) : Type 0 where
-  pub consumed : Consumes (left old.source) (left new.source) got
+pub record Moves {S : Type 0} (state : S → SourceState) (old new : Reading S) (got : List ℕ) (events : List Event) : Type 0 where
+  pub consumed : Consumes (state old.source).left (state new.source).left got
   pub taken : new.taken ≡ old.taken + length got
   pub given : new.given ≡ old.given + length events
   pub follows : (more : List ℕ) (last : Stop) → MayFollow new.stopped more last → MayFollow old.stopped (got ++ more) last

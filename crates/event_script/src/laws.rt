@@ -33,14 +33,14 @@ pub fn first_fault_stands()
 
 /// Two calls in a row took and gave what one would have.
 pub fn moves_compose<S: Source>()
-    ensures { (a b c : Reading S) (got more : List ℕ) (events others : List Event) → Moves S.left a b got events → Moves S.left b c more others
-        → Moves S.left a c (got ++ more) (events ++ others) }
+    ensures { (a b c : Reading S) (got more : List ℕ) (events others : List Event) → Moves S.state a b got events → Moves S.state b c more others
+        → Moves S.state a c (got ++ more) (events ++ others) }
 {}
 
 /// What a reader answered from its start to an end of the file is what there was to read of that file: the clauses of
 /// [`Lines::next`](crate::Lines::next) are the premises.
 pub fn answers_are_a_run<S: Source>()
-    ensures { (source : S) (now : Reading S) (faults : ℕ) (got : List ℕ) (events : List Event) (end : FileEnd) → Moves S.left (unread source faults) now got events
-        → now.ended ≡ Some end → StoppedBy now.stopped end → (now.stopped ≡ Some Stop.Whole → IsAtEnd (S.left now.source))
-        → IsRun (S.left source) end now.taken events }
+    ensures { (source : S) (now : Reading S) (faults : ℕ) (got : List ℕ) (events : List Event) (end : FileEnd) → Moves S.state (unread source faults) now got events
+        → now.ended ≡ Some end → StoppedBy now.stopped end → (now.stopped ≡ Some Stop.Whole → IsAtEnd (S.state now.source).left)
+        → IsRun (S.state source).left end now.taken events }
 {}

@@ -54,13 +54,13 @@ impl<S: Source> Model for Lines<S> {
 
     ghost use Rattle.event_script.specs.Keeping.{IsKept};
 
-    ghost invariant = { λ l. IsKept l.bytes.items l.place l.taken l.first_faults l.stopped l.ended (S.left l.source) (S.faults l.source) };
+    ghost invariant = { λ l. IsKept l.bytes.items l.place l.taken l.first_faults l.stopped l.ended (S.state l.source).left (S.state l.source).faults };
 }
 
 impl<S: Source> Lines<S> {
     /// A reader that has taken nothing yet. This call itself takes no memory.
     pub fn new(alloc: Global, source: S) -> Result<Lines<S>, NoMemory>
-        ensures { IfOk result (λ lines. lines ≡ unread source (S.faults source)) }
+        ensures { IfOk result (λ lines. lines ≡ unread source (S.state source).faults) }
     {
         let first_faults = source.fault_count();
         Ok(Lines {
@@ -104,12 +104,12 @@ impl<S: Source> Lines<S> {
     // Pulls the source to its end, its fault or its byte too many.
     fn fill(&mut self, alloc: Global) -> Result<Stop, NoMemory>
         requires { self.old.stopped ≡ None }
-        ensures moved { (got : List ℕ) × Moves S.left self.old self.new got [] }
+        ensures moved { (got : List ℕ) × Moves S.state self.old self.new got [] }
         ensures stopped { IfOk result (λ stopped. self.new.stopped ≡ Some stopped) }
-        ensures whole { self.new.stopped ≡ Some Stop.Whole → IsAtEnd (S.left self.new.source) }
+        ensures whole { self.new.stopped ≡ Some Stop.Whole → IsAtEnd (S.state self.new.source).left }
         ensures same { (self.new.ended ≡ self.old.ended) × (self.new.number ≡ self.old.number) × (self.new.given ≡ self.old.given) × (self.new.first_faults ≡ self.old.first_faults) }
-        ensures origin { S.origin self.new.source ≡ S.origin self.old.source }
-        ensures later { S.faults self.old.source ≤ S.faults self.new.source }
+        ensures origin { (S.state self.new.source).origin ≡ (S.state self.old.source).origin }
+        ensures later { (S.state self.old.source).faults ≤ (S.state self.new.source).faults }
     {
         let stopped = pull_all(alloc, &mut self.source, &mut self.bytes);
         self.taken = self.bytes.len() as u64;
@@ -123,16 +123,16 @@ impl<S: Source> Lines<S> {
     fn step(&mut self, alloc: Global, stopped: Stop) -> Result<Step, NoMemory>
         requires stopped { self.old.stopped ≡ Some stopped }
         requires going { self.old.ended ≡ None }
-        ensures moved { Moves S.left self.old self.new [] (events_of result) }
+        ensures moved { Moves S.state self.old self.new [] (events_of result) }
         ensures ended { IfEnded result (λ end. self.new.ended ≡ Some end) }
         ensures event { IfEvent result (self.old.number < self.new.number) }
         ensures lawful { All IsLawful (events_of result) }
         ensures line { All HasLine (events_of result) }
         ensures few { self.new.given ≤ cutting.MAX_EVENTS }
         ensures bound { self.new.number ≤ limits.MAX_FILE_BYTES + 1 }
-        ensures explained { IfEnded result (λ end. Explains (S.left self.new.source) self.new.first_faults (S.faults self.new.source) end) }
+        ensures explained { IfEnded result (λ end. Explains (S.state self.new.source).left self.new.first_faults (S.state self.new.source).faults end) }
         ensures by { IfEnded result (λ end. StoppedBy self.new.stopped end) }
-        ensures whole { self.new.stopped ≡ Some Stop.Whole → IsAtEnd (S.left self.new.source) }
+        ensures whole { self.new.stopped ≡ Some Stop.Whole → IsAtEnd (S.state self.new.source).left }
         ensures source { self.new.source ≡ self.old.source }
         ensures first { self.new.first_faults ≡ self.old.first_faults }
     {
@@ -161,7 +161,7 @@ impl<S: Source> Lines<S> {
     /// After `NoMemory` the bytes that were taken are kept, so `taken` may have grown, and the later answers are as if that call
     /// had not been made: `moved` holds of it with no event.
     pub fn next(&mut self, alloc: Global) -> Result<Step, NoMemory>
-        ensures moved { (got : List ℕ) × Moves S.left self.old self.new got (events_of result) }
+        ensures moved { (got : List ℕ) × Moves S.state self.old self.new got (events_of result) }
         ensures ended { IfEnded result (λ end. self.new.ended ≡ Some end) }
         ensures again { (end : FileEnd) → self.old.ended ≡ Some end → Answers result end × (self.new ≡ self.old) }
         ensures event { IfEvent result (self.old.number < self.new.number) }
@@ -169,11 +169,11 @@ impl<S: Source> Lines<S> {
         ensures line { All HasLine (events_of result) }
         ensures few { self.new.given ≤ cutting.MAX_EVENTS }
         ensures bound { self.new.number ≤ limits.MAX_FILE_BYTES + 1 }
-        ensures explained { IfEnded result (λ end. Explains (S.left self.new.source) self.new.first_faults (S.faults self.new.source) end) }
+        ensures explained { IfEnded result (λ end. Explains (S.state self.new.source).left self.new.first_faults (S.state self.new.source).faults end) }
         ensures by { IfEnded result (λ end. StoppedBy self.new.stopped end) }
-        ensures whole { self.new.stopped ≡ Some Stop.Whole → IsAtEnd (S.left self.new.source) }
-        ensures origin { S.origin self.new.source ≡ S.origin self.old.source }
-        ensures later { S.faults self.old.source ≤ S.faults self.new.source }
+        ensures whole { self.new.stopped ≡ Some Stop.Whole → IsAtEnd (S.state self.new.source).left }
+        ensures origin { (S.state self.new.source).origin ≡ (S.state self.old.source).origin }
+        ensures later { (S.state self.old.source).faults ≤ (S.state self.new.source).faults }
         ensures first { self.new.first_faults ≡ self.old.first_faults }
     {
         if let Some(end) = self.ended {

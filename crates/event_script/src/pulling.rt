@@ -1,6 +1,6 @@
 //! A source, pulled to its end.
 ghost use Rattle.std.specs.Prelude.{◌≡◌, ◌≤◌, IfOk, length};
-ghost use Rattle.stats_io.specs.Limits.{Grows};
+ghost use Rattle.stats_io.specs.PullUpTo.{Grows};
 ghost use Rattle.event_script.specs.Pulled.{Stops};
 
 use crate::step::Stop;
@@ -18,10 +18,10 @@ pub fn pull_all<S: Source>(
     source: &mut S,
     bytes: &mut Vec<u8>,
 ) -> Result<Stop, NoMemory>
-    ensures got { Grows (S.left source.old) (S.left source.new) bytes.old.items bytes.new.items }
-    ensures stops { IfOk result (λ stop. Stops (S.left source.new) (S.faults source.old) (S.faults source.new) (length bytes.new.items) stop) }
-    ensures later { S.faults source.old ≤ S.faults source.new }
-    ensures origin { S.origin source.new ≡ S.origin source.old }
+    ensures got { Grows (S.state source.old) (S.state source.new) bytes.old.items bytes.new.items }
+    ensures stops { IfOk result (λ stop. Stops (S.state source.new).left (S.state source.old).faults (S.state source.new).faults (length bytes.new.items) stop) }
+    ensures later { (S.state source.old).faults ≤ (S.state source.new).faults }
+    ensures origin { (S.state source.new).origin ≡ (S.state source.old).origin }
 {
     match pull_up_to(alloc, source, MAX_FILE_BYTES, bytes)? {
         Pulled::End => Ok(Stop::Whole),

@@ -2,4 +2,4 @@ use Rattle.event_script.proofs.Filling.{moves_trans}
 use Rattle.event_script.proofs.laws.moves_compose.Goals as goal
 
 pub returns : goal.returns
-returns g c = moves_trans g.S.Source.left
+returns g c = moves_trans g.S.Source.state

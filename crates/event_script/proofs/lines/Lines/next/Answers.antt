@@ -12,4 +12,4 @@ pub returns-in-Some-clause-by : goal.returns-in-Some-clause-by
 returns-in-Some-clause-by g c = rw (← c.self.view_is, c.answer_of.ensures.1) (c.self.invariant.by c.in-Some.end c.in-Some.is)
 
 pub returns-in-Some-clause-moved : goal.returns-in-Some-clause-moved
-returns-in-Some-clause-moved g c = ([], rw (c.answer_of.ensures.0) (moves_none g.S.Source.left _))
+returns-in-Some-clause-moved g c = ([], rw (c.answer_of.ensures.0) (moves_none g.S.Source.state _))
