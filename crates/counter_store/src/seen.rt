@@ -6,7 +6,7 @@ ghost use Rattle.std.proofs.Common.{rules};
 ghost use Rattle.indexmap.specs.IndexMap.{get, spare};
 ghost use Rattle.counter_store.specs.Held.{increment_of};
 
-use indexmap::IndexMap;
+use name_map::NameMap;
 use stat_defs::{Event, Txt, Verdict};
 use std::hash::{Hash, Hasher};
 
@@ -32,7 +32,7 @@ impl Hash for ScopedName {
 }
 
 /// Verdicts that stay.
-pub(crate) type Seen = IndexMap<ScopedName, Verdict>;
+pub(crate) type Seen = NameMap<ScopedName, Verdict>;
 
 // The pair of an increment, and its units.
 pub(crate) fn increment(event: Event) -> Option<(ScopedName, u32)>

@@ -7,7 +7,7 @@ use crate::finding::count;
 use crate::seen::{Seen, increment};
 use crate::units::Totals;
 use ghost_list::GhostList;
-use indexmap::IndexMap;
+use name_map::{HashKey, name_map};
 use stat_defs::{Event, List, NoMemory, ScopeSpec, Verdict};
 use std::alloc::Global;
 use std::marker::Model;
@@ -36,19 +36,32 @@ impl Model for Counters {
 }
 
 impl Counters {
-    /// Counters of which none is in use. A matcher is seen as the setting that it was built from.
-    pub fn new(alloc: Global, scopes: &[ScopeSpec], matcher: Matcher) -> Result<Counters, NoMemory>
+    /// Counters of which none is in use, looked up by hashes under this key. A matcher is seen as the setting that it was built from.
+    pub fn with_key(
+        alloc: Global,
+        key: HashKey,
+        scopes: &[ScopeSpec],
+        matcher: Matcher,
+    ) -> Result<Counters, NoMemory>
         requires { AreScopes scopes.now }
         ensures { IfOk result (λ c. c ≡ record { rules = record { scopes = scopes.now; matcher = matcher }; events = [] }) }
     {
         let scopes = List::of(scopes.to_vec(alloc)?);
         Ok(Counters {
-            totals: IndexMap::new(alloc),
-            seen: IndexMap::new(alloc),
+            totals: name_map(alloc, key),
+            seen: name_map(alloc, key),
             scopes,
             matcher,
             past: GhostList::new(),
         })
+    }
+
+    /// The same under the fixed key.
+    pub fn new(alloc: Global, scopes: &[ScopeSpec], matcher: Matcher) -> Result<Counters, NoMemory>
+        requires { AreScopes scopes.now }
+        ensures { IfOk result (λ c. c ≡ record { rules = record { scopes = scopes.now; matcher = matcher }; events = [] }) }
+    {
+        Counters::with_key(alloc, HashKey::fixed(), scopes, matcher)
     }
 
     /// Applies an event. Each pair of label and name is matched once, whatever the answer was.

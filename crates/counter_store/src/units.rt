@@ -4,14 +4,14 @@ ghost use Rattle.indexmap.specs.IndexMap.{index_map_len, keys};
 ghost use Rattle.counter_store.specs.Counting.{admitted};
 ghost use Rattle.counter_store.specs.Held.{raised, counted, IsInUse};
 
-use indexmap::IndexMap;
+use name_map::NameMap;
 use stat_defs::{MetricId, NoMemory, Txt, Verdict};
 
 /// So many counters are made at most in one store's life.
 pub const MAX_COUNTERS: usize = 16_384;
 
 /// Units by full name, in the order of the counters' numbers.
-pub type Totals = IndexMap<Txt, u64>;
+pub type Totals = NameMap<Txt, u64>;
 
 // Adds to the counter at that place.
 fn raise(totals: &mut Totals, place: usize, n: u32)
