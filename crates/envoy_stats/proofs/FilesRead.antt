@@ -1,10 +1,11 @@
 -- Files that were read one after another.
-use Rattle.std.proofs.Common.{◌≡◌, ◌≤◌, ◌+◌, ◌-◌, ◌*◌, ◌^◌, ◌<◌, ℕ, suc, min, cond, Option, Some, None, List, [], ◌∷◌, ◌++◌, length, map, refl, sym, ap, ◌∙◌, subst, arith, length-append}
+use Rattle.std.proofs.Common.{◌≡◌, ◌≤◌, ◌+◌, ◌-◌, ◌*◌, ◌^◌, ◌<◌, ℕ, suc, min, cond, Option, Some, None, Result, Ok, Err, IfOk, List, [], ◌∷◌, ◌++◌, length, map, refl, sym, ap, ◌∙◌, subst, arith, length-append}
 use Rattle.std.proofs.lemmas.List.{append-nil, append_assoc, map-append, length-map}
 use Rattle.std.proofs.lemmas.List.Sums.{sum_by-cons}
 use Rattle.std.proofs.lemmas.Grind.{flat_map-append}
 use Rattle.stat_defs.specs.Faults.{Rose}
 use Rattle.stat_defs.specs.declared.events.Event.{Event}
+use Rattle.stat_defs.specs.declared.memory.NoMemory.{NoMemory}
 use Rattle.stat_defs.specs.declared.reports.FileEnd.{FileEnd}
 use Rattle.stat_defs.specs.declared.reports.FileEnd.TheVariants.{Whole, BadLine, LineTooLong, TooBig, TooMany, ReadFault, NotOpened}
 use Rattle.stat_defs.specs.declared.reports.WorkerEnd.{WorkerEnd}
@@ -97,7 +98,7 @@ module _ {F S : Type 0} (shelf : F → ShelfState) (source : S → SourceState) 
     )
 
     -- a file that was opened and read
-    pub file_read : (name : List ℕ) (before after : F) (opened : S) (earlier later : History) (run : FileRun)
+    file_read : (name : List ℕ) (before after : F) (opened : S) (earlier later : History) (run : FileRun)
         → IsUnpulled (holds name) name (source opened) → shelf after ≡ shelf before
         → IsSourceRun source opened earlier later run → IsFileRun shelf source holds name before after earlier later run
     file_read name before after opened earlier later run is same read = record {
@@ -109,6 +110,12 @@ module _ {F S : Type 0} (shelf : F → ShelfState) (source : S → SourceState) 
       };
       is_applied = read.is_applied;
     }
+
+    pub file_opened_read : (name : List ℕ) (before after : F) (opened : S) (earlier later : History) → IsUnpulled (holds name) name (source opened)
+        → shelf after ≡ shelf before → (read : Result FileRun NoMemory) → IfOk read (IsSourceRun source opened earlier later)
+        → IfOk read (IsFileRun shelf source holds name before after earlier later)
+    file_opened_read name before after opened earlier later is same (Ok run) read = file_read name before after opened earlier later run is same read
+    file_opened_read name before after opened earlier later is same (Err fault) read = tt
 
     -- one file more
     files_push : (names : List (List ℕ)) (name : List ℕ) (before between after : F) (files : List FileRead) (file : FileRead)
@@ -134,7 +141,7 @@ module _ {F S : Type 0} (shelf : F → ShelfState) (source : S → SourceState) 
 
     pub one_file_more : (names : List (List ℕ)) (name : List ℕ) (before between after : F) (earlier later latest : History) (runs more : Runs) (run : FileRun)
         → AreRuns shelf source holds names before between earlier later runs → IsFileRun shelf source holds name between after later latest run
-        → more.verdicts.items ≡ runs.verdicts.items ++ run.verdicts ∷ [] → more.ends.items ≡ runs.ends.items ++ run.end ∷ []
+        → more.verdicts.items ≡ runs.verdicts.items ++ run.verdicts.items ∷ [] → more.ends.items ≡ runs.ends.items ++ run.end ∷ []
         → AreRuns shelf source holds (names ++ name ∷ []) before after earlier latest more
     one_file_more names name before between after earlier later latest runs more run so read more_verdicts more_ends =
         let file : FileRead = record { events = read.events; end = run.end } in

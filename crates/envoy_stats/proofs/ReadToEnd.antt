@@ -41,7 +41,7 @@ was_opened (Some stop) end by e = subst (λ (x : FileEnd). StoppedBy (Some stop)
 
 module _ {S : Type 0} (state : S → SourceState) where
   pub read_all : (source : S) (init old new : Reading S) (earlier later : History) (run : FileRun)
-      → SoFar state init old earlier later run.verdicts
+      → SoFar state init old earlier later run.verdicts.items
       → init ≡ record { source = source; number = 1; given = 0; offset = 0; pending = []; taken = 0; first_faults = (state source).faults; stopped = None; ended = None }
       → (answer : Result Step NoMemory) → Answers answer run.end.end → (got : List ℕ) → Moves state old new got (events_of answer)
       → IfEnded answer (λ end. new.ended ≡ Some end) → IfEnded answer (λ end. StoppedBy new.stopped end)

@@ -1,6 +1,7 @@
 -- What is written and said of files.
-use Rattle.std.proofs.Common.{◌≡◌, ◌≢◌, ◌≤◌, ◌⊎◌, ℕ, Option, None, Some, Ok, List, ◌++◌, map, sym, ap, ◌∙◌, subst, inl, inr, arith}
-use Rattle.std.specs.Io.KnownBytes.{Appends}
+use Rattle.std.proofs.Common.{◌≡◌, ◌≢◌, ◌≤◌, ◌<◌, ◌⊎◌, ℕ, cond, Option, None, Some, Ok, List, [], ◌++◌, map, codes, sym, ap, ◌∙◌, subst, inl, inr, arith}
+use Rattle.std.proofs.lemmas.Bool.{ne_eqb}
+use Rattle.std.proofs.lemmas.List.{append-nil}
 use Rattle.std.proofs.KnownBytes.{Appends-trans}
 use Rattle.stat_defs.specs.Faults.{Rose}
 use Rattle.stat_defs.specs.declared.reports.Report.{Report}
@@ -12,7 +13,7 @@ use Rattle.envoy_stats.specs.FaultLines.{said_of, with_write_line}
 use Rattle.envoy_stats.specs.World.{World, Sight}
 use Rattle.envoy_stats.specs.Outcome.{IsSaid, IsWritten, IsRunOver, Replays, status_of_all}
 use Rattle.envoy_stats.specs.Ready.{IsReady, FinishesWith, output_of}
-use Rattle.envoy_stats.specs.declared.status.TheConstants.{NO_COMMAND}
+use Rattle.envoy_stats.specs.declared.status.TheConstants.{NO_COMMAND, UNWRITTEN}
 use Rattle.envoy_stats.specs.declared.ready.Ready.{Ready}
 use Rattle.envoy_stats.proofs.MadeReady.{status_all_is_no_usage}
 use Rattle.envoy_stats.proofs.BootRefused.{boot_is_no_usage}
@@ -30,6 +31,12 @@ pub said_both : (x y z : SinkState) (one next : List ℕ) → x.faults ≤ y.fau
 said_both x y z one next first second said more calm =
     Appends-trans x.written y.written z.written one next
     (said (calm_first x.faults y.faults z.faults second calm)) (more (calm_next x.faults y.faults z.faults first calm))
+
+-- where the output was written there is no line on it
+pub no_write_line : (lines : List ℕ) (status : ℕ) → status < UNWRITTEN → with_write_line lines status ≡ lines
+no_write_line lines status small =
+    ap (λ b. lines ++ cond b (codes "write failed\n") []) (ne_eqb status UNWRITTEN (λ e. omega (arith, small, e)))
+    ∙ append-nil lines
 
 module _ {K F S O E : Type 0} (see : Sight K F S O E) (before after : World K F O E) (boot : List ℕ) (names : List (List ℕ)) where
   -- no replay has the status of words that are no command

@@ -16,7 +16,7 @@ use Rattle.envoy_stats.specs.declared.reading.Runs.{Runs}
 -- the events were applied behind the earlier ones, and these are their verdicts
 pub record IsApplied (earlier later : History) (run : FileRun) (events : List Event) : Type 0 where
   pub applied : later ≡ record earlier { events = earlier.events ++ events }
-  pub verdicts_are : run.verdicts ≡ verdicts earlier.rules earlier.events events
+  pub verdicts_are : run.verdicts.items ≡ verdicts earlier.rules earlier.events events
   pub few : length events ≤ MAX_FILE_BYTES
 
 -- a source was read to its end

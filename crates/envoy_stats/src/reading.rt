@@ -14,7 +14,7 @@ use std::alloc::Global;
 /// What came of a file: its events' verdicts, and its end.
 #[derive(Drop)]
 pub struct FileRun {
-    pub verdicts: List<Verdict>,
+    pub verdicts: Vec<Verdict>,
     pub end: WorkerEnd,
 }
 
@@ -78,10 +78,7 @@ fn read_source<S: Source + Drop>(
                     faults_before,
                     faults_after: source.fault_count(),
                 };
-                return Ok(FileRun {
-                    verdicts: List::of(verdicts),
-                    end,
-                });
+                return Ok(FileRun { verdicts, end });
             }
         }
     }
@@ -104,7 +101,7 @@ fn read_file<F: Shelf>(
     match shelf.open(alloc, name) {
         Ok(source) => read_source(alloc, source, counters),
         Err(OpenFault::Failed) => Ok(FileRun {
-            verdicts: List::of(Vec::new(alloc)),
+            verdicts: Vec::new(alloc),
             end: WorkerEnd {
                 end: FileEnd::NotOpened,
                 taken: 0,
@@ -118,11 +115,11 @@ fn read_file<F: Shelf>(
 
 // Adds what came of one file more.
 fn push_run(runs: &mut Runs, run: FileRun) -> Result<(), NoMemory>
-    ensures verdicts { OnOk result (runs.new.verdicts.items ≡ runs.old.verdicts.items ++ run.verdicts ∷ []) }
+    ensures verdicts { OnOk result (runs.new.verdicts.items ≡ runs.old.verdicts.items ++ run.verdicts.items ∷ []) }
     ensures ends { OnOk result (runs.new.ends.items ≡ runs.old.ends.items ++ run.end ∷ []) }
 {
     let FileRun { verdicts, end } = run;
-    runs.verdicts.push(verdicts)?;
+    runs.verdicts.push(List::of(verdicts))?;
     runs.ends.push(end)?;
     Ok(())
 }

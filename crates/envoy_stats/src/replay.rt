@@ -69,8 +69,8 @@ fn refuse_boot<E: Sink>(alloc: Global, fault: &LoadFault, err: &mut E) -> Outcom
 
 // Writes what is ready, and says how the files ended, and then that a push failed.
 fn finish<O: Sink, E: Sink>(alloc: Global, ready: Ready, out: &mut O, err: &mut E) -> Outcome
-    ensures { Finishes (O.state out.old) (O.state out.new) (E.state err.old) (E.state err.new) ready result }
     requires { ready.status < statuses.UNWRITTEN }
+    ensures { Finishes (O.state out.old) (O.state out.new) (E.state err.old) (E.state err.new) ready result }
 {
     let Ready {
         report,
