@@ -4,6 +4,7 @@ use Rattle.std.specs.List.{flat_map}
 use Rattle.std.proofs.lemmas.Option.{same_Some, none-some, slice_get_within, slice_get-get_or}
 use Rattle.tag_rules.specs.Making.{Memory, after_making}
 use Rattle.tag_rules.specs.Building.{IsCutAt, Builds}
+use Rattle.tag_rules.proofs.Made.{refused_member}
 use Rattle.tag_rules.specs.declared.fault.TagFault.{TagFault}
 use Rattle.tag_rules.specs.declared.fault.TagFault.TheVariants as tag
 use Rattle.boot_load.specs.Asked.{Asked, texts_of, told_by, asked_by}
@@ -67,7 +68,8 @@ module _ {A : Type 0} (texts : A → List (List ℕ)) where
 
   refused_at : (paths : List (List ℕ)) (members : List A) (old new : Memory) (i : ℕ) (path : List ℕ)
       → length paths ≡ length members → slice_get paths i ≡ Some path → IsCutAt texts members old new i → IsPatternRefused (asked_by texts paths members) path old new
-  refused_at paths members old new i path e p cut =
+  refused_at paths members old new i path e p is =
+      let cut = refused_member texts members old new i is in
       let at = at_place paths members i path cut.member cut.done cut.rest cut.refused e p cut.place cut.asks in
       record {
         done = at.done;
@@ -82,7 +84,7 @@ module _ {A : Type 0} (texts : A → List (List ℕ)) where
   pub has_path : {B : Type 0} (paths : List (List ℕ)) (members : List A) (setting : B) (old new : Memory) (fault : TagFault)
       → length paths ≡ length members → Builds texts members setting old new (Err fault) → HasPathIn paths fault
   has_path paths members setting old new (tag.BadPattern i) e cut =
-      let within : i < length members = slice_get_within members i cut.member cut.place in
+      let within : i < length members = slice_get_within members i _ (refused_member texts members old new i cut).place in
       (_, slice_get-get_or paths i [] (omega (arith, e, within)))
   has_path paths members setting old new tag.NoMemory e built = tt
 

@@ -7,7 +7,7 @@ ghost use Rattle.counter_store.specs.Counting.{prefix_of, verdict_on, names_with
 ghost use Rattle.counter_store.specs.Held.{counted, rules_of, full_of, AreSettled};
 ghost use Rattle.counter_store.specs.declared.units.TheConstants.{MAX_COUNTERS};
 
-use crate::seen::{ScopedName, Seen, held, hold};
+use crate::seen::{ScopedName, Seen, held, keep};
 use crate::units::{Totals, add, count_admitted};
 use stat_defs::{List, NoMemory, ScopeSpec, Txt, Verdict};
 use std::alloc::Global;
@@ -96,6 +96,6 @@ pub(crate) fn count(
     }
     seen.reserve(1)?;
     let verdict = count_new(totals, alloc, scopes, matcher, &pair, n)?;
-    hold(seen, pair, verdict);
+    keep(seen, pair, verdict);
     Ok(verdict)
 }

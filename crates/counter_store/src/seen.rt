@@ -1,5 +1,5 @@
 //! The pairs of label and name that were seen, with their verdicts.
-ghost use Rattle.std.specs.Prelude.{◌≡◌, ◌++◌, ◌∷◌, ◌<◌, ◌^◌, [], None, IfSome};
+ghost use Rattle.std.specs.Prelude.{◌≡◌, ◌++◌, ◌∷◌, ◌<◌, ◌^◌, ◌⊎◌, [], None, IfSome};
 ghost use Rattle.std.specs.Hash as fed;
 ghost use Rattle.std.specs.Cmp.Rules.{hashing};
 ghost use Rattle.std.proofs.Common.{rules};
@@ -62,4 +62,16 @@ pub(crate) fn hold(seen: &mut Seen, pair: ScopedName, verdict: Verdict)
     ensures { seen.new.entries ≡ seen.old.entries ++ (pair, verdict) ∷ [] }
 {
     let _held = seen.insert(pair, verdict);
+}
+
+// Holds a verdict that accepts or rejects. A refusal for want of a scope or of room takes no memory, and is found anew.
+pub(crate) fn keep(seen: &mut Seen, pair: ScopedName, verdict: Verdict)
+    requires room { 0 < spare seen.old }
+    requires new { get ⟦<ScopedName as PartialEq>⟧.eq seen.old pair ≡ None }
+    ensures { (seen.new.entries ≡ seen.old.entries ++ (pair, verdict) ∷ []) ⊎ (seen.new.entries ≡ seen.old.entries) }
+{
+    match verdict {
+        Verdict::Accepted(_) | Verdict::Rejected => hold(seen, pair, verdict),
+        _ => {}
+    }
 }

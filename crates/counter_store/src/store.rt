@@ -64,7 +64,7 @@ impl Counters {
         Counters::with_key(alloc, HashKey::fixed(), scopes, matcher)
     }
 
-    /// Applies an event. Each pair of label and name is matched once, whatever the answer was.
+    /// Applies an event. A verdict that accepts or rejects is held for its pair of label and name; another refusal takes no memory.
     pub fn apply(&mut self, alloc: Global, event: Event) -> Result<Verdict, NoMemory>
         requires named { IsNamed event }
         requires room { length self.old.events < 2 ^ 31 }

@@ -1,48 +1,105 @@
 -- The lines of an event file. This project's own.
-use Rattle.std.specs.Prelude.{◌≡◌, ◌≢◌, ◌<◌, ◌≤◌, ◌^◌, ℕ, List, [], ◌∷◌, ◌++◌, length, slice_index, codes}
-use Rattle.std.specs.Str.Parse.{AllDigits, digits_value}
+use Rattle.std.specs.Prelude.{◌≡◌, ◌≢◌, ◌<◌, ◌≤◌, ◌-◌, ◌^◌, ◌==◌, ℕ, if◌then◌else◌, List, [], ◌∷◌, ◌++◌, length, take, slice_index, codes}
+use Rattle.std.specs.List.{flat_map, ends_with}
+use Rattle.std.specs.Str.{bytes_eq}
+use Rattle.std.specs.Fmt.{decimal}
 use Rattle.stat_defs.specs.declared.events.Event.{Event}
-use Rattle.stat_defs.specs.declared.events.Event.TheVariants as event
+use Rattle.stat_defs.specs.declared.events.Event.TheVariants.{Inc, Gauge, Rec, SetText, OpenScope, Release}
+use Rattle.stat_defs.specs.declared.events.GaugeOp.{GaugeOp}
+use Rattle.stat_defs.specs.declared.events.GaugeOp.TheVariants.{Add, Sub, Set}
+use Rattle.stat_defs.specs.declared.ids.Mode.{Mode}
+use Rattle.stat_defs.specs.declared.ids.Mode.TheVariants.{Uninit, Accumulate, Never}
 use Rattle.stat_defs.specs.Names.{IsLabel, IsLocalName}
-use Rattle.event_script.specs.declared.grammar.TheConstants.{MAX_LINE_BYTES}
+use Rattle.stat_defs.specs.Events.{IsReadout}
+use Rattle.event_script.specs.declared.limits.TheConstants.{MAX_LINE_BYTES}
 
--- decimal digits without a sign and without leading zeros
-pub record IsNumber (text : List ℕ) (n : ℕ) : Type 0 where
-  pub not_empty : 1 ≤ length text
-  pub digits : AllDigits 10 text
-  pub no_leading_zero : slice_index text 0 ≡ 48 → length text ≡ 1
-  pub value : digits_value 10 text ≡ n
-
--- `inc L N n`: the parts stand behind exactly one space each
-pub record IsIncLine (line label name : List ℕ) (n : ℕ) : Type 0 where
+-- `WORD L N TAIL`: a label and a local name, each part behind exactly one space
+pub record IsMetricLine (word tail line label name : List ℕ) : Type 0 where
   pub label_fits : IsLabel label
   pub name_fits : IsLocalName name
+  pub parts : line ≡ word ++ 32 ∷ (label ++ 32 ∷ (name ++ 32 ∷ tail))
+
+-- `inc L N n`; numbers are decimal, without a sign and without leading zeros
+pub record IsIncLine (line label name : List ℕ) (n : ℕ) : Type 0 where
   pub n_fits : n < 2 ^ 32
-  pub digits : List ℕ
-  pub number : IsNumber digits n
-  pub parts : line ≡ codes "inc " ++ (label ++ 32 ∷ (name ++ 32 ∷ digits))
+  pub metric : IsMetricLine (codes "inc") (decimal n) line label name
 
--- the line says this event; so far only counters have lines
+abbrev pub op_word : GaugeOp → List ℕ
+op_word Add = codes "add"
+op_word Sub = codes "sub"
+op_word Set = codes "set"
+
+abbrev pub mode_word : Mode → List ℕ
+mode_word Uninit = codes "uninit"
+mode_word Accumulate = codes "acc"
+mode_word Never = codes "never"
+
+-- `add L N MODE n`, `sub L N MODE n` and `set L N MODE n`
+pub record IsGaugeLine (line label name : List ℕ) (mode : Mode) (op : GaugeOp) (n : ℕ) : Type 0 where
+  pub n_fits : n < 2 ^ 63
+  pub metric : IsMetricLine (op_word op) (mode_word mode ++ 32 ∷ decimal n) line label name
+
+-- `rec L N v`
+pub record IsRecLine (line label name : List ℕ) (v : ℕ) : Type 0 where
+  pub v_fits : v < 2 ^ 64
+  pub metric : IsMetricLine (codes "rec") (decimal v) line label name
+
+-- `text L N TEXT`; the text is the rest of the line behind its space, and may be empty
+pub record IsTextLine (line label name text : List ℕ) : Type 0 where
+  pub text_fits : IsReadout text
+  pub metric : IsMetricLine (codes "text") text line label name
+
+-- without one final dot
+abbrev pub without_dot : List ℕ → List ℕ
+without_dot text = if ends_with ◌==◌ text (46 ∷ []) then take (length text - 1) text else text
+
+-- the prefix that a line gives: one final dot is dropped, and a `-` is then the empty prefix
+abbrev pub given_prefix : List ℕ → List ℕ
+given_prefix given = if bytes_eq (without_dot given) (codes "-") then [] else without_dot given
+
+-- `open L PREFIX`; what stands for the prefix has 1 to 255 bytes, as a local name has
+pub record IsOpenLine (line label prefix : List ℕ) : Type 0 where
+  pub label_fits : IsLabel label
+  pub given : List ℕ
+  pub given_fits : IsLocalName given
+  pub means : prefix ≡ given_prefix given
+  pub parts : line ≡ codes "open" ++ 32 ∷ (label ++ 32 ∷ given)
+
+-- `release L`
+pub record IsReleaseLine (line label : List ℕ) : Type 0 where
+  pub label_fits : IsLabel label
+  pub parts : line ≡ codes "release" ++ 32 ∷ label
+
+-- the line says this event
 abbrev pub IsLineOf : List ℕ → Event → Type 0
-IsLineOf line (event.Inc label name n) = IsIncLine line label name n
-IsLineOf line (event.Gauge label name mode op n) = ⊥
-IsLineOf line (event.Rec label name v) = ⊥
-IsLineOf line (event.SetText label name text) = ⊥
-IsLineOf line (event.OpenScope label prefix) = ⊥
-IsLineOf line (event.Release label) = ⊥
+IsLineOf line (Inc label name n) = IsIncLine line label name n
+IsLineOf line (Gauge label name mode op n) = IsGaugeLine line label name mode op n
+IsLineOf line (Rec label name v) = IsRecLine line label name v
+IsLineOf line (SetText label name text) = IsTextLine line label name text
+IsLineOf line (OpenScope label prefix) = IsOpenLine line label prefix
+IsLineOf line (Release label) = IsReleaseLine line label
 
--- what a line can say
+-- an event is lawful where a line says it that is no longer than a line may be
 abbrev pub IsLawful : Event → Type 0
-IsLawful (event.Inc label name n) = IsLabel label × IsLocalName name × (n < 2 ^ 32)
-IsLawful (event.Gauge label name mode op n) = ⊥
-IsLawful (event.Rec label name v) = ⊥
-IsLawful (event.SetText label name text) = ⊥
-IsLawful (event.OpenScope label prefix) = ⊥
-IsLawful (event.Release label) = ⊥
+IsLawful e = (line : List ℕ) × ((length line ≤ MAX_LINE_BYTES) × IsLineOf line e)
 
--- a line says it that is no longer than a line may be
-abbrev pub HasLine : Event → Type 0
-HasLine e = (line : List ℕ) × ((length line ≤ MAX_LINE_BYTES) × IsLineOf line e)
+-- the text for a prefix: `-` for the empty one, and one more dot behind a final one
+abbrev pub given_for : List ℕ → List ℕ
+given_for [] = codes "-"
+given_for (b ∷ bs) = if ends_with ◌==◌ (b ∷ bs) (46 ∷ []) then (b ∷ bs) ++ 46 ∷ [] else b ∷ bs
+
+-- the line that is written for an event
+abbrev pub line_for : Event → List ℕ
+line_for (Inc label name n) = codes "inc " ++ (label ++ 32 ∷ (name ++ 32 ∷ decimal n))
+line_for (Gauge label name mode op n) = op_word op ++ 32 ∷ (label ++ 32 ∷ (name ++ 32 ∷ (mode_word mode ++ 32 ∷ decimal n)))
+line_for (Rec label name v) = codes "rec " ++ (label ++ 32 ∷ (name ++ 32 ∷ decimal v))
+line_for (SetText label name text) = codes "text " ++ (label ++ 32 ∷ (name ++ 32 ∷ text))
+line_for (OpenScope label prefix) = codes "open " ++ (label ++ 32 ∷ given_for prefix)
+line_for (Release label) = codes "release " ++ label
+
+-- the lines of events, each with its newline
+abbrev pub lines_for : List Event → List ℕ
+lines_for events = flat_map (λ e. line_for e ++ 10 ∷ []) events
 
 -- an empty line, or a comment: it begins with `#`
 abbrev pub IsPassedOver : List ℕ → Type 0

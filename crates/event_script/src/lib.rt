@@ -2,20 +2,26 @@
 #![tactic(auto)]
 
 mod cutting;
-mod grammar;
+mod events;
+mod fronts;
+mod lanes;
 mod laws;
+mod limits;
 mod lines;
-mod pulling;
+mod numbers;
+mod parts;
 mod step;
 #[cfg(test)]
 mod tests;
+mod words;
+mod writing;
 
-pub use cutting::MAX_EVENTS;
-pub use grammar::MAX_LINE_BYTES;
 pub use laws::{
     answers_are_a_run, every_file_has_a_reading, file_is_single_valued, first_fault_stands,
-    moves_compose,
+    line_says_lawful_events, line_says_one_event, moves_compose, written_events_are_read,
+    written_line_says_its_event,
 };
+pub use limits::{MAX_EVENTS, MAX_FILE_BYTES, MAX_LINE_BYTES};
 pub use lines::Lines;
-pub use pulling::MAX_FILE_BYTES;
-pub use step::{Step, Stop};
+pub use step::Step;
+pub use writing::write_event;

@@ -1,8 +1,10 @@
 //! What the reader answers.
-ghost use Rattle.std.specs.Prelude.{Ok};
-ghost use Rattle.event_script.specs.Steps.{Answers, CanAnswer};
+ghost use Rattle.std.specs.Prelude.{◌≡◌, Ok, MatchOption};
+ghost use Rattle.stat_defs.specs.declared.reports.FileEnd.{FileEnd};
+ghost use Rattle.event_script.specs.Answer.{TellsEnd};
+ghost use Rattle.event_script.specs.Answer as steps;
 
-use stat_defs::{Event, FileEnd};
+use stat_defs::{Event, FileEnd, NoMemory};
 
 /// What a reader answers: the next event of a file, or how the file ended. Lines are numbered from 1.
 #[derive(Drop, Debug)]
@@ -22,36 +24,33 @@ pub enum Step {
     ReadFault,
 }
 
-/// How the pulling of a source stopped, as contracts see it.
-#[derive(Clone, Copy, Debug, PartialEq, Eq)]
-pub enum Stop {
-    /// The source ended.
-    Whole,
-    /// More bytes came than a file may have.
-    TooBig,
-    /// The source failed.
-    ReadFault,
-}
-
-// What the lines hold next.
-#[derive(Drop, Debug)]
-pub enum Found {
-    Event(Event),
-    Ended(FileEnd),
-}
-
-// The answer that a file ended so.
-pub fn answer_of(end: FileEnd) -> Step
-    requires { CanAnswer end }
-    ensures { Answers (Ok result) end }
+// The answer that a file ended so. A file that was not opened has no reader.
+pub fn step_of(end: FileEnd) -> Option<Step>
+    ensures { MatchOption result (end ≡ FileEnd.NotOpened) (λ step. TellsEnd (Ok step) end) }
 {
     match end {
-        FileEnd::Whole => Step::End,
-        FileEnd::BadLine(number) => Step::BadLine(number),
-        FileEnd::LineTooLong(number) => Step::LineTooLong(number),
-        FileEnd::TooBig => Step::TooBig,
-        FileEnd::TooMany => Step::TooMany,
-        FileEnd::ReadFault => Step::ReadFault,
-        FileEnd::NotOpened => unreachable!(),
+        FileEnd::Whole => Some(Step::End),
+        FileEnd::BadLine(number) => Some(Step::BadLine(number)),
+        FileEnd::LineTooLong(number) => Some(Step::LineTooLong(number)),
+        FileEnd::TooBig => Some(Step::TooBig),
+        FileEnd::TooMany => Some(Step::TooMany),
+        FileEnd::ReadFault => Some(Step::ReadFault),
+        FileEnd::NotOpened => None,
+    }
+}
+
+// How a file ended, where the answer tells it.
+#[inline(always)]
+pub fn end_of(answer: &Result<Step, NoMemory>) -> Option<FileEnd>
+    ensures { result ≡ steps.end_of answer.now }
+{
+    match answer {
+        Ok(Step::End) => Some(FileEnd::Whole),
+        Ok(Step::BadLine(number)) => Some(FileEnd::BadLine(*number)),
+        Ok(Step::LineTooLong(number)) => Some(FileEnd::LineTooLong(*number)),
+        Ok(Step::TooBig) => Some(FileEnd::TooBig),
+        Ok(Step::TooMany) => Some(FileEnd::TooMany),
+        Ok(Step::ReadFault) => Some(FileEnd::ReadFault),
+        Ok(Step::Event(_)) | Err(_) => None,
     }
 }

@@ -2,7 +2,8 @@
 
 use crate::lines::Lines;
 use crate::step::Step;
-use stat_defs::{Event, NoMemory};
+use crate::writing::write_event;
+use stat_defs::NoMemory;
 use stats_io::MemSource;
 use std::alloc::Global;
 use std::process::Abort;
@@ -18,31 +19,29 @@ fn lines_of(
     Lines::new(alloc, source)
 }
 
-// Adds an answer: `label name n|`, or the end.
+// Adds an answer: an event's line and `|`, or the end.
 fn tell(alloc: Global, told: &mut Vec<u8>, step: &Step) -> Result<(), NoMemory> {
-    match step {
-        Step::Event(Event::Inc { label, name, n }) => {
-            told.extend_from_slice(label.bytes())?;
-            told.push(b' ')?;
-            told.extend_from_slice(name.bytes())?;
-            told.push(b' ')?;
-            told.extend_from_slice(n.to_string(alloc)?.as_bytes())?;
+    let number = match step {
+        Step::Event(event) => {
+            write_event(alloc, event, told)?;
+            told.pop();
             told.push(b'|')?;
+            return Ok(());
         }
-        Step::Event(_) => told.extend_from_slice(b"another event|")?,
-        Step::End => told.extend_from_slice(b"end")?,
+        Step::End => return Ok(told.extend_from_slice(b"end")?),
+        Step::TooBig => return Ok(told.extend_from_slice(b"too big")?),
+        Step::TooMany => return Ok(told.extend_from_slice(b"too many")?),
+        Step::ReadFault => return Ok(told.extend_from_slice(b"read fault")?),
         Step::BadLine(number) => {
             told.extend_from_slice(b"bad ")?;
-            told.extend_from_slice(number.to_string(alloc)?.as_bytes())?;
+            number
         }
         Step::LineTooLong(number) => {
             told.extend_from_slice(b"long ")?;
-            told.extend_from_slice(number.to_string(alloc)?.as_bytes())?;
+            number
         }
-        Step::TooBig => told.extend_from_slice(b"too big")?,
-        Step::TooMany => told.extend_from_slice(b"too many")?,
-        Step::ReadFault => told.extend_from_slice(b"read fault")?,
-    }
+    };
+    told.extend_from_slice(number.to_string(alloc)?.as_bytes())?;
     Ok(())
 }
 
@@ -82,52 +81,73 @@ fn line_of_lengths(alloc: Global, label: usize, name: usize) -> Result<Vec<u8>, 
     Ok(line)
 }
 
-// Files and what they hold: rows parted by the byte 2, in each the file, the byte 1 and the answers.
+// Files and what they hold: rows parted by the byte 2, in each the file, the byte 1 and the answers, where each event stands as
+// the line that is written for it.
 const FILES: &[u8] = b"\
-inc root a 3\ninc root a 4\n\x01root a 3|root a 4|end\x02\
+inc root a 3\ninc root a 4\n\x01inc root a 3|inc root a 4|end\x02\
 \x01end\x02\
 \n\n\x01end\x02\
-inc web a 1\ninc root a 2\n\x01web a 1|root a 2|end\x02\
-inc root a 1\ninc root a 01\ninc root a 1\n\x01root a 1|bad 2\x02\
-inc root a 1\x01root a 1|end\x02\
-inc root a 1\ninc\x01root a 1|bad 2\x02\
-inc root a 1\n\nbogus\ninc root b 1\n\x01root a 1|bad 3\x02\
-# x\n\n#\ninc root a 0\n#inc root a 1\x01root a 0|end\x02\
-#\x00\xff\r\ninc root a 1\n\x01root a 1|end\x02\
+inc root a 1\ninc root a 01\ninc root a 1\n\x01inc root a 1|bad 2\x02\
+inc root a 1\x01inc root a 1|end\x02\
+inc root a 1\ninc\x01inc root a 1|bad 2\x02\
+inc root a 1\n\nbogus\ninc root b 1\n\x01inc root a 1|bad 3\x02\
+# x\n\n#\ninc root a 0\n#inc root a 1\x01inc root a 0|end\x02\
+#\x00\xff\r\ninc root a 1\n\x01inc root a 1|end\x02\
 \x20# x\n\x01bad 1\x02\
-\x20\n\x01bad 1\x02\
 \r\n\x01bad 1\x02\
 inc root a 1\r\n\x01bad 1\x02\
 inc root.b a 1\n\x01bad 1\x02\
-inc ro-ot a 1\n\x01bad 1\x02\
-inc A_z09 !~#. 7\n\x01A_z09 !~#. 7|end\x02\
+inc A_z09 !~#. 7\n\x01inc A_z09 !~#. 7|end\x02\
 inc root a\x7f 1\n\x01bad 1\x02\
-inc root a\x80 1\n\x01bad 1\x02\
 inc root \x1f 1\n\x01bad 1\x02\
 inc  root a 1\n\x01bad 1\x02\
 inc root  a 1\n\x01bad 1\x02\
 inc root a  1\n\x01bad 1\x02\
 inc root a 1 \n\x01bad 1\x02\
 \x20inc root a 1\n\x01bad 1\x02\
-inc\troot a 1\n\x01bad 1\x02\
-inc root a\n\x01bad 1\x02\
 inc root a \n\x01bad 1\x02\
-inc root  1\n\x01bad 1\x02\
-inc  a 1\n\x01bad 1\x02\
-inc root\n\x01bad 1\x02\
-inc \n\x01bad 1\x02\
+inc root a\n\x01bad 1\x02\
+inc\n\x01bad 1\x02\
 INC root a 1\n\x01bad 1\x02\
 incr root a 1\n\x01bad 1\x02\
 inc root a +1\n\x01bad 1\x02\
-inc root a -1\n\x01bad 1\x02\
-inc root a 1x\n\x01bad 1\x02\
 inc root a 1:\n\x01bad 1\x02\
-inc root a 1/\n\x01bad 1\x02\
 inc root a 00\n\x01bad 1\x02\
-inc root a 4294967295\n\x01root a 4294967295|end\x02\
+inc root a 4294967295\n\x01inc root a 4294967295|end\x02\
 inc root a 4294967296\n\x01bad 1\x02\
-inc root a 18446744073709551617\n\x01bad 1\x02\
-inc root a 1 2\n\x01bad 1";
+inc root a 1 2\n\x01bad 1\x02\
+add root g acc 5\nsub root g never 6\nset root g uninit 0\n\x01add root g acc 5|sub root g never 6|set root g uninit 0|end\x02\
+sub root g acc 9223372036854775807\n\x01sub root g acc 9223372036854775807|end\x02\
+sub root g acc 9223372036854775808\n\x01bad 1\x02\
+add root g 5\n\x01bad 1\x02\
+add root g acc\n\x01bad 1\x02\
+add root g accumulate 5\n\x01bad 1\x02\
+add root g acc 5 \n\x01bad 1\x02\
+add root g  acc 5\n\x01bad 1\x02\
+rec root h 18446744073709551615\n\x01rec root h 18446744073709551615|end\x02\
+rec root h 18446744073709551616\n\x01bad 1\x02\
+rec root h 100000000000000000000\n\x01bad 1\x02\
+rec root h\n\x01bad 1\x02\
+text l n \n\x01text l n |end\x02\
+text l n\n\x01bad 1\x02\
+text l n  a b \n\x01text l n  a b |end\x02\
+text root v 1.30 beta\x01text root v 1.30 beta|end\x02\
+text l n a\tb\n\x01bad 1\x02\
+text l n a\x7f\n\x01bad 1\x02\
+open l a.b\n\x01open l a.b|end\x02\
+open l a.b.\n\x01open l a.b|end\x02\
+open l a..\n\x01open l a..|end\x02\
+open l a...\n\x01open l a...|end\x02\
+open l -\nopen l -.\nopen l .\n\x01open l -|open l -|open l -|end\x02\
+open l -..\n\x01open l -..|end\x02\
+open l \n\x01bad 1\x02\
+open l\n\x01bad 1\x02\
+open l a b\n\x01bad 1\x02\
+release r\nrelease root\x01release r|release root|end\x02\
+release\n\x01bad 1\x02\
+release \n\x01bad 1\x02\
+release a b\n\x01bad 1\x02\
+release a.b\n\x01bad 1";
 
 #[test]
 fn files(rt: HostRuntime) -> Result<(), NoMemory> {
@@ -135,7 +155,7 @@ fn files(rt: HostRuntime) -> Result<(), NoMemory> {
     let mut rows = 0u64;
     for row in FILES.split(|b| *b == 2) {
         let (file, want) = parts_of(row);
-        for piece in [1, 2, 5, 65_536] {
+        for piece in [1, 7, 100_000] {
             let mut lines = lines_of(alloc, file, piece, Vec::new(alloc))?;
             let told = told_by(alloc, &mut lines)?;
             assert!(rt; told.as_slice() == want, "row {rows} by {piece}");
@@ -144,7 +164,7 @@ fn files(rt: HostRuntime) -> Result<(), NoMemory> {
         }
         rows = rows.saturating_add(1);
     }
-    assert_eq!(rt; rows, 44);
+    assert_eq!(rt; rows, 64);
     Ok(())
 }
 
@@ -200,7 +220,7 @@ fn read_faults(rt: HostRuntime) -> Result<(), NoMemory> {
         b"inc root a 1\ninc root b 2",
         16,
         1,
-        b"root a 1|read fault",
+        b"inc root a 1|read fault",
         16,
     )?;
     assert_fault(
@@ -209,7 +229,7 @@ fn read_faults(rt: HostRuntime) -> Result<(), NoMemory> {
         b"inc root a 1\nbogus",
         65_536,
         1,
-        b"root a 1|read fault",
+        b"inc root a 1|read fault",
         18,
     )?;
     assert_fault(

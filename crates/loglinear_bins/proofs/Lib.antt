@@ -4,8 +4,10 @@ pub mod Places
 pub mod Order
 pub mod Lawful
 pub mod Tables
+pub mod Occupied
 pub mod Reading
 pub mod Rising
 pub mod Merging
 pub mod Adding
 pub mod Restored
+pub mod Values

@@ -1,15 +1,15 @@
 -- A loop that adds the counts of one table to another one.
 use Rattle.std.proofs.Common.{◌≡◌, ℕ, ◌+◌, ◌<◌, ◌≤◌, List, ◌∷◌, length, get_or, set, drop, refl, sym, ap, ◌∙◌, arith, add-one, inl, inr}
 use Rattle.std.specs.List.{sum}
-use Rattle.std.proofs.Math.ListN.{drop_of_length-le}
 use Rattle.std.proofs.lemmas.Bool.{cases_lt}
-use Rattle.std.proofs.lemmas.List.{length-set, set-get_or}
+use Rattle.std.proofs.lemmas.List.{length-set, set-get_or, get_or_default}
 use Rattle.std.proofs.lemmas.List.Sums.{sum_by-set, sum_by-drop_more, get_or-le-sum_by}
 use Rattle.stat_defs.specs.declared.bins.BinCount.{BinCount}
 use Rattle.loglinear_bins.specs.declared.place.TheConstants.{BIN_COUNT, MAX_COUNT}
 use Rattle.loglinear_bins.specs.Counts.{merged, added}
-use Rattle.loglinear_bins.specs.Table.{bin_at, listed, IsTable}
-use Rattle.loglinear_bins.proofs.Tables.{listed-nil, listed-drop-none, listed-drop-some, listed-added-at}
+use Rattle.loglinear_bins.specs.Table.{bin_at, listed, IsTable, IsOccupied}
+use Rattle.loglinear_bins.proofs.Occupied.{listed-first, sum-first, listed-past, sum-past}
+use Rattle.loglinear_bins.proofs.Tables.{listed-drop-none, listed-drop-some, listed-added-at}
 
 -- the table so far, with the places of the other one that are still to come, has all values of both
 pub record Merges (others : List ℕ) (place : ℕ) (mine : List ℕ) (all : ℕ) (before : List BinCount) : Type 0 where
@@ -19,14 +19,16 @@ pub record Merges (others : List ℕ) (place : ℕ) (mine : List ℕ) (all : ℕ
   pub few : all ≤ MAX_COUNT
   pub same : merged (listed 0 mine) (listed place (drop place others)) ≡ merged before (listed 0 others)
 
-pub merges_start : (others mine : List ℕ) (m n : ℕ) → IsTable mine m → IsTable others n → m + n ≤ MAX_COUNT → Merges others 0 mine (m + n) (listed 0 mine)
-merges_start others mine m n one other few = record {
-  full = one.full;
-  others_full = other.full;
-  counted = omega (arith, one.counted, other.counted);
-  few = few;
-  same = refl;
-}
+pub merges_start : (others mine : List ℕ) (m n first past : ℕ) → IsTable mine m → IsTable others n → IsOccupied others first past → m + n ≤ MAX_COUNT → Merges others first mine (m + n) (listed 0 mine)
+merges_start others mine m n first past one other part few =
+    let within : first ≤ length others = omega (arith, part.first_within, other.full) in
+    record {
+      full = one.full;
+      others_full = other.full;
+      counted = omega (arith, one.counted, other.counted, sum-first others first within part.below);
+      few = few;
+      same = ap (merged (listed 0 mine)) (listed-first others first within part.below);
+    }
 
 merged_step : (others mine : List ℕ) (place here : ℕ) → place < length others → place < length mine → here ≡ get_or mine place here → merged (listed 0 (set mine place (here + get_or others place 0))) (listed (place + 1) (drop (place + 1) others)) ≡ merged (listed 0 mine) (listed place (drop place others))
 merged_step others mine place here short mine_short is = elim (cases_lt 0 (get_or others place 0)) [
@@ -60,11 +62,15 @@ pub merges_room : (others mine : List ℕ) (place here all : ℕ) (before : List
 merges_room others mine place here all before short is m =
     omega (arith, m.counted, get_or-le-sum_by (λ n. n) mine place here (omega (arith, m.full, m.others_full)), sum_by-drop_more (λ n. n) others place 0 short)
 
-pub merges_table : (others mine : List ℕ) (place all : ℕ) (before : List BinCount) → length others ≤ place → Merges others place mine all before → IsTable mine all
-merges_table others mine place all before past m =
-    let rest : sum (drop place others) ≡ 0 = ap sum (drop_of_length-le others past) in
-    record { full = m.full; counted = omega (arith, m.counted); limit = m.few }
+pub merges_table : (others mine : List ℕ) (first past place all : ℕ) (before : List BinCount) → past ≤ place → IsOccupied others first past → Merges others place mine all before → IsTable mine all
+merges_table others mine first past place all before end part m =
+    let rest : sum (drop place others) ≡ 0 = sum-past others place (λ k later. part.above k (omega (arith, end, later))) in
+    record { full = m.full; counted = omega (arith, m.counted, rest); limit = m.few }
 
-pub merges_end : (others mine : List ℕ) (place all : ℕ) (before : List BinCount) → length others ≤ place → Merges others place mine all before → listed 0 mine ≡ merged before (listed 0 others)
-merges_end others mine place all before past m =
-    sym (ap (merged (listed 0 mine)) (ap (listed place) (drop_of_length-le others past) ∙ listed-nil place)) ∙ m.same
+pub merges_end : (others mine : List ℕ) (first past place all : ℕ) (before : List BinCount) → past ≤ place → IsOccupied others first past → Merges others place mine all before → listed 0 mine ≡ merged before (listed 0 others)
+merges_end others mine first past place all before end part m =
+    sym (ap (merged (listed 0 mine)) (listed-past others place (λ k later. part.above k (omega (arith, end, later))))) ∙ m.same
+
+-- a count that is read is that of its place
+pub same_read : (ns : List ℕ) (place here : ℕ) → place < length ns → here ≡ get_or ns place here → here ≡ get_or ns place 0
+same_read ns place here short is = is ∙ get_or_default ns place here 0 short

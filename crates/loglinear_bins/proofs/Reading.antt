@@ -1,5 +1,5 @@
 -- Loops over the places of a table.
-use Rattle.std.proofs.Common.{◌≡◌, ◌≢◌, Some, None, ℕ, suc, ◌+◌, ◌*◌, ◌<◌, ◌≤◌, ◌-◌, ◌/◌, List, [], ◌∷◌, ◌++◌, append_assoc, append-nil, length, get_or, drop, refl, sym, ap, ◌∙◌, arith, add-one, cond, leb, Bool, true, false, inl, inr}
+use Rattle.std.proofs.Common.{◌≡◌, ◌≢◌, Some, None, ℕ, suc, ◌+◌, ◌*◌, ◌<◌, ◌≤◌, ◌-◌, ◌/◌, List, [], ◌∷◌, ◌++◌, append_assoc, length, get_or, drop, refl, sym, ap, ◌∙◌, arith, add-one, cond, leb, Bool, true, false, inl, inr}
 use Rattle.std.specs.Prelude.{sum_by}
 use Rattle.std.proofs.Math.ListN.{drop_of_length-le}
 use Rattle.std.proofs.lemmas.Bool.{cases_lt, eq-eqb, ne_eqb, le-leb, lt-leb}
@@ -93,9 +93,6 @@ pairs_some before counts i ns short some so = rw (add-one, append_assoc) (ap (λ
 
 pub pairs_none : (before counts : List BinCount) (i : ℕ) (ns : List ℕ) → i < length ns → get_or ns i 0 ≡ 0 → before ++ listed i (drop i ns) ≡ counts → before ++ listed (i + 1) (drop (i + 1) ns) ≡ counts
 pairs_none before counts i ns short none so = rw add-one (ap (λ cs. before ++ cs) (sym (listed-drop-none i ns short none)) ∙ so)
-
-pub pairs_end : (before counts : List BinCount) (i : ℕ) (ns : List ℕ) → length ns ≤ i → before ++ listed i (drop i ns) ≡ counts → before ≡ counts
-pairs_end before counts i ns past so = sym (append-nil before) ∙ (ap (λ cs. before ++ cs) (sym (ap (listed i) (drop_of_length-le ns past) ∙ listed-nil i)) ∙ so)
 
 pub quantile_of-none : (counts : List BinCount) (q : ℕ) → total counts ≡ 0 → quantile_of counts q ≡ None
 quantile_of-none counts q none = rw (eq-eqb (total counts) 0 none) refl

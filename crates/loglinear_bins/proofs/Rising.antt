@@ -46,7 +46,7 @@ all_rising k [] = λ j short. absurd (omega arith)
 all_rising k (zero ∷ ns) = all_rising (suc k) ns
 all_rising k (suc n ∷ ns) = rising-cons (low_tenths (bin_at k)) (lows (listed (suc k) ns)) (first_above k (suc k) ns (omega arith)) (all_rising (suc k) ns)
 
-IsBinList-listed : (ns : List ℕ) → length ns ≡ BIN_COUNT → IsBinList (listed 0 ns)
+pub IsBinList-listed : (ns : List ℕ) → length ns ≡ BIN_COUNT → IsBinList (listed 0 ns)
 IsBinList-listed ns full = record { lawful = all_lawful 0 ns (omega arith); rising = all_rising 0 ns; some = all_some 0 ns }
 
 -- so is what contracts see

@@ -1,6 +1,6 @@
 -- Lists of bins with their counts, rising and without empty bins, and what a histogram tells of them
 -- (Envoy's histograms over circllhist; thousandths and twentieths are this project's own units).
-use Rattle.std.specs.Prelude.{◌≡◌, ℕ, zero, suc, ◌+◌, ◌-◌, ◌*◌, ◌/◌, ◌==◌, nat_le, nat_lt, if◌then◌else◌, List, [], ◌∷◌, Option, Some, None, IsTrue, map, sum_by, count_by}
+use Rattle.std.specs.Prelude.{◌≡◌, ℕ, zero, suc, ◌+◌, ◌-◌, ◌*◌, ◌/◌, ◌==◌, nat_le, nat_lt, if◌then◌else◌, List, [], ◌∷◌, Option, Some, None, IsTrue, map, fold, sum_by, count_by}
 use Rattle.std.specs.List.{list_all}
 use Rattle.std.specs.List.Sorted.{IsStrictlyIncreasing}
 use Rattle.stat_defs.specs.declared.bins.Bin.{Bin}
@@ -41,6 +41,10 @@ placed (c ∷ cs) bin n =
 abbrev pub added : List BinCount → Bin → ℕ → List BinCount
 added counts bin zero = counts
 added counts bin (suc n) = placed counts bin (suc n)
+
+-- the bins of a list of values: one more in the bin of each
+abbrev pub bins_of : List ℕ → List BinCount
+bins_of values = fold (λ counts v. added counts (bin_of_value v) 1) [] values
 
 -- all of the second list more
 abbrev pub merged : List BinCount → List BinCount → List BinCount

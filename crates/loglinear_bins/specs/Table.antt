@@ -1,5 +1,5 @@
 -- The table of counts: the place of a bin, the bin at a place, and the bins that a table holds. This project's own.
-use Rattle.std.specs.Prelude.{◌≡◌, ◌≤◌, ℕ, pos, zero, suc, ◌+◌, ◌-◌, ◌*◌, ◌/◌, ◌%◌, nat_lt, if◌then◌else◌, List, [], ◌∷◌, length, sum}
+use Rattle.std.specs.Prelude.{◌≡◌, ◌≤◌, ◌<◌, get_or, ℕ, pos, zero, suc, ◌+◌, ◌-◌, ◌*◌, ◌/◌, ◌%◌, nat_lt, if◌then◌else◌, List, [], ◌∷◌, length, sum}
 use Rattle.stat_defs.specs.declared.bins.Bin.{Bin}
 use Rattle.stat_defs.specs.declared.bins.BinCount.{BinCount}
 use Rattle.loglinear_bins.specs.declared.place.TheConstants.{BIN_COUNT, MAX_COUNT}
@@ -29,3 +29,10 @@ pub record IsTable (counts : List ℕ) (n : ℕ) : Type 0 where
   pub full : length counts ≡ BIN_COUNT
   pub counted : sum counts ≡ n
   pub limit : n ≤ MAX_COUNT
+
+-- the counts below `first` and from `past` on are 0
+pub record IsOccupied (counts : List ℕ) (first past : ℕ) : Type 0 where
+  pub below : (place : ℕ) → place < first → get_or counts place 0 ≡ 0
+  pub above : (place : ℕ) → past ≤ place → get_or counts place 0 ≡ 0
+  pub first_within : first ≤ BIN_COUNT
+  pub past_within : past ≤ BIN_COUNT

@@ -16,18 +16,21 @@ use std::marker::Model;
 pub struct Bins {
     counts: Vec<u64>,
     total: u64,
+    // Every count below the first place, and from the second one on, is 0.
+    from: u32,
+    to: u32,
 }
 
 impl Model for Bins {
     ghost use Rattle.std.specs.Prelude.{List};
     ghost use Rattle.stat_defs.specs.declared.bins.BinCount.{BinCount};
-    ghost use Rattle.loglinear_bins.specs.Table.{listed, IsTable};
+    ghost use Rattle.loglinear_bins.specs.Table.{listed, IsTable, IsOccupied};
 
     ghost Value = { List BinCount };
 
     ghost view = { λ b. listed 0 b.counts.items };
 
-    ghost invariant = { λ b. IsTable b.counts.items b.total };
+    ghost invariant = { λ b. IsTable b.counts.items b.total × IsOccupied b.counts.items b.from b.to };
 }
 
 impl Bins {
@@ -38,6 +41,8 @@ impl Bins {
         Ok(Bins {
             counts: vec![in alloc; 0; BIN_COUNT]?,
             total: 0,
+            from: BIN_COUNT as u32,
+            to: 0,
         })
     }
 
@@ -55,7 +60,7 @@ impl Bins {
         Ok(bins)
     }
 
-    /// Counts one value. It takes no memory, and constant time.
+    /// Counts one value.
     pub fn record(&mut self, v: u64)
         requires { total self.old < MAX_COUNT }
         ensures { self.new ≡ added self.old (bin_of_value v) 1 }
@@ -71,6 +76,8 @@ impl Bins {
         let place = place_of(bin);
         self.counts[place] += n;
         self.total += n;
+        self.from = self.from.min(place as u32);
+        self.to = self.to.max(place as u32 + 1);
     }
 
     /// Counts all values of another histogram too.
@@ -78,18 +85,31 @@ impl Bins {
         requires { total self.old + total other.now ≤ MAX_COUNT }
         ensures { self.new ≡ merged self.old other.now }
     {
-        for (place, n) in other.counts.iter().enumerate() {
-            self.counts[place] += *n;
+        for place in other.from as usize..other.to as usize {
+            self.counts[place] += other.counts[place];
         }
         self.total += other.total;
+        self.from = self.from.min(other.from);
+        self.to = self.to.max(other.to);
     }
 
     /// Forgets all values. The room for every bin stays.
     pub fn clear(&mut self)
         ensures { self.new ≡ [] }
     {
-        self.counts.fill(0);
+        for place in self.from as usize..self.to as usize {
+            self.counts[place] = 0;
+        }
         self.total = 0;
+        self.from = BIN_COUNT as u32;
+        self.to = 0;
+    }
+
+    /// Whether there are no values.
+    pub fn is_empty(&self) -> bool
+        ensures { IsTrue result ↔ (self.now ≡ []) }
+    {
+        self.total == 0
     }
 
     /// The number of values.
@@ -159,11 +179,12 @@ impl Bins {
         ensures limit { total self.now ≤ MAX_COUNT }
     {
         let mut pairs = Vec::new(alloc);
-        for (place, n) in self.counts.iter().enumerate() {
-            if *n > 0 {
+        for place in self.from as usize..self.to as usize {
+            let n = self.counts[place];
+            if n > 0 {
                 pairs.push(BinCount {
                     bin: bin_at(place),
-                    count: *n,
+                    count: n,
                 })?;
             }
         }

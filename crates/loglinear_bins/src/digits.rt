@@ -1,6 +1,6 @@
 //! The bin of a value, from its decimal digits.
-ghost use Rattle.std.specs.Prelude.{◌≡◌, ◌+◌, ◌*◌, ◌^◌, ◌<◌, ◌≤◌};
-ghost use Rattle.loglinear_bins.specs.Bins.{bin_of_value};
+ghost use Rattle.std.specs.Prelude.{◌≡◌, ◌+◌, ◌*◌, ◌^◌, ◌<◌, ◌≤◌, IsTrue};
+ghost use Rattle.loglinear_bins.specs.Bins.{bin_of_value, is_lawful};
 
 use stat_defs::Bin;
 
@@ -64,7 +64,8 @@ fn digits_after_first(v: u64) -> usize
 
 /// The bin of a value: its first two decimal digits, or ten times its one digit, and how many digits follow the first one.
 pub fn bin_of(v: u64) -> Bin
-    ensures { result ≡ bin_of_value v }
+    ensures bin { result ≡ bin_of_value v }
+    ensures lawful { IsTrue (is_lawful result) }
 {
     if v < 10 {
         return Bin {

@@ -11,5 +11,5 @@ mod tests;
 
 pub use bins::Bins;
 pub use digits::bin_of;
-pub use laws::{merge_law, record_law};
+pub use laws::{merge_law, record_law, values_law};
 pub use place::{BIN_COUNT, MAX_COUNT};

@@ -4,7 +4,7 @@ use Rattle.std.specs.List.{count_by}
 use Rattle.std.specs.Option.{option_map_or}
 use Rattle.std.specs.FinMap as map
 use Rattle.symbol_table.specs.Table.{Table}
-use Rattle.stat_book.specs.State.{same_text}
+use Rattle.book_state.specs.State.{same_text}
 
 -- how often a token stands under a number
 abbrev pub occurrences : List (List ℕ × ℕ) → List ℕ → ℕ → ℕ

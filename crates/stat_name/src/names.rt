@@ -79,6 +79,15 @@ impl StatName {
     {
         self.numbers.items()
     }
+
+    /// The numbers, without a copy.
+    pub fn into_numbers(self) -> Numbers
+        ensures numbers { result ≡ self }
+        ensures name { IsName self }
+    {
+        let StatName { numbers } = self;
+        numbers
+    }
 }
 
 /// The spellings of the numbers, one after the other.

@@ -1,13 +1,13 @@
 //! The slots of a table, and the index of its tokens.
 ghost use Rattle.std.specs.Prelude.{◌≡◌, ℕ, ◌+◌, ◌-◌, ◌<◌, ◌≤◌, ◌^◌, ◌==◌, ◌++◌, ◌∷◌, [], OnOk, OnErr, Some, None, length, slice_get, nat_eq, vec_len};
 ghost use Rattle.std.specs.Vec.{vec_capacity};
-ghost use Rattle.std.specs.HashMap.{get, Updates, IsUnchanged};
+ghost use Rattle.indexmap.specs.IndexMap.{get, Updates, IsUnchanged};
 ghost use Rattle.std.specs.Cmp.Lexicographic.{pointwise};
 ghost use Rattle.symbol_table.specs.declared.slots.Slot.{Slot as TheSlot};
 ghost use Rattle.symbol_table.specs.Slots.{Changed};
 
+use name_map::NameMap;
 use stat_defs::{NoMemory, Txt};
-use std::collections::HashMap;
 
 /// A number's token with its uses. Number `n` has slot `n - 1`, and a slot without uses is free.
 #[derive(Drop)]
@@ -28,14 +28,14 @@ pub fn put_last<T: Drop>(items: &mut Vec<T>, item: T)
 }
 
 /// The number of a token in use.
-pub fn number_of(index: &HashMap<Txt, u32>, token: &Txt) -> Option<u32>
+pub fn number_of(index: &NameMap<Txt, u32>, token: &Txt) -> Option<u32>
     ensures { result ≡ get (pointwise nat_eq) index.now token.now }
 {
     index.get(token).copied()
 }
 
 /// Lists a token under its number.
-pub fn list_token(index: &mut HashMap<Txt, u32>, token: Txt, n: u32) -> Result<(), NoMemory>
+pub fn list_token(index: &mut NameMap<Txt, u32>, token: Txt, n: u32) -> Result<(), NoMemory>
     ensures ok { OnOk result (Updates (pointwise nat_eq) index.old index.new token (Some n)) }
     ensures err { OnErr result (IsUnchanged index.old index.new) }
 {
@@ -44,12 +44,12 @@ pub fn list_token(index: &mut HashMap<Txt, u32>, token: Txt, n: u32) -> Result<(
 }
 
 /// Takes the token of a slot out of the index.
-pub fn unlist_token(index: &mut HashMap<Txt, u32>, slots: &[Slot], at: usize)
+pub fn unlist_token(index: &mut NameMap<Txt, u32>, slots: &[Slot], at: usize)
     requires { at < length slots.now }
     ensures { (slot : TheSlot) → slice_get slots.now at ≡ Some slot → Updates (pointwise nat_eq) index.old index.new slot.token None }
 {
     let slot = &slots[at];
-    let _ = index.remove(&slot.token);
+    let _ = index.swap_remove(&slot.token);
 }
 
 /// The first place from `from` on whose slot is free, or the end.

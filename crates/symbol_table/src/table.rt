@@ -10,10 +10,10 @@ use crate::slots::{
     Slot, add_use, drop_use, list_token, next_free, number_of, put_last, token_at, unlist_token,
     write_slot,
 };
+use name_map::{HashKey, NameMap, name_map};
 use stat_defs::{NoMemory, Numbers, Txt};
 use stat_name::StatName;
 use std::alloc::Global;
-use std::collections::HashMap;
 use std::marker::Model;
 
 /// The uses of all tokens together stay below so many.
@@ -24,7 +24,7 @@ pub const MAX_USES: usize = 16_777_216;
 #[derive(Drop)]
 pub struct SymbolTable {
     slots: Vec<Slot>,
-    index: HashMap<Txt, u32>,
+    index: NameMap<Txt, u32>,
     /// All slots below this place are in use.
     free_from: usize,
     in_use: u32,
@@ -47,17 +47,18 @@ impl Model for SymbolTable {
 }
 
 impl SymbolTable {
-    /// A table without tokens.
-    pub fn new(alloc: Global) -> Result<SymbolTable, NoMemory>
-        ensures empty { IfOk result (λ table. table ≡ map.empty) }
-        ensures total { IfOk result (λ table. total table ≡ 0) }
+    /// A table without tokens, which is hashed under this key.
+    pub fn new(alloc: Global, key: HashKey) -> SymbolTable
+        ensures empty { result ≡ map.empty }
+        ensures total { total result ≡ 0 }
+        ensures table { IsTable result }
     {
-        Ok(SymbolTable {
+        SymbolTable {
             slots: Vec::new(alloc),
-            index: HashMap::new(alloc),
+            index: name_map(alloc, key),
             free_from: 0,
             in_use: 0,
-        })
+        }
     }
 
     /// How many numbers are in use. Every table keeps to `IsTable`.
@@ -78,11 +79,13 @@ impl SymbolTable {
         ensures uses { IfOk result (λ numbers. (n : ℕ) → uses_at self.new n ≡ uses_at self.old n + times n numbers) }
         ensures text { IfOk result (λ numbers. text_in self.new numbers ≡ name.now) }
         ensures total { OnOk result (total self.new ≡ total self.old + length (tokens name.now)) }
+        ensures table { OnOk result (IsTable self.new) }
         ensures err { OnErr result (self.new ≡ self.old) }
     {
         let parts = tokens_of(alloc, name)?;
         let mut numbers = Vec::with_capacity(alloc, parts.len())?;
         self.intern_all(alloc, &parts, &mut numbers)?;
+        let _in_use = self.numbers_in_use();
         Ok(StatName::of(Numbers::of(numbers)))
     }
 
@@ -106,11 +109,23 @@ impl SymbolTable {
         ensures dropped { self.new ≡ uncounted_all self.old name.now }
         ensures uses { (n : ℕ) → uses_at self.new n + times n name.now ≡ uses_at self.old n }
         ensures total { total self.new + length name.now ≡ total self.old }
+        ensures table { IsTable self.new }
     {
-        let numbers = name.symbols();
+        self.drop_numbers(name.symbols());
+    }
+
+    /// Takes one use of each of these numbers away, as [`SymbolTable::drop_name`] does.
+    pub fn drop_numbers(&mut self, numbers: &[u32])
+        requires { (n : ℕ) → times n numbers.now ≤ uses_at self.old n }
+        ensures dropped { self.new ≡ uncounted_all self.old numbers.now }
+        ensures uses { (n : ℕ) → uses_at self.new n + times n numbers.now ≡ uses_at self.old n }
+        ensures total { total self.new + length numbers.now ≡ total self.old }
+        ensures table { IsTable self.new }
+    {
         for n in numbers {
             self.uncount(*n);
         }
+        let _in_use = self.numbers_in_use();
     }
 
     /// The tokens of a name, with dots between them.

@@ -1,11 +1,12 @@
 //! Names interned, held and dropped.
 
 use crate::SymbolTable;
+use name_map::HashKey;
 use std::test::Fail;
 
 #[test]
 fn draws_a_free_number_again(rt: HostRuntime) -> Result<(), Fail> {
-    let mut table = SymbolTable::new(rt.alloc())?;
+    let mut table = SymbolTable::new(rt.alloc(), HashKey::fixed());
     let first = table.intern(rt.alloc(), b"a.b")?;
     let second = table.intern(rt.alloc(), b"b.c")?;
     assert_eq!(rt; first.symbols(), [1, 2].as_slice());
@@ -20,7 +21,7 @@ fn draws_a_free_number_again(rt: HostRuntime) -> Result<(), Fail> {
 
 #[test]
 fn keeps_a_held_name(rt: HostRuntime) -> Result<(), Fail> {
-    let mut table = SymbolTable::new(rt.alloc())?;
+    let mut table = SymbolTable::new(rt.alloc(), HashKey::fixed());
     let name = table.intern(rt.alloc(), b"b.c")?;
     table.hold(&name);
     table.drop_name(&name);

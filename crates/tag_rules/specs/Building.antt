@@ -1,5 +1,5 @@
 -- What a build answers, and which patterns it makes. This project's own.
-use Rattle.std.specs.Prelude.{◌≡◌, ℕ, ◌++◌, List, [], ◌∷◌, Some, Result, Ok, Err, slice_get, take, flat_map}
+use Rattle.std.specs.Prelude.{◌≡◌, ◌<◌, ◌≤◌, ◌+◌, ℕ, ◌++◌, List, [], ◌∷◌, Some, Result, Ok, Err, slice_get, length, take, flat_map}
 use Rattle.stat_defs.specs.declared.configs.Pattern.{Pattern}
 use Rattle.stat_defs.specs.declared.configs.Pattern.TheVariants as pattern
 use Rattle.stat_defs.specs.declared.configs.Rule.{Rule}
@@ -33,29 +33,30 @@ texts_in (rule.Fixed value) = []
 abbrev pub rule_texts : TagSpec → List (List ℕ)
 rule_texts spec = texts_in spec.rule
 
--- the member at place i asks for `done`, `refused` and `rest`; the patterns of all members before it and those of `done`
--- were made in order, and then `refused` was refused
-pub record IsCutAt {A : Type 0} (texts : A → List (List ℕ)) (members : List A) (old new : Memory) (i : ℕ) : Type 0 where
-  pub member : A
-  pub done : List (List ℕ)
+-- so many of the texts were made patterns in order, and the next one, `refused`, was refused
+pub record IsCut (texts : List (List ℕ)) (old new : Memory) : Type 0 where
+  pub at : ℕ
   pub refused : List ℕ
-  pub rest : List (List ℕ)
-  pub place : slice_get members i ≡ Some member
-  pub asks : texts member ≡ done ++ refused ∷ rest
+  pub text : slice_get texts at ≡ Some refused
   pub refuses : Refuses refused old new
-  pub made : new.made ≡ old.made ++ (flat_map texts (take i members) ++ done)
+  pub made : new.made ≡ old.made ++ take at texts
 
--- the patterns of a front of the texts were made in order, and none was refused
+-- one text of the member at place i was refused, once those before it were made: the place of the refused text in the list
+-- of all texts lies among those that this member asks for
+pub record IsCutAt {A : Type 0} (texts : A → List (List ℕ)) (members : List A) (old new : Memory) (i : ℕ) : Type 0 where
+  pub cut : IsCut (flat_map texts members) old new
+  pub begins : length (flat_map texts (take i members)) ≤ cut.at
+  pub ends : cut.at < length (flat_map texts (take (i + 1) members))
+
+-- so many of the texts were made patterns in order, and none was refused
 pub record IsFrontMade (texts : List (List ℕ)) (old new : Memory) : Type 0 where
-  pub front : List (List ℕ)
-  pub rest : List (List ℕ)
-  pub asks : texts ≡ front ++ rest
-  pub made : new ≡ after_making front old
+  pub count : ℕ
+  pub made : new ≡ after_making (take count texts) old
 
 -- one member is built; what was built is seen as the member
 abbrev pub BuildsOne : {A : Type 0} → (A → List (List ℕ)) → A → Memory → Memory → Result A MakeFault → Type 0
 BuildsOne texts member old new (Ok built) = (built ≡ member) × (new ≡ after_making (texts member) old)
-BuildsOne texts member old new (Err make.Refused) = IsCutAt texts (member ∷ []) old new 0
+BuildsOne texts member old new (Err make.Refused) = IsCut (texts member) old new
 BuildsOne texts member old new (Err make.NoMemory) = IsFrontMade (texts member) old new
 
 -- a setting with these members is built; what was built is seen as the setting, and a bad pattern is told by the place of

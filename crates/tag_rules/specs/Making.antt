@@ -1,5 +1,10 @@
 -- What a pattern maker answers, and what it then remembers. This project's own.
-use Rattle.std.specs.Prelude.{◌≡◌, ℕ, ◌≤◌, ◌++◌, List, [], ◌∷◌, Option, None, Some, Result, Ok, Err}
+use Rattle.std.specs.Prelude.{◌≡◌, ◌≢◌, ℕ, ◌≤◌, ◌++◌, List, [], ◌∷◌, Option, None, Some, Result, Ok, Err}
+use Rattle.regex.specs.Failures.{IsRightKind}
+use Rattle.regex.specs.Patterns.{default_config}
+use Rattle.regex.specs.Sources.{IsRefusal}
+use Rattle.regex.specs.declared.error.Error.{Error}
+use Rattle.regex.specs.declared.error.Error.TheVariants.{OutOfMemory}
 use Rattle.stat_defs.specs.Faults.{Rose}
 use Rattle.tag_rules.specs.declared.fault.MakeFault.{MakeFault}
 use Rattle.tag_rules.specs.declared.fault.MakeFault.TheVariants.{Refused, NoMemory}
@@ -23,6 +28,10 @@ abbrev pub Makes : List ℕ → Memory → Memory → Result (List ℕ) MakeFaul
 Makes text old new (Ok pattern) = (pattern ≡ text) × (new ≡ after_making (text ∷ []) old)
 Makes text old new (Err Refused) = Refuses text old new × (new.made ≡ old.made)
 Makes text old new (Err NoMemory) = new ≡ old
+
+-- `regex` refuses the text: its grammar does not read it, or the text is a pattern that is not compiled, which is for its size
+abbrev pub IsRefusedText : List ℕ → Type 0
+IsRefusedText text = (error : Error) × (error ≢ OutOfMemory) × IsRefusal default_config text error × IsRightKind default_config text error
 
 -- a maker over `regex`: the numbers of the calls that it refuses, how many calls it answered, how many of them it refused,
 -- the text that it refused last, and the texts of the patterns that it made

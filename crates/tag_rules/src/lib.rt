@@ -2,9 +2,11 @@
 #![tactic(auto)]
 
 mod buckets;
+mod building;
 mod fault;
 mod given;
 mod laws;
+mod machine;
 mod maker;
 mod matcher;
 mod name_test;
@@ -18,9 +20,9 @@ mod text;
 
 pub use buckets::Buckets;
 pub use fault::{MakeFault, TagFault};
-pub use laws::{config_law, name_law};
+pub use laws::{bounds_law, config_law, name_law, thread_law};
 pub use maker::PatternMaker;
 pub use matcher::Matcher;
-pub use pat::Pat;
+pub use pat::{MAX_STATES, MAX_TABLE_BYTES, Pat};
 pub use regex_maker::RegexMaker;
 pub use tag_rules::TagRules;

@@ -1,15 +1,17 @@
 //! Which names are admitted.
-ghost use Rattle.std.specs.Prelude.{◌≡◌, ◌<◌, ◌^◌, IfOk, IsUtf8, All, length, map};
+ghost use Rattle.std.specs.Prelude.{◌≡◌, ◌<◌, ◌^◌, IfOk, IsUtf8, All, length};
 ghost use Rattle.std.specs.List.{list_any};
 ghost use Rattle.tag_rules.specs.Admission.{matches, admits, patterns_of, IsReadable};
 ghost use Rattle.tag_rules.specs.Building.{Builds, pattern_texts};
-ghost use Rattle.tag_rules.specs.NameTests.{pattern_of, with_ok};
+ghost use Rattle.tag_rules.specs.NameTests.{pattern_of};
 
-use crate::fault::{MakeFault, TagFault};
+use crate::building::build_each;
+use crate::fault::TagFault;
 use crate::maker::PatternMaker;
 use crate::name_test::NameTest;
 use crate::text::as_text;
-use stat_defs::{MatchSpec, NoMemory, Pattern};
+use regex_vm::Backtracker;
+use stat_defs::{MatchSpec, NoMemory};
 use std::alloc::Global;
 use std::marker::Model;
 
@@ -79,31 +81,11 @@ impl Matcher {
 fn any_matches(alloc: Global, tests: &[NameTest], name: &str) -> Result<bool, NoMemory>
     ensures { IfOk result (λ b. b ≡ list_any (λ t. matches name.now (pattern_of t)) tests.now) }
 {
+    let mut tracker = Backtracker::new(alloc);
     for test in tests {
-        if test.matches(alloc, name)? {
+        if test.matches(alloc, &mut tracker, name)? {
             return Ok(true);
         }
     }
     Ok(false)
-}
-
-// Builds each pattern, up to the first that is refused.
-fn build_each<K: PatternMaker>(
-    alloc: Global,
-    maker: &mut K,
-    patterns: &[Pattern],
-) -> Result<Vec<NameTest>, TagFault>
-    requires readable { All IsReadable patterns.now }
-    requires few { length patterns.now < 2 ^ 32 }
-    ensures { Builds pattern_texts patterns.now patterns.now (K.memory maker.old) (K.memory maker.new) (with_ok (λ v. map pattern_of v.items) result) }
-{
-    let mut tests = Vec::new(alloc);
-    for (i, pattern) in patterns.iter().enumerate() {
-        match NameTest::build(alloc, maker, pattern) {
-            Ok(test) => tests.push(test)?,
-            Err(MakeFault::Refused) => return Err(TagFault::BadPattern(i as u32)),
-            Err(MakeFault::NoMemory) => return Err(TagFault::NoMemory),
-        }
-    }
-    Ok(tests)
 }

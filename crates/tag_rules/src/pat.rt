@@ -1,91 +1,126 @@
 //! Compiled regular expressions.
-ghost use Rattle.std.specs.Prelude.{◌≡◌, ◌≤◌, IfOk, IfErr, IfSome};
+ghost use Rattle.std.specs.Prelude.{◌≡◌, ◌≤◌, IfOk, IfErr, IfSome, OnOk, length, option_map};
 ghost use Rattle.regex.specs.Failures.{IsRightKind};
 ghost use Rattle.regex.specs.Patterns.{default_config};
-ghost use Rattle.regex.specs.Sources.{IsTextRefusal};
-ghost use Rattle.regex.specs.Strings.{captures_span, captures_haystack};
-ghost use Rattle.tag_rules.specs.Captures.{places_in};
-ghost use Rattle.tag_rules.specs.Patterns.{is_found, captured, IsPlaceIn};
+ghost use Rattle.regex.specs.Sources.{IsRefusal};
+ghost use Rattle.regex_vm.specs.Found.{span, group_cells};
+ghost use Rattle.tag_rules.specs.Machines.{places_in};
+ghost use Rattle.tag_rules.specs.Patterns.{leftmost, is_found, captured, IsPlaceIn};
 
-use regex::{Captures, Error, Regex};
+use crate::machine::{self, place_of};
+use regex::Error;
+use regex_nfa::Nfa;
+use regex_syntax::Config;
+use regex_vm::Backtracker;
+use stat_defs::Txt;
 use std::alloc::{AllocError, Global};
 use std::marker::Model;
+
+/// The most states that the program of a pattern has.
+pub const MAX_STATES: usize = 16_384;
+
+/// The most bytes that the states and the transitions of a program take, without the two states that each begins with.
+pub const MAX_TABLE_BYTES: usize = 1_048_576;
+
+/// The groups that a search asks for, group 0 included.
+const GROUPS: u32 = 3;
 
 /// A regular expression, ready to be searched for. Contracts see it as its text, and its matches are those that `regex`
 /// defines for that text.
 #[derive(Drop)]
 pub struct Pat {
-    regex: Regex,
+    text: Txt,
+    nfa: Nfa,
 }
 
 impl Model for Pat {
-    ghost use Rattle.std.specs.Prelude.{◌≡◌, ℕ, List};
-    ghost use Rattle.regex.specs.Strings.{regex_source, regex_config, IsReadFromSource};
-    ghost use Rattle.regex.specs.Patterns.{default_config};
+    ghost use Rattle.std.specs.Prelude.{◌≤◌, ℕ, List, vec_len};
+    ghost use Rattle.tag_rules.specs.declared.pat.TheConstants.{MAX_STATES};
+    ghost use Rattle.tag_rules.specs.Machines.{Runs};
 
     ghost Value = { List ℕ };
 
-    ghost view = { λ p. regex_source p.regex };
+    ghost view = { λ p. p.text };
 
-    ghost invariant = { λ p. (regex_config p.regex ≡ default_config) × IsReadFromSource p.regex };
+    ghost invariant = { λ p. (6 ≤ p.nfa.slot_count) × Runs p.nfa p.text × (vec_len p.nfa.states ≤ MAX_STATES) };
 }
 
 impl Pat {
     /// Compiles the text. `Error::OutOfMemory` alone stands for want of memory. A text is refused for its syntax or, where
-    /// it is a regular expression, for its size; which sizes are too great is left to `regex`.
+    /// it is a regular expression, for its size: a program has at most [`MAX_STATES`] states, and their tables at most
+    /// [`MAX_TABLE_BYTES`] bytes. That a smaller one is made is left to `regex_compile`.
     pub fn new(alloc: Global, text: &str) -> Result<Pat, Error>
         ensures text { IfOk result (λ pattern. pattern ≡ text.now) }
-        ensures refused { IfErr result (IsTextRefusal default_config text.now) }
+        ensures refused { IfErr result (IsRefusal default_config text.now) }
         ensures kind { IfErr result (IsRightKind default_config text.now) }
     {
-        let regex = Regex::new(alloc, text)?;
-        Ok(Pat { regex })
+        let parsed = match regex_syntax::parse(alloc, text, &Config::default()) {
+            Ok(parsed) => parsed,
+            Err(error) => return Err(Error::from(error)),
+        };
+        let Ok(groups) = u32::try_from(parsed.names.len()) else {
+            return Err(Error::CompiledTooBig);
+        };
+        let nfa = regex_compile::compile(alloc, &parsed.hir, groups.max(GROUPS), MAX_TABLE_BYTES)?;
+        if nfa.states.len() > MAX_STATES {
+            return Err(Error::CompiledTooBig);
+        }
+        let text = Txt::of_vec(text.as_bytes().to_vec(alloc)?);
+        Ok(Pat { text, nfa })
     }
 
     /// Whether the pattern is found in the name.
-    pub fn is_found(&self, alloc: Global, name: &str) -> Result<bool, AllocError>
+    pub(crate) fn is_found(
+        &self,
+        alloc: Global,
+        tracker: &mut Backtracker,
+        name: &str,
+    ) -> Result<bool, AllocError>
         ensures { IfOk result (λ found. found ≡ is_found self.now name.now) }
     {
-        let regex = &self.regex;
-        let mut matcher = regex.matcher(alloc)?;
-        Ok(matcher.is_match(name))
+        Ok(self.search(alloc, tracker, name, &mut [])?.is_some())
     }
 
     /// In the leftmost match, the place of the first group, and that of the second group, or of the first again where
     /// the second took no part. `None` where the pattern is not found or the first group took no part.
-    pub fn captured(
+    pub(crate) fn captured(
         &self,
         alloc: Global,
+        tracker: &mut Backtracker,
         name: &str,
     ) -> Result<Option<((usize, usize), (usize, usize))>, AllocError>
         ensures value { IfOk result (λ places. places ≡ captured self.now name.now) }
         ensures within { IfOk result (λ places. IfSome places (λ p. IsPlaceIn name.now p.1)) }
     {
-        let regex = &self.regex;
-        let mut matcher = regex.matcher(alloc)?;
-        match matcher.captures(name) {
-            Some(captures) => Ok(places(&captures)),
+        let mut cells = [0; 4];
+        match self.search(alloc, tracker, name, &mut cells)? {
+            Some(_) => Ok(places(&cells)),
             None => Ok(None),
         }
+    }
+
+    // The span of the leftmost match, with the cells of its groups.
+    fn search(
+        &self,
+        alloc: Global,
+        tracker: &mut Backtracker,
+        name: &str,
+        cells: &mut [usize],
+    ) -> Result<Option<(usize, usize)>, AllocError>
+        requires { length cells.old ≤ 4 }
+        ensures span { IfOk result (λ found. found ≡ option_map span (leftmost self.now name.now)) }
+        ensures cells { OnOk result (IfSome (leftmost self.now name.now) (λ m. cells.new ≡ group_cells m (length cells.old))) }
+    {
+        machine::leftmost(alloc, &self.nfa, tracker, name, cells)
     }
 }
 
 // The places of the first group and of the value.
-fn places(captures: &Captures) -> Option<((usize, usize), (usize, usize))>
-    ensures value { result ≡ places_in captures.now }
-    ensures within { IfSome result (λ p. IsPlaceIn (captures_haystack captures.now) p.1) }
+fn places(cells: &[usize]) -> Option<((usize, usize), (usize, usize))>
+    requires { 4 ≤ length cells.now }
+    ensures { result ≡ places_in cells.now }
 {
-    let first = place_of(captures, 1)?;
-    let value = place_of(captures, 2).unwrap_or(first);
+    let first = place_of(cells, 0)?;
+    let value = place_of(cells, 2).unwrap_or(first);
     Some((first, value))
-}
-
-// The place of a group, where it took part.
-fn place_of(captures: &Captures, group: usize) -> Option<(usize, usize)>
-    requires { 1 ≤ group }
-    ensures value { result ≡ captures_span captures.now group }
-    ensures within { IfSome result (IsPlaceIn (captures_haystack captures.now)) }
-{
-    let found = captures.get(group)?;
-    Some((found.start(), found.end()))
 }

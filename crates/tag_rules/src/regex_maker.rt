@@ -1,6 +1,6 @@
 //! Patterns by `regex`.
-ghost use Rattle.std.specs.Prelude.{◌≡◌, ◌+◌, ◌-◌, ◌^◌, [], Err, OnOk, Contains, IsUtf8, min};
-ghost use Rattle.tag_rules.specs.Making.{Memory, Makes, memory_of};
+ghost use Rattle.std.specs.Prelude.{◌≡◌, ◌+◌, ◌-◌, ◌^◌, [], Err, OnOk, Contains, IsUtf8, min, ◌⊎◌};
+ghost use Rattle.tag_rules.specs.Making.{Memory, Makes, IsRefusedText, memory_of};
 
 use crate::fault::MakeFault;
 use crate::maker::PatternMaker;
@@ -39,7 +39,7 @@ impl Model for RegexMaker {
 }
 
 impl RegexMaker {
-    /// A maker that was not called yet. It takes no memory.
+    /// A maker that was not called yet.
     pub fn new(fails: Vec<u64>) -> RegexMaker
         ensures { result ≡ record { fails = fails.items; calls = 0; refusals = 0; last = []; made = [] } }
     {
@@ -76,8 +76,10 @@ impl PatternMaker for RegexMaker {
         requires { IsUtf8 text.now }
         ensures made { Makes text.now (memory_of self.old) (memory_of self.new) result }
 
-        // Which calls are refused whatever their text is, and what stays.
+        // Which calls are refused whatever their text is, which texts are, and what is counted and stays.
         ensures sure { OnOk result (¬ (Contains self.old.fails self.old.calls)) }
+        ensures cause { result ≡ Err MakeFault.Refused → Contains self.old.fails self.old.calls ⊎ IsRefusedText text.now }
+        ensures counted { result ≡ Err MakeFault.Refused → self.new.refusals ≡ min (self.old.refusals + 1) (2 ^ 64 - 1) }
         ensures same { self.new.fails ≡ self.old.fails }
         ensures calls { ¬ (result ≡ Err MakeFault.NoMemory) → self.new.calls ≡ min (self.old.calls + 1) (2 ^ 64 - 1) }
         ensures unchanged { result ≡ Err MakeFault.NoMemory → self.new ≡ self.old }

@@ -1,16 +1,17 @@
 //! Which tags are drawn out of a name.
 ghost use Rattle.std.specs.Prelude.{◌≡◌, ◌<◌, ◌≤◌, ◌^◌, IfOk, IsUtf8, All, length, slice_range, map};
-ghost use Rattle.tag_rules.specs.Building.{BuildsOne, Builds, rule_texts};
-ghost use Rattle.tag_rules.specs.NameTests.{with_ok};
+ghost use Rattle.tag_rules.specs.Building.{Builds, rule_texts};
 ghost use Rattle.tag_rules.specs.Patterns.{IsPlaceIn};
 ghost use Rattle.tag_rules.specs.Rules.{spec_of};
 ghost use Rattle.tag_rules.specs.Tagging.{gives, given, is_given, is_removed, extracted, tagged, IsReadableRule};
 
+use crate::building::{Built, build_each};
 use crate::fault::{MakeFault, TagFault};
 use crate::given::Given;
 use crate::maker::PatternMaker;
 use crate::pat::Pat;
 use crate::text::as_text;
+use regex_vm::Backtracker;
 use stat_defs::{List, NoMemory, Rule, Tag, TagSpec, Tagged, Txt};
 use std::alloc::Global;
 use std::marker::Model;
@@ -56,18 +57,11 @@ impl TagRules {
         requires few { length specs.now < 2 ^ 32 }
         ensures { Builds rule_texts specs.now specs.now (K.memory maker.old) (K.memory maker.new) result }
     {
-        let mut rules = Vec::new(alloc);
-        for (i, spec) in specs.iter().enumerate() {
-            match TagRule::build(alloc, maker, spec) {
-                Ok(rule) => rules.push(rule)?,
-                Err(MakeFault::Refused) => return Err(TagFault::BadPattern(i as u32)),
-                Err(MakeFault::NoMemory) => return Err(TagFault::NoMemory),
-            }
-        }
+        let rules = build_each(alloc, maker, specs)?;
         Ok(TagRules { rules })
     }
 
-    /// The tags of the full name, and what of the name is left. Each rule is searched for at most once.
+    /// The tags of the full name, and what of the name is left.
     pub fn split(&self, alloc: Global, name: &[u8]) -> Result<Tagged, NoMemory>
         requires { IsUtf8 name.now }
         ensures { IfOk result (λ t. t ≡ tagged self.now name.now) }
@@ -87,11 +81,12 @@ fn given(alloc: Global, rules: &[TagRule], name: &str) -> Result<Vec<Given>, NoM
     ensures { IfOk result (λ v. v.items ≡ given (map spec_of rules.now) name.now) }
 {
     let mut found = Vec::new(alloc);
+    let mut tracker = Backtracker::new(alloc);
     for rule in rules {
         if is_given(&found, &rule.tag_name) {
             continue;
         }
-        if let Some(more) = rule.gives(alloc, name)? {
+        if let Some(more) = rule.gives(alloc, &mut tracker, name)? {
             found.push(more)?;
         }
     }
@@ -105,16 +100,20 @@ fn is_given(found: &[Given], tag_name: &Txt) -> bool
     found.iter().any(|g| g.tag.name == *tag_name)
 }
 
-impl TagRule {
-    /// Builds one rule.
+impl Built for TagRule {
+    type Member = TagSpec;
+
+    ghost texts = { rule_texts };
+
+    ghost CanBuild = { IsReadableRule };
+
+    ghost built_from = { spec_of };
+
     fn build<K: PatternMaker>(
         alloc: Global,
         maker: &mut K,
         spec: &TagSpec,
-    ) -> Result<TagRule, MakeFault>
-        requires { IsReadableRule spec.now }
-        ensures { BuildsOne rule_texts spec.now (K.memory maker.old) (K.memory maker.new) (with_ok spec_of result) }
-    {
+    ) -> Result<TagRule, MakeFault> {
         let tag_name = Txt::of(alloc, spec.tag_name.bytes())?;
         let rule = match &spec.rule {
             Rule::Regex(text) => BuiltRule::Regex(maker.make(alloc, text.bytes())?),
@@ -122,17 +121,24 @@ impl TagRule {
         };
         Ok(TagRule { tag_name, rule })
     }
+}
 
+impl TagRule {
     /// What the rule gives in the name.
-    fn gives(&self, alloc: Global, name: &str) -> Result<Option<Given>, NoMemory>
+    fn gives(
+        &self,
+        alloc: Global,
+        tracker: &mut Backtracker,
+        name: &str,
+    ) -> Result<Option<Given>, NoMemory>
         ensures { IfOk result (λ g. g ≡ gives name.now (spec_of self.now)) }
     {
         match &self.rule {
-            BuiltRule::Fixed(value) => Ok(Some(self.given(alloc, value.bytes(), None)?)),
-            BuiltRule::Regex(pattern) => match pattern.captured(alloc, name)? {
+            BuiltRule::Fixed(value) => Ok(Some(self.with_value(alloc, value.bytes(), None)?)),
+            BuiltRule::Regex(pattern) => match pattern.captured(alloc, tracker, name)? {
                 Some((first, value)) => {
                     let value = &name.as_bytes()[value.0..value.1];
-                    Ok(Some(self.given(alloc, value, Some(first))?))
+                    Ok(Some(self.with_value(alloc, value, Some(first))?))
                 }
                 None => Ok(None),
             },
@@ -140,7 +146,7 @@ impl TagRule {
     }
 
     // The rule's tag with that value, and the place that is removed.
-    fn given(
+    fn with_value(
         &self,
         alloc: Global,
         value: &[u8],

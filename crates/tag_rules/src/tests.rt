@@ -3,74 +3,77 @@ ghost use Rattle.tag_rules.specs.Admission.{IsReadable};
 ghost use Rattle.tag_rules.specs.Tagging.{IsReadableRule};
 
 use super::*;
+use regex::Regex;
+use regex_vm::Backtracker;
 use stat_defs::{Bound, BucketSpec, List, MatchSpec, Pattern, Rule, TagSpec, Txt};
 use std::alloc::Global;
 use std::test::Fail;
 
-/// Full names, each with what the default rules make of it: what is left, and then the tags.
-const SPLITS: [(&str, &str); 34] = [
-    // A cluster's name, a code, a class of codes, a listener's prefix, and two of them.
-    (
-        "cluster.foo_cluster.upstream_rq_timeout",
-        "cluster.upstream_rq_timeout envoy.cluster_name=foo_cluster",
-    ),
-    (
-        "cluster.c.upstream_rq_2xx",
-        "cluster.upstream_rq_xx envoy.response_code_class=2 envoy.cluster_name=c",
-    ),
-    (
-        "cluster.c.upstream_rq_200",
-        "cluster.upstream_rq envoy.response_code=200 envoy.cluster_name=c",
-    ),
-    (
-        "http.admin.downstream_rq_5xx",
-        "http.downstream_rq_xx envoy.response_code_class=5 envoy.http_conn_manager_prefix=admin",
-    ),
-    (
-        "http.admin.downstream_rq_503",
-        "http.downstream_rq envoy.response_code=503 envoy.http_conn_manager_prefix=admin",
-    ),
-    // No tag: the beginning or the dot after the name is missing.
-    ("server.uptime", "server.uptime"),
-    ("x", "x"),
-    ("cluster", "cluster"),
-    ("cluster.", "cluster."),
-    ("cluster.c", "cluster.c"),
-    ("http.h", "http.h"),
-    ("Cluster.c.x", "Cluster.c.x"),
-    ("a.cluster.c.x", "a.cluster.c.x"),
-    ("xcluster.c.x", "xcluster.c.x"),
-    // The shortest text up to a dot, which may be empty.
-    ("cluster.c.", "cluster. envoy.cluster_name=c"),
-    ("cluster..x", "cluster.x envoy.cluster_name="),
-    ("cluster...", "cluster.. envoy.cluster_name="),
-    ("cluster.a.b.c", "cluster.b.c envoy.cluster_name=a"),
-    ("cluster.~!:|.x", "cluster.x envoy.cluster_name=~!:|"),
-    ("http.a.b.c", "http.b.c envoy.http_conn_manager_prefix=a"),
-    ("http..", "http. envoy.http_conn_manager_prefix="),
-    // Every rule looks at the name as it was, so what one removes makes no match for another.
-    (
-        "http.cluster.c.x",
-        "http.c.x envoy.http_conn_manager_prefix=cluster",
-    ),
-    ("cluster.http.h.x", "cluster.h.x envoy.cluster_name=http"),
-    (
-        "cluster.c._rq_200",
-        "cluster._rq envoy.response_code=200 envoy.cluster_name=c",
-    ),
-    // A code has three digits and ends the name.
-    ("a_rq_200", "a_rq envoy.response_code=200"),
-    ("_rq_007", "_rq envoy.response_code=007"),
-    ("a_rq_100_rq_200", "a_rq_100_rq envoy.response_code=200"),
-    ("a_rq_20", "a_rq_20"),
-    ("a_rq_2000", "a_rq_2000"),
-    ("a_rq_200.b", "a_rq_200.b"),
-    ("rq_200", "rq_200"),
-    // A class has one digit before `xx`, which ends the name.
-    ("a_rq_4xx", "a_rq_xx envoy.response_code_class=4"),
-    ("a_rq_44xx", "a_rq_44xx"),
-    ("a_rq_4xxx", "a_rq_4xxx"),
-];
+/// Full names, each with what the default rules make of it: what is left, and then the tags. They have in turn: a cluster's
+/// name, a code, a class of codes, a listener's prefix, and two of them; no tag, since the beginning or the dot after the name
+/// is missing; the shortest text up to a dot, which may be empty; what one rule removes and so makes a match for another,
+/// which looks at the name as it was; a code, which has three digits and ends the name; a class, which has one digit before
+/// `xx`, which ends the name.
+const SPLITS: &str =
+    "cluster.foo_cluster.upstream_rq_timeout | cluster.upstream_rq_timeout envoy.cluster_name=foo_cluster
+cluster.c.upstream_rq_2xx | cluster.upstream_rq_xx envoy.response_code_class=2 envoy.cluster_name=c
+cluster.c.upstream_rq_200 | cluster.upstream_rq envoy.response_code=200 envoy.cluster_name=c
+http.admin.downstream_rq_5xx | http.downstream_rq_xx envoy.response_code_class=5 envoy.http_conn_manager_prefix=admin
+http.admin.downstream_rq_503 | http.downstream_rq envoy.response_code=503 envoy.http_conn_manager_prefix=admin
+server.uptime | server.uptime
+x | x
+cluster | cluster
+cluster. | cluster.
+cluster.c | cluster.c
+http.h | http.h
+Cluster.c.x | Cluster.c.x
+a.cluster.c.x | a.cluster.c.x
+xcluster.c.x | xcluster.c.x
+cluster.c. | cluster. envoy.cluster_name=c
+cluster..x | cluster.x envoy.cluster_name=
+cluster... | cluster.. envoy.cluster_name=
+cluster.a.b.c | cluster.b.c envoy.cluster_name=a
+cluster.~!:|.x | cluster.x envoy.cluster_name=~!:|
+http.a.b.c | http.b.c envoy.http_conn_manager_prefix=a
+http.. | http. envoy.http_conn_manager_prefix=
+http.cluster.c.x | http.c.x envoy.http_conn_manager_prefix=cluster
+cluster.http.h.x | cluster.h.x envoy.cluster_name=http
+cluster.c._rq_200 | cluster._rq envoy.response_code=200 envoy.cluster_name=c
+a_rq_200 | a_rq envoy.response_code=200
+_rq_007 | _rq envoy.response_code=007
+a_rq_100_rq_200 | a_rq_100_rq envoy.response_code=200
+a_rq_20 | a_rq_20
+a_rq_2000 | a_rq_2000
+a_rq_200.b | a_rq_200.b
+rq_200 | rq_200
+a_rq_4xx | a_rq_xx envoy.response_code_class=4
+a_rq_44xx | a_rq_44xx
+a_rq_4xxx | a_rq_4xxx";
+
+/// Regular expressions, of which each is searched for in each of the names, by `regex` too: alternatives, empty groups, groups that
+/// take no part, classes, anchors, flags at the front, counted and lazy repeats, and a character of two bytes.
+const PATTERNS: &str = r"(a|ab)(c|bcd)?
+((a*)b)
+(x*)
+((a)|b)+
+([a-c]+)\.([0-9]{1,3})
+^(\w+)\.
+(\w+)$
+(?i)(AB)c
+(a{2,3})(a)?
+((ab){2})
+(a+?)(b*)
+()(b)?
+_rq(_(\d{3}))$
+([^.]*)\.([^.]*)$
+(.)(.)?
+\b(b)|(c)
+(?:a|b)(c)?
+((a|b|c)*d)
+(é|x)
+^(?:(a)|(b))$";
+
+const NAMES: &str = "a b ab abcd aab.12 a.b.c_rq_200 x.ABc aaaa ..ababd xé.b";
 
 /// How a rule of a test gives its tag.
 #[derive(Clone, Copy)]
@@ -188,7 +191,8 @@ fn default_rules(rt: HostRuntime) -> Result<(), Fail> {
     ];
     let mut maker = RegexMaker::new(Vec::new(alloc));
     let rules = TagRules::build(alloc, &mut maker, &specs)?;
-    for (name, wanted) in SPLITS {
+    for row in SPLITS.split('\n') {
+        let (name, wanted) = row.split_once(" | ").unwrap_or(("", ""));
         let text = shown(alloc, &rules, name)?;
         assert_eq!(rt; text.as_slice(), wanted.as_bytes(), "of {name}");
     }
@@ -311,5 +315,64 @@ fn refusals(rt: HostRuntime) -> Result<(), Fail> {
     let alone = Matcher::build(alloc, &mut maker, &spec).err();
     assert_eq!(rt; alone, Some(TagFault::BadPattern(0)));
     assert_eq!(rt; maker.refusals(), 4);
+    Ok(())
+}
+
+type Places = ((usize, usize), (usize, usize));
+
+// Whether `regex` finds the pattern, and the places of the first group and of the value.
+fn by_regex(alloc: Global, pattern: &Regex, name: &str) -> Result<(bool, Option<Places>), Fail> {
+    let mut matcher = pattern.matcher(alloc)?;
+    let Some(captures) = matcher.captures(name) else {
+        return Ok((false, None));
+    };
+    let Some(first) = captures.get(1) else {
+        return Ok((true, None));
+    };
+    let value = captures.get(2).unwrap_or(first);
+    let places = ((first.start(), first.end()), (value.start(), value.end()));
+    Ok((true, Some(places)))
+}
+
+// The same of our own search.
+fn by_pattern(alloc: Global, pattern: &Pat, name: &str) -> Result<(bool, Option<Places>), Fail> {
+    let mut tracker = Backtracker::new(alloc);
+    let found = pattern.is_found(alloc, &mut tracker, name)?;
+    let places = pattern.captured(alloc, &mut tracker, name)?;
+    Ok((found, places))
+}
+
+#[test]
+fn beside_regex(rt: HostRuntime) -> Result<(), Fail> {
+    let alloc = rt.alloc();
+    let mut found = 0u64;
+    for text in PATTERNS.split('\n') {
+        let pattern = Pat::new(alloc, text)?;
+        let other = Regex::new(alloc, text)?;
+        for name in NAMES.split(' ') {
+            let wanted = by_regex(alloc, &other, name)?;
+            found = found.wrapping_add(wanted.0 as u64);
+            assert_eq!(rt;
+                by_pattern(alloc, &pattern, name)?,
+                wanted,
+                "of {text} and {name}"
+            );
+        }
+    }
+    assert_eq!(rt; found, 106);
+    Ok(())
+}
+
+#[test]
+fn sizes(rt: HostRuntime) -> Result<(), Fail> {
+    let alloc = rt.alloc();
+    for (text, made) in [
+        (r"\w{40}", true),
+        ("((a{0,30}){0,30}){0,1}x", true),
+        (r"\w{1,60}", false),
+        (r"(\w{1,60}\.){1,8}\w{1,60}N", false),
+    ] {
+        assert_eq!(rt; Pat::new(alloc, text).is_ok(), made, "of {text}");
+    }
     Ok(())
 }

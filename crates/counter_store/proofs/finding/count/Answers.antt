@@ -1,5 +1,7 @@
-use Rattle.std.proofs.Common.{[], ◌∷◌, ◌++◌, unwrap_or, ap, subst, sym, ◌∙◌}
+use Rattle.std.proofs.Common.{List, [], ◌∷◌, ◌++◌, inl, inr, unwrap_or, ap, subst, sym, ◌∙◌}
 use Rattle.std.specs.Map.{keys_of}
+use Rattle.stat_defs.specs.declared.history.Verdict.{Verdict}
+use Rattle.counter_store.specs.declared.seen.ScopedName.{ScopedName}
 use Rattle.counter_store.specs.Counting.{names_with}
 use Rattle.counter_store.specs.Held.{AreSettled, rules_of, full_of}
 use Rattle.counter_store.proofs.Keys.{held_is_settled}
@@ -28,6 +30,11 @@ pub returns-clause-settled : goal.returns-clause-settled
 returns-clause-settled c =
     let rules = rules_of c.args.scopes.now c.args.matcher.now in
     let names = keys_of c.args.totals.now.entries in
-    let are = c.hold.ensures ∙ ap (λ pairs. pairs ++ (c.args.pair, c.in_ok-verdict.verdict) ∷ []) c.reserve.ensures.entries in
-    subst (λ pairs. AreSettled rules (names_with rules names (full_of rules c.args.pair)) pairs) (sym are)
-    (one_more_settled rules names c.args.pair c.in_ok-verdict.verdict c.args.seen.now.entries c.in_ok-verdict.ensures.verdict c.requires.settled)
+    let full = full_of rules c.args.pair in
+    let Settled : List (ScopedName × Verdict) → Type 0 = AreSettled rules (names_with rules names full) in
+    let before = c.reserve.ensures.entries in
+    elim c.keep.ensures [
+      | inl held ↦ subst Settled (sym (held ∙ ap (λ pairs. pairs ++ (c.args.pair, c.in_ok-verdict.verdict) ∷ []) before))
+          (one_more_settled rules names c.args.pair c.in_ok-verdict.verdict c.args.seen.now.entries c.in_ok-verdict.ensures.verdict c.requires.settled)
+      | inr same ↦ subst Settled (sym (same ∙ before)) (all_stay rules names full c.args.seen.now.entries c.requires.settled)
+    ]

@@ -1,17 +1,13 @@
-use Rattle.std.proofs.Common.{[], inl, inr, arith}
-use Rattle.std.proofs.lemmas.List.{take_rest}
-use Rattle.std.proofs.lemmas.List.Elements.{All-cons, All-nil}
-use Rattle.event_script.specs.Grammar.{IsLawful}
-use Rattle.event_script.proofs.Lawful.{lawful_line}
+use Rattle.std.proofs.Common.{List, ℕ, drop, subst, inl, inr, arith}
+use Rattle.event_script.specs.Said.{SaysFirst}
+use Rattle.event_script.specs.declared.cutting.Said.{Said}
+use Rattle.event_script.specs.declared.cutting.Said.TheVariants as said
+use Rattle.event_script.proofs.CutLines.{at_place}
 use Rattle.event_script.proofs.cutting.read_on.Goals as goal
-
-pub returns-in-Event-clause-lawful : goal.returns-in-Event-clause-lawful
-returns-in-Event-clause-lawful c =
-    let is = rw c.in-Event.is at c.in_ok-line_of.ensures in
-    All-cons IsLawful _ [] (lawful_line c.in-Some.line.now c.in-Event.event is.1) (All-nil IsLawful)
 
 pub returns-then-place-eq-MAX_EVENTS-clause-reads : goal.returns-then-place-eq-MAX_EVENTS-clause-reads
 returns-then-place-eq-MAX_EVENTS-clause-reads c =
-    let is = rw c.in-Event.is at c.in_ok-line_of.ensures in
-    let cut = rw take_rest at c.in-Some.ensures.2 in
-    λ events end ended. c.loop-line.invariant.reads events end (rw cut (inr (is.0, inr (inl (c.in-Event.event, is.1, inr (omega arith, ended.0, ended.1))))))
+    let rest : List ℕ = drop c.loop-said.place.at c.args.bytes.now in
+    let told : SaysFirst c.args.stopped rest c.in-Some.said c.in-Some.count = at_place c.args.stopped c.args.bytes.now c.loop-said.place.at _ _ (rw c.in-Some.is at c.in_ok-said.ensures) in
+    let first : SaysFirst c.args.stopped rest (said.Event c.in-Event.event) c.in-Some.count = subst (λ (s : Said). SaysFirst c.args.stopped rest s c.in-Some.count) c.in-Event.is told in
+    λ events end ended. c.loop-said.invariant.reads events end (rw first.is_cut.cut (inr (first.says.0, inr (inl (c.in-Event.event, first.says.1, inr (omega arith, ended.0, ended.1))))))

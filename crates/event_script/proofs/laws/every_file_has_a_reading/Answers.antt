@@ -1,6 +1,6 @@
-use Rattle.event_script.specs.declared.step.Stop.TheVariants.{Whole}
-use Rattle.event_script.proofs.Total.{from_total}
+use Rattle.stats_io.specs.declared.pulling.Pulled.TheVariants.{End}
+use Rattle.event_script.proofs.EveryFile.{from_total}
 use Rattle.event_script.proofs.laws.every_file_has_a_reading.Goals as goal
 
 pub returns : goal.returns
-returns c = record { whole_file = λ bytes. from_total 1 0 0 bytes Whole; from_any_place = from_total }
+returns c = record { whole_file = λ bytes. from_total 1 0 0 bytes End; from_any_place = from_total }

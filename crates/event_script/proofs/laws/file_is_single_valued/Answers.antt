@@ -1,4 +1,4 @@
-use Rattle.event_script.proofs.Single.{file_single}
+use Rattle.event_script.proofs.OneReading.{file_single}
 use Rattle.event_script.proofs.laws.file_is_single_valued.Goals as goal
 
 pub returns : goal.returns

@@ -1,4 +1,4 @@
-use Rattle.event_script.proofs.Filling.{moves_trans}
+use Rattle.event_script.proofs.Moves.{moves_trans}
 use Rattle.event_script.proofs.laws.moves_compose.Goals as goal
 
 pub returns : goal.returns

@@ -1,15 +1,13 @@
-use Rattle.std.proofs.Common.{[]}
-use Rattle.event_script.proofs.Stepping.{moves_none, can_answer}
+use Rattle.std.proofs.Common.{ap, sym, ◌∙◌}
+use Rattle.event_script.proofs.AnswerStep.{answer_again, answer_behind}
 use Rattle.event_script.proofs.lines.Lines.next.Goals as goal
 
-pub answer_of-requires : goal.answer_of-requires
-answer_of-requires g c = can_answer c.self.inside.stopped c.in-Some.end (c.self.invariant.by c.in-Some.end c.in-Some.is)
+pub returns-in-Some-clause-answer : goal.returns-in-Some-clause-answer
+returns-in-Some-clause-answer g c =
+    let i = c.self.inside in
+    rw (← c.self.view_is) (answer_again g.S.Source.state i.source i.bytes.items i.place i.taken i.first_faults i.stopped i.ended c.self.invariant
+    c.in-Some.step c.in-Some.ensures.0 (c.in-Some.ensures.1 ∙ ap (λ r. r.ended) (sym c.self.view_is)))
 
-pub returns-in-Some-clause-explained : goal.returns-in-Some-clause-explained
-returns-in-Some-clause-explained g c = rw (← c.self.view_is, c.answer_of.ensures.1) (c.self.invariant.explained c.in-Some.end c.in-Some.is)
-
-pub returns-in-Some-clause-by : goal.returns-in-Some-clause-by
-returns-in-Some-clause-by g c = rw (← c.self.view_is, c.answer_of.ensures.1) (c.self.invariant.by c.in-Some.end c.in-Some.is)
-
-pub returns-in-Some-clause-moved : goal.returns-in-Some-clause-moved
-returns-in-Some-clause-moved g c = ([], rw (c.answer_of.ensures.0) (moves_none g.S.Source.state _))
+pub returns-clause-answer : goal.returns-clause-answer
+returns-clause-answer g c =
+    answer_behind g.S.Source.state c.args.self.now c.fill.new.self c.step-2.new.self c.step-2.result c.fill.ensures.answer c.fill.ensures.number c.step-2.ensures

@@ -6,7 +6,7 @@ use Rattle.loglinear_bins.proofs.bins.Bins.at_most.Goals as goal
 pub loop-place-init : goal.loop-place-init
 loop-place-init c =
     let items = c.deref-n-items.ensures.value in
-    rw items (shown c.self.inside.counts.items c.self.inside.total c.args.self.now c.self.view_is c.self.invariant, sum_start (share_at c.args.bound.halves) c.self.inside.counts.items c.args.self.now c.self.view_is)
+    rw items (shown c.self.inside.counts.items c.self.inside.total c.args.self.now c.self.view_is c.self.invariant.0, sum_start (share_at c.args.bound.halves) c.self.inside.counts.items c.args.self.now c.self.view_is)
 
 pub overflow_add-sum : goal.overflow_add-sum
 overflow_add-sum c =

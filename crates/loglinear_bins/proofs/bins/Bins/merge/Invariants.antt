@@ -1,7 +1,12 @@
-use Rattle.std.proofs.Common.{◌≡◌, ◌+◌}
-use Rattle.loglinear_bins.specs.Table.{listed}
+use Rattle.std.proofs.Common.{◌≡◌, ◌+◌, min, max}
+use Rattle.loglinear_bins.specs.Table.{listed, IsOccupied}
 use Rattle.loglinear_bins.proofs.Merging.{Merges}
 use Rattle.loglinear_bins.proofs.bins.Bins.merge.Given as goal
 
 abbrev pub invariant-loop-place : goal.invariant-loop-place
-invariant-loop-place l = (l.self-inside.total ≡ l.initial.self-inside.total) × Merges l.n-items l.place l.self-inside.counts.items (l.initial.self-inside.total + l.other-inside.total) (listed 0 l.initial.self-inside.counts.items)
+invariant-loop-place l =
+    (l.self-inside.total ≡ l.initial.self-inside.total)
+    × (l.self-inside.from ≡ l.initial.self-inside.from)
+    × (l.self-inside.to ≡ l.initial.self-inside.to)
+    × Merges l.other-inside.counts.items l.place l.self-inside.counts.items (l.initial.self-inside.total + l.other-inside.total) (listed 0 l.initial.self-inside.counts.items)
+    × IsOccupied l.self-inside.counts.items (min l.initial.self-inside.from l.other-inside.from) (max l.initial.self-inside.to l.other-inside.to)

@@ -5,7 +5,7 @@ use Rattle.loglinear_bins.proofs.bins.Bins.sum_twentieths.Goals as goal
 
 pub loop-place-init : goal.loop-place-init
 loop-place-init c =
-    let shows = shown c.self.inside.counts.items c.self.inside.total c.args.self.now c.self.view_is c.self.invariant in
+    let shows = shown c.self.inside.counts.items c.self.inside.total c.args.self.now c.self.view_is c.self.invariant.0 in
     let start = sum_start (λ d. d.count) c.self.inside.counts.items c.args.self.now c.self.view_is in
     rw c.deref-n-items.ensures.value (shows, sum_start mark_of c.self.inside.counts.items c.args.self.now c.self.view_is, omega (arith, start, shows.few))
 

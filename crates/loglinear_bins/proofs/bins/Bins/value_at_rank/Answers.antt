@@ -6,7 +6,7 @@ use Rattle.loglinear_bins.proofs.bins.Bins.value_at_rank.Goals.{then-n-gt0+else-
 
 pub loop-place-init : goal.loop-place-init
 loop-place-init c =
-    rw c.deref-n-items.ensures.value (shown c.self.inside.counts.items c.self.inside.total c.args.self.now c.self.view_is c.self.invariant, ap (λ counts. value_at counts c.args.rank) c.self.view_is)
+    rw c.deref-n-items.ensures.value (shown c.self.inside.counts.items c.self.inside.total c.args.self.now c.self.view_is c.self.invariant.0, ap (λ counts. value_at counts c.args.rank) c.self.view_is)
 
 pub returns-then-rest-n : goal.returns-then-rest-n
 returns-then-rest-n c =

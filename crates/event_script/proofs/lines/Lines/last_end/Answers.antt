@@ -1,0 +1,7 @@
+use Rattle.event_script.proofs.AnswerStep.{last_is}
+use Rattle.event_script.proofs.lines.Lines.last_end.Goals as goal
+
+pub returns : goal.returns
+returns g c =
+    let i = c.self.inside in
+    rw (← c.self.view_is) (last_is i.stopped i.ended c.in-Some.end c.step_of.result c.in-Some.is (c.self.invariant.by c.in-Some.end c.in-Some.is) c.step_of.ensures)

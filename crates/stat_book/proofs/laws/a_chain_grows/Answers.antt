@@ -1,5 +1,0 @@
-use Rattle.stat_book.proofs.Growing.{own_entries, link_on}
-use Rattle.stat_book.proofs.laws.a_chain_grows.Goals as goal
-
-pub returns : goal.returns
-returns c = record { entries = own_entries; events = link_on }

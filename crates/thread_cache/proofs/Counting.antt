@@ -1,0 +1,11 @@
+-- Counting the items that pass a test, one by one.
+use Rattle.std.proofs.Common.{◌≡◌, ◌<◌, ◌≤◌, ℕ, ◌+◌, Bool, cond, filter, take, length, slice_get, Some, List, ap, sym, ◌∙◌, arith, inl, inr}
+use Rattle.std.proofs.lemmas.List.Filters.{length-filter_more}
+use Rattle.std.proofs.lemmas.Option.{slice_get_cases}
+
+pub one_on : {X : Type 0} (p : X → Bool) (xs : List X) (i : ℕ) (b : Bool) → i < length xs → ((x : X) → slice_get xs i ≡ Some x → b ≡ p x)
+    → length (filter p (take (i + 1) xs)) ≡ length (filter p (take i xs)) + cond b 1 0
+one_on p xs i b within tells = elim (slice_get_cases xs i).1 [
+  | inl here ↦ length-filter_more p xs i here.0 within ∙ ap (λ t. length (filter p (take i xs)) + cond t 1 0) (ap p here.3 ∙ sym (tells here.0 here.2))
+  | inr past ↦ absurd (omega (arith, within, past.0))
+]

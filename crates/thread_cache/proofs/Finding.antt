@@ -1,0 +1,102 @@
+-- Looking a key up in what is shown of a table.
+use Rattle.std.proofs.Common.{◌≡◌, ℕ, Bool, true, false, cond, filter, map, Option, Some, None, List, [], ◌∷◌, All, refl, sym, ap, subst, ◌∙◌, rules, find, option_map, true≢false, is_none, unwrap_or}
+use Rattle.std.proofs.lemmas.List.Elements.{All-head, All-tail}
+use Rattle.std.specs.List.{AllByRecursion, IsDistinct}
+use Rattle.std.specs.Map.{keys_of, lookup}
+use Rattle.stat_defs.specs.declared.events.Key.{Key}
+use Rattle.stat_defs.specs.declared.history.Verdict.{Verdict}
+use Rattle.stat_defs.specs.declared.ids.ScopeId.{ScopeId}
+use Rattle.stat_defs.specs.Keys.{Held, held_under, same_key}
+use Rattle.thread_cache.specs.declared.query.CacheKey.{CacheKey}
+use Rattle.thread_cache.specs.declared.scopes.ScopeEntries.{ScopeEntries}
+use Rattle.thread_cache.specs.declared.table.Slot.{Slot}
+use Rattle.thread_cache.specs.Keys.{key_of}
+use Rattle.thread_cache.specs.Scopes.{is_live}
+use Rattle.thread_cache.specs.Held.{held_of, shown, is_at, slot_under}
+use Rattle.thread_cache.proofs.KeyLemmas.{eq, finds_as, same_key-is}
+
+-- what is held under a key whose slot in the table is this one
+abbrev pub held_at : List (ScopeId × ScopeEntries) → Key → Option Slot → Option Held
+held_at scopes key None = None
+held_at scopes key (Some slot) = cond (is_live scopes slot.scope) (Some (record { key = key; scope = slot.scope.0; verdict = slot.verdict })) None
+
+none_is_some : {X : Type 0} {x : X} → None ≡ Some x → ⊥
+none_is_some e = true≢false (ap is_none e)
+
+some_same : {X : Type 0} {x y : X} → Some x ≡ Some y → x ≡ y
+some_same {X} {x} e = ap (λ o. unwrap_or o x) e
+
+-- two keys of the table that are both the one key are equal
+pub one_key : (key : Key) (a b : CacheKey) → is_at key a ≡ true → is_at key b ≡ true → eq a b ≡ true
+one_key key a b is_a is_b =
+    let same : key_of a ≡ key = same_key-is (key_of a) key is_a in
+    finds_as a b ∙ (ap (λ k. same_key (key_of b) k) same ∙ is_b)
+
+module _ (scopes : List (ScopeId × ScopeEntries)) (key : Key) where
+  abbrev goes : CacheKey × Slot → Bool
+  goes e = is_live scopes e.1.scope
+
+  -- a key that is nowhere in the table is held nowhere
+  absent : (table : List (CacheKey × Slot)) → AllByRecursion (λ k. is_at key k ≡ false) (keys_of table) → held_under key (shown scopes table) ≡ None
+  absent [] none = refl
+  absent (e ∷ es) none = by (goes e) (absent es none.1)
+    where
+      by : (b : Bool) → held_under key (shown scopes es) ≡ None → held_under key (map held_of (cond b (e ∷ filter goes es) (filter goes es))) ≡ None
+      by true rest = ap (λ t. cond t (Some (held_of e)) (held_under key (shown scopes es))) none.0 ∙ rest
+      by false rest = rest
+
+  -- the keys apart from one that the key is at are elsewhere
+  elsewhere : (at : CacheKey) → is_at key at ≡ true → (keys : List CacheKey) → AllByRecursion (λ k. eq at k ≡ false) keys
+      → AllByRecursion (λ k. is_at key k ≡ false) keys
+  elsewhere at here [] apart = tt
+  elsewhere at here (k ∷ ks) apart = (by (is_at key k) refl, elsewhere at here ks apart.1)
+    where
+      by : (t : Bool) → is_at key k ≡ t → is_at key k ≡ false
+      by true is = absurd (true≢false (sym (one_key key at k here is) ∙ apart.0))
+      by false is = is
+
+  step : (e : CacheKey × Slot) (es : List (CacheKey × Slot)) → AllByRecursion (λ k. eq e.0 k ≡ false) (keys_of es)
+      → held_under key (shown scopes es) ≡ held_at scopes key (slot_under key es)
+      → (t b : Bool) → is_at key e.0 ≡ t → goes e ≡ b
+      → held_under key (map held_of (cond b (e ∷ filter goes es) (filter goes es))) ≡ held_at scopes key (cond t (Some e.1) (slot_under key es))
+  step e es apart rest true true here live =
+      let same : key_of e.0 ≡ key = same_key-is (key_of e.0) key here in
+      ap (λ t. cond t (Some (held_of e)) (held_under key (shown scopes es))) here
+      ∙ ((λ i. Some (record { key = same i; scope = e.1.scope.0; verdict = e.1.verdict }))
+      ∙ sym (ap (λ b. cond b (Some (record { key = key; scope = e.1.scope.0; verdict = e.1.verdict })) None) live))
+  step e es apart rest true false here gone =
+      absent es (elsewhere e.0 here (keys_of es) apart)
+      ∙ sym (ap (λ b. cond b (Some (record { key = key; scope = e.1.scope.0; verdict = e.1.verdict })) None) gone)
+  step e es apart rest false true elsewhere_is live = ap (λ t. cond t (Some (held_of e)) (held_under key (shown scopes es))) elsewhere_is ∙ rest
+  step e es apart rest false false elsewhere_is gone = rest
+
+  -- each key is found as its slot in the table says
+  pub found : (table : List (CacheKey × Slot)) → IsDistinct eq (keys_of table) → held_under key (shown scopes table) ≡ held_at scopes key (slot_under key table)
+  unfolding IsDistinct
+  found [] unique = refl
+  found (e ∷ es) unique = step e es unique.0 (found es unique.1) (is_at key e.0) (goes e) refl refl
+
+  -- where all scopes are live, that of a slot is
+  pub live_where_all : (table : List (CacheKey × Slot)) (slot : Slot) → All (λ e. is_live scopes e.1.scope ≡ true) table
+      → slot_under key table ≡ Some slot → is_live scopes slot.scope ≡ true
+  live_where_all [] slot all is = absurd (none_is_some is)
+  live_where_all (e ∷ es) slot all is =
+      by (is_at key e.0) refl (live_where_all es slot (All-tail (λ e. is_live scopes e.1.scope ≡ true) e es all))
+    where
+      by : (t : Bool) → is_at key e.0 ≡ t → (slot_under key es ≡ Some slot → is_live scopes slot.scope ≡ true) → is_live scopes slot.scope ≡ true
+      by true here rest =
+          let same : e.1 ≡ slot = some_same (sym (ap (λ t. cond t (Some e.1) (slot_under key es)) here) ∙ is) in
+          subst (λ (x : Slot). is_live scopes x.scope ≡ true) same (All-head (λ e. is_live scopes e.1.scope ≡ true) e es all)
+      by false there rest = rest (sym (ap (λ t. cond t (Some e.1) (slot_under key es)) there) ∙ is)
+
+-- a key of the table finds its slot
+pub slot_by_key : (key : CacheKey) (table : List (CacheKey × Slot)) → lookup (eq key) table ≡ slot_under (key_of key) table
+slot_by_key key table = λ i. lookup (λ at. finds_as key at i) table
+
+pub verdict_held : (scopes : List (ScopeId × ScopeEntries)) (key : Key) (slot : Slot)
+    → option_map (λ (held : Held). held.verdict) (held_at scopes key (Some slot)) ≡ cond (is_live scopes slot.scope) (Some slot.verdict) None
+verdict_held scopes key slot = by (is_live scopes slot.scope)
+  where
+    by : (b : Bool) → option_map (λ (held : Held). held.verdict) (cond b (Some (record { key = key; scope = slot.scope.0; verdict = slot.verdict })) None) ≡ cond b (Some slot.verdict) None
+    by true = refl
+    by false = refl

@@ -1,0 +1,10 @@
+pub mod ScopeLemmas
+pub mod Shown
+pub mod KeyLemmas
+pub mod Finding
+pub mod Opening
+pub mod Rooms
+pub mod Filling
+pub mod Dropping
+pub mod Counting
+pub mod Agreeing

@@ -1,0 +1,5 @@
+pub mod Keys
+pub mod Scopes
+pub mod Held
+pub mod Kept
+pub mod SameHeld

@@ -1,0 +1,156 @@
+//! The entries that a seat holds.
+ghost use Rattle.std.specs.Prelude.{◌≡◌, ◌<◌, ◌≤◌, ◌+◌, ℕ, None, Some, true, false, not, is_some, filter, length, option_map, cond, All, [], ◌∷◌, map, IsTrue, IfSome, IfOk, OnOk, OnErr};
+ghost use Rattle.std.specs.List.{list_any};
+ghost use Rattle.indexmap.specs.IndexMap.{spare};
+ghost use Rattle.indexmap.specs.IndexSet.{index_set_len};
+ghost use Rattle.stat_defs.specs.declared.events.Key.{Key};
+ghost use Rattle.stat_defs.specs.Keys.{held_under, same_key};
+ghost use Rattle.thread_cache.specs.Keys.{key_of};
+ghost use Rattle.thread_cache.specs.Scopes.{is_live, is_dropped, is_listed};
+ghost use Rattle.thread_cache.specs.Held.{shown, has_room, with_room, without_room, held_with, held_without, is_of};
+
+use crate::query::{CacheKey, Query, copy_of};
+use crate::scopes::{Scopes, drop_scopes, is_live};
+use crate::table::{Slot, Table, count_live, open_scope, put, slot_of, tidy};
+use indexmap::{IndexMap, IndexSet};
+use name_map::{HashKey, name_map};
+use stat_defs::{NoMemory, ScopeId, Verdict};
+use std::alloc::Global;
+use std::marker::Model;
+
+type Rooms = IndexSet<CacheKey, HashKey>;
+
+/// What a worker's seat holds. Contracts see the entries, one for each key, and the keys that have room; the order of either
+/// has no meaning.
+#[derive(Drop)]
+pub struct Cache {
+    pub(crate) table: Table,
+    pub(crate) scopes: Scopes,
+    pub(crate) rooms: Rooms,
+    // About how many entries of the table have a dropped scope: 0 only where none has.
+    pub(crate) stale: u64,
+}
+
+impl Model for Cache {
+    ghost use Rattle.thread_cache.specs.Held.{CacheState, shown};
+    ghost use Rattle.thread_cache.specs.Kept.{IsKept, state_of};
+
+    ghost Value = { CacheState };
+
+    ghost view = { state_of };
+
+    ghost invariant = { IsKept };
+}
+
+// The verdict of a slot, if its scope is live.
+fn verdict_of(scopes: &Scopes, stale: u64, slot: Slot) -> Option<Verdict>
+    requires { stale ≡ 0 → is_live scopes.now.entries slot.scope ≡ true }
+    ensures { result ≡ cond (is_live scopes.now.entries slot.scope) (Some slot.verdict) None }
+{
+    if stale == 0 {
+        return Some(slot.verdict);
+    }
+    if is_live(scopes, slot.scope) {
+        return Some(slot.verdict);
+    }
+    None
+}
+
+// The verdict that the table has under a key, if its scope is live.
+fn look_up(table: &Table, scopes: &Scopes, stale: u64, key: &CacheKey) -> Option<Verdict>
+    requires { stale ≡ 0 → All (λ e. is_live scopes.now.entries e.1.scope ≡ true) table.now.entries }
+    ensures { result ≡ option_map (λ held. held.verdict) (held_under (key_of key.now) (shown scopes.now.entries table.now.entries)) }
+{
+    let _all_different = table.len();
+    match slot_of(table, key) {
+        Some(slot) => verdict_of(scopes, stale, slot),
+        None => None,
+    }
+}
+
+// Takes a key that has room out of those that have, as it is kept.
+fn take_room(rooms: &mut Rooms, key: &CacheKey) -> Option<CacheKey>
+    ensures rooms { map key_of rooms.new.keys ≡ without_room (key_of key.now) (map key_of rooms.old.keys) }
+    ensures taken { IfSome result (λ taken. (key_of taken ≡ key_of key.now) × (length rooms.new.keys + 1 ≡ length rooms.old.keys)) }
+    ensures none { result ≡ None → has_room (key_of key.now) (map key_of rooms.old.keys) ≡ false }
+{
+    rooms.shift_take(key)
+}
+
+impl Cache {
+    /// A cache that holds nothing and has no room, and whose table is hashed under this key.
+    pub fn with_key(alloc: Global, key: HashKey) -> Cache
+        ensures { result ≡ record { entries = []; rooms = [] } }
+    {
+        Cache {
+            table: name_map(alloc, key),
+            scopes: IndexMap::new(alloc),
+            rooms: IndexSet::with_hasher(alloc, key),
+            stale: 0,
+        }
+    }
+
+    /// The same under the fixed key.
+    pub fn new(alloc: Global) -> Cache
+        ensures { result ≡ record { entries = []; rooms = [] } }
+    {
+        Cache::with_key(alloc, HashKey::fixed())
+    }
+
+    /// The verdict that is held under the query's key. It takes no memory.
+    pub fn hit(&self, query: &Query) -> Option<Verdict>
+        ensures verdict { result ≡ option_map (λ held. held.verdict) (held_under query.now self.now.entries) }
+        ensures free { result ≡ None → held_under query.now self.now.entries ≡ None }
+    {
+        look_up(&self.table, &self.scopes, self.stale, &query.key)
+    }
+
+    /// Makes room for an entry of the query's key. Room is no entry, and it stays until the key is filled. After want of memory
+    /// the cache is as it was.
+    pub fn reserve(&mut self, alloc: Global, query: &Query) -> Result<(), NoMemory>
+        ensures reserved { OnOk result (self.new ≡ record self.old { rooms = with_room query.now self.old.rooms }) }
+        ensures room { OnOk result (IsTrue (has_room query.now self.new.rooms)) }
+        ensures kept { OnErr result (self.new ≡ self.old) }
+    {
+        let copy = copy_of(alloc, &query.key)?;
+        let more = self.rooms.len() + 1;
+        self.table.reserve(more)?;
+        self.scopes.reserve(more)?;
+        self.rooms.insert(copy)?;
+        Ok(())
+    }
+
+    /// Holds the verdict under the query's key, found through this scope. It takes no memory.
+    pub fn fill(&mut self, query: &Query, scope: ScopeId, verdict: Verdict)
+        requires room { IsTrue (has_room query.now self.old.rooms) }
+        requires free { held_under query.now self.old.entries ≡ None }
+        ensures held { (key : Key) → held_under key self.new.entries
+            ≡ held_with (record { key = query.now; scope = scope.0; verdict = verdict }) self.old.entries key }
+        ensures one_more { length self.new.entries ≡ length self.old.entries + 1 }
+        ensures rooms { self.new.rooms ≡ without_room query.now self.old.rooms }
+    {
+        let Some(key) = take_room(&mut self.rooms, &query.key) else {
+            return;
+        };
+        self.stale = open_scope(&mut self.table, &mut self.scopes, self.stale, scope);
+        put(&mut self.table, key, Slot { scope, verdict });
+    }
+
+    /// Drops the entries of these scopes. It takes no memory.
+    pub fn drop_released(&mut self, released: &[ScopeId])
+        ensures entries { self.new.entries ≡ filter (λ held. not (is_of released.now held)) self.old.entries }
+        ensures held { (key : Key) → held_under key self.new.entries ≡ held_without released.now (held_under key self.old.entries) }
+        ensures rooms { self.new.rooms ≡ self.old.rooms }
+    {
+        let _all_different = self.table.len();
+        self.stale = drop_scopes(&mut self.scopes, released, self.stale);
+        self.stale = tidy(&mut self.table, &mut self.scopes, self.stale);
+    }
+
+    /// How many entries are held. It looks at each of them.
+    pub fn entries(&self) -> u64
+        ensures { result ≡ length self.now.entries }
+    {
+        count_live(&self.table, &self.scopes)
+    }
+}
