@@ -9,11 +9,11 @@ use Rattle.serde_json.specs.Data.{object, no_members}
 use Rattle.serde_json.specs.Read.{read}
 use Rattle.serde_json.proofs.OnLiterals.{serde_json_on_literals}
 use Rattle.boot_file.specs.Boot.{boot, boot_of, config_of, top_of}
-use Rattle.boot_values.specs.Gives.{and_then}
-use Rattle.boot_values.specs.Bucketing.{settings_of}
-use Rattle.boot_values.specs.Matching.{matcher_of}
-use Rattle.boot_file.specs.Scoping.{root, scopes_of, run_of}
-use Rattle.boot_file.specs.Sinking.{prefix_of}
+use Rattle.boot_values.specs.Agrees.{and_then}
+use Rattle.boot_values.specs.BucketSettings.{settings_of}
+use Rattle.boot_values.specs.StatsMatcher.{matcher_of}
+use Rattle.boot_file.specs.Scopes.{root, scopes_of, run_of}
+use Rattle.boot_file.specs.Sinks.{prefix_of}
 use Rattle.boot_file.specs.Tags.{defaults_where, tags_of}
 use Rattle.boot_values.specs.Values.{json_of}
 

@@ -11,7 +11,7 @@ use Rattle.std.proofs.lemmas.List.Sums.{AllPass-from_list_all, list_all-from_All
 use lib.Pointwise.{pointwise}
 use Rattle.stat_defs.specs.declared.configs.ScopeSpec.{ScopeSpec}
 use Rattle.stat_defs.specs.Names.{is_name_byte, IsScopePrefix}
-use Rattle.boot_file.specs.Scoping.{is_taken, without_dot}
+use Rattle.boot_file.specs.Scopes.{is_taken, without_dot}
 
 none_alike : (found : List ScopeSpec) (label : List ℕ) → is_taken found label ≡ false
     → (k : ℕ) (d : ScopeSpec) → k < length found → (get_or found k d).label ≢ label

@@ -10,11 +10,11 @@ use Rattle.boot_file.specs.declared.default_tags.PlacedTag.{PlacedTag}
 use Rattle.boot_values.specs.declared.fault.BootFault.{BootFault}
 use Rattle.boot_values.specs.declared.fault.BootFault.TheVariants.{NotJson, BadKey}
 use Rattle.boot_file.specs.declared.run.Run.{Run}
-use Rattle.boot_values.specs.Bucketing.{settings_of}
-use Rattle.boot_values.specs.Gives.{and_then}
-use Rattle.boot_values.specs.Matching.{matcher_of}
-use Rattle.boot_file.specs.Scoping.{run_of}
-use Rattle.boot_file.specs.Sinking.{prefix_of}
+use Rattle.boot_values.specs.BucketSettings.{settings_of}
+use Rattle.boot_values.specs.Agrees.{and_then}
+use Rattle.boot_values.specs.StatsMatcher.{matcher_of}
+use Rattle.boot_file.specs.Scopes.{run_of}
+use Rattle.boot_file.specs.Sinks.{prefix_of}
 use Rattle.boot_file.specs.Tags.{tags_of}
 use Rattle.boot_values.specs.Values.{json_of, member, section_at}
 

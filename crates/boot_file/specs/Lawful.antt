@@ -10,7 +10,7 @@ pub record IsPlacedTag (tag : PlacedTag) : Type 0 where
   pub lawful : IsTagSpec tag.spec
   pub path : HasPath tag.spec.rule tag.path
 
-pub record IsRun (run : Run) : Type 0 where
+pub record IsLawfulRun (run : Run) : Type 0 where
   pub scopes : AreScopes run.scopes
   pub flushes : run.flushes ≤ MAX_FLUSHES
   pub reads : run.reads ≤ MAX_FLUSHES

@@ -1,5 +1,5 @@
 pub mod Tags
 pub mod Lawful
-pub mod Sinking
-pub mod Scoping
+pub mod Sinks
+pub mod Scopes
 pub mod Boot

@@ -16,7 +16,7 @@ use Rattle.boot_file.specs.declared.default_tags.PlacedTag.{PlacedTag}
 use Rattle.boot_values.specs.declared.fault.BootFault.{BootFault}
 use Rattle.boot_values.specs.declared.fault.BootFault.TheVariants.{BadTag}
 use Rattle.boot_values.specs.declared.place.Place.TheVariants.{Default, Tag}
-use Rattle.boot_values.specs.Gives.{and_then}
+use Rattle.boot_values.specs.Agrees.{and_then}
 use Rattle.boot_values.specs.Paths.{path_of}
 use Rattle.boot_values.specs.Values.{member, switch_at, items_at}
 

@@ -3,7 +3,7 @@ ghost use Rattle.std.specs.Prelude.{◌≡◌, ◌≢◌, ◌<◌, ◌≤◌, �
 ghost use Rattle.std.specs.List.{AllZip};
 ghost use Rattle.serde_json.specs.View.{view};
 ghost use Rattle.stat_defs.specs.Configs.{IsConfig, IsTagSpec, HasPath};
-ghost use Rattle.boot_values.specs.Gives.{Gives};
+ghost use Rattle.boot_values.specs.Agrees.{Agrees};
 ghost use Rattle.boot_file.specs.Lawful.{IsPlacedTag};
 ghost use Rattle.boot_file.specs.Boot.{boot, boot_of, top_of};
 
@@ -38,7 +38,7 @@ fn part(alloc: Global, tags: Vec<PlacedTag>) -> Result<Parted, NoMemory>
 }
 
 fn boot_of(alloc: Global, top: &Value) -> Result<Config, BootFault>
-    ensures gives { Gives result (boot_of (view top.now)) }
+    ensures gives { Agrees result (boot_of (view top.now)) }
     ensures lawful { IfOk result (λ c. IsConfig c) }
 {
     let stats = section_at(alloc, "stats_config", member(Some(top), "stats_config"))?;
@@ -65,7 +65,7 @@ fn boot_of(alloc: Global, top: &Value) -> Result<Config, BootFault>
 /// stands in `stats_config`, `stats_sinks` and `stats_run`; a null counts as absent, and other keys are passed over. No
 /// pattern is built here. How many bytes are too many is for the caller to say: time and memory are linear in them.
 pub fn read(alloc: Global, bytes: &[u8]) -> Result<Config, BootFault>
-    ensures gives { Gives result (boot bytes.now) }
+    ensures gives { Agrees result (boot bytes.now) }
     ensures lawful { IfOk result (λ c. IsConfig c) }
 {
     let top = json_of(alloc, bytes)?;

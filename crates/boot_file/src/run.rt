@@ -2,9 +2,9 @@
 ghost use Rattle.std.specs.Prelude.{◌≡◌, ◌≢◌, ◌<◌, ◌≤◌, ◌^◌, codes, Option, Some, None, Ok, Err, MatchResult, IfOk, option_map};
 ghost use Rattle.serde_json.specs.View.{view};
 ghost use Rattle.stat_defs.specs.Configs.{AreScopes};
-ghost use Rattle.boot_values.specs.Gives.{Gives};
-ghost use Rattle.boot_file.specs.Lawful.{IsRun};
-ghost use Rattle.boot_file.specs.Scoping.{run_of};
+ghost use Rattle.boot_values.specs.Agrees.{Agrees};
+ghost use Rattle.boot_file.specs.Lawful.{IsLawfulRun};
+ghost use Rattle.boot_file.specs.Scopes.{run_of};
 
 use crate::scopes::scopes_of;
 use boot_values::{BootFault, Limits, member, section_at, whole_at};
@@ -34,10 +34,10 @@ const PACE: Limits = Limits {
 };
 
 /// The settings of `stats_run`.
-#[tactic(auto, unfolding(crate::specs::Scoping::run_of))]
+#[tactic(auto, unfolding(crate::specs::Scopes::run_of))]
 pub(crate) fn run_of(alloc: Global, found: Option<&Value>) -> Result<Run, BootFault>
-    ensures gives { Gives result (run_of (option_map (λ v. view v.now) found.entry)) }
-    ensures lawful { IfOk result (λ r. IsRun r) }
+    ensures gives { Agrees result (run_of (option_map (λ v. view v.now) found.entry)) }
+    ensures lawful { IfOk result (λ r. IsLawfulRun r) }
 {
     let section = section_at(alloc, "stats_run", found)?;
     let scopes = scopes_of(alloc, member(section, "scopes"))?;

@@ -5,8 +5,8 @@ ghost use Rattle.serde_json.specs.View.{view, items_view};
 ghost use Rattle.stat_defs.specs.Configs.{IsScopeSpec, AreScopes};
 ghost use Rattle.stat_defs.specs.Names as names;
 ghost use Rattle.stat_defs.specs.Names.{IsLabel, IsScopePrefix};
-ghost use Rattle.boot_values.specs.Gives.{Gives};
-ghost use Rattle.boot_file.specs.Scoping.{is_label, is_scope_prefix, without_dot, is_taken, label_at, prefix_at, scope_at, root, scopes_from, scopes_of};
+ghost use Rattle.boot_values.specs.Agrees.{Agrees};
+ghost use Rattle.boot_file.specs.Scopes.{is_label, is_scope_prefix, without_dot, is_taken, label_at, prefix_at, scope_at, root, scopes_from, scopes_of};
 
 use crate::tags::has_name_bytes;
 use boot_values::{BootFault, Place, bad_part, items_at, member};
@@ -64,7 +64,7 @@ fn label_at(
     i: usize,
     value: Option<&Value>,
 ) -> Result<Txt, BootFault>
-    ensures gives { Gives result (label_at found.now i (option_map (λ v. view v.now) value.entry)) }
+    ensures gives { Agrees result (label_at found.now i (option_map (λ v. view v.now) value.entry)) }
     ensures lawful { IfOk result (λ t. IsLabel t) }
     ensures new { IfOk result (λ t. is_taken found.now t ≡ false) }
 {
@@ -81,7 +81,7 @@ fn label_at(
 }
 
 fn prefix_at(alloc: Global, i: usize, value: Option<&Value>) -> Result<Txt, BootFault>
-    ensures gives { Gives result (prefix_at i (option_map (λ v. view v.now) value.entry)) }
+    ensures gives { Agrees result (prefix_at i (option_map (λ v. view v.now) value.entry)) }
     ensures lawful { IfOk result (λ t. IsScopePrefix t) }
 {
     let Some(value) = value else {
@@ -97,14 +97,14 @@ fn prefix_at(alloc: Global, i: usize, value: Option<&Value>) -> Result<Txt, Boot
     Ok(Txt::of(alloc, without_dot(text))?)
 }
 
-#[tactic(auto, unfolding(crate::specs::Scoping::scope_at))]
+#[tactic(auto, unfolding(crate::specs::Scopes::scope_at))]
 fn scope_at(
     alloc: Global,
     found: &[ScopeSpec],
     i: usize,
     value: &Value,
 ) -> Result<ScopeSpec, BootFault>
-    ensures gives { Gives result (scope_at found.now i (view value.now)) }
+    ensures gives { Agrees result (scope_at found.now i (view value.now)) }
     ensures lawful { IfOk result (λ s. IsScopeSpec s) }
     ensures new { IfOk result (λ s. is_taken found.now s.label ≡ false) }
 {
@@ -138,9 +138,9 @@ fn scopes_in(alloc: Global, list: &[Value]) -> Result<Vec<ScopeSpec>, BootFault>
 }
 
 /// The scopes that are open from the start.
-#[tactic(auto, unfolding(crate::specs::Scoping::scopes_of))]
+#[tactic(auto, unfolding(crate::specs::Scopes::scopes_of))]
 pub(crate) fn scopes_of(alloc: Global, found: Option<&Value>) -> Result<List<ScopeSpec>, BootFault>
-    ensures gives { Gives result (scopes_of (option_map (λ v. view v.now) found.entry)) }
+    ensures gives { Agrees result (scopes_of (option_map (λ v. view v.now) found.entry)) }
     ensures lawful { IfOk result (λ l. AreScopes l) }
 {
     let list = items_at(alloc, "stats_run.scopes", MAX_SCOPES, found)?;

@@ -2,8 +2,8 @@
 ghost use Rattle.std.specs.Prelude.{◌≡◌, ◌≢◌, ◌<◌, ◌≤◌, ◌^◌, codes, length, [], Option, Some, None, Ok, Err, MatchResult, IfOk, option_map};
 ghost use Rattle.serde_json.specs.View.{view, items_view};
 ghost use Rattle.stat_defs.specs.Names.{IsLocalName};
-ghost use Rattle.boot_values.specs.Gives.{Gives};
-ghost use Rattle.boot_file.specs.Sinking.{is_statsd, typed_config_at, prefix_text_at, prefix_at, sink_at, prefix_from, prefix_of};
+ghost use Rattle.boot_values.specs.Agrees.{Agrees};
+ghost use Rattle.boot_file.specs.Sinks.{is_statsd, typed_config_at, prefix_text_at, prefix_at, sink_at, prefix_from, prefix_of};
 
 use crate::tags::is_local_name;
 use boot_values::{BootFault, Place, bad_key, bad_part, is_section, member};
@@ -47,7 +47,7 @@ fn typed_config_at<'v>(
 }
 
 fn prefix_text_at(alloc: Global, i: usize, text: &[u8]) -> Result<Txt, BootFault>
-    ensures gives { Gives result (prefix_text_at i text.now) }
+    ensures gives { Agrees result (prefix_text_at i text.now) }
     ensures lawful { IfOk result (λ t. IsLocalName t) }
 {
     if text.is_empty() {
@@ -60,7 +60,7 @@ fn prefix_text_at(alloc: Global, i: usize, text: &[u8]) -> Result<Txt, BootFault
 }
 
 fn prefix_at(alloc: Global, i: usize, found: Option<&Value>) -> Result<Txt, BootFault>
-    ensures gives { Gives result (prefix_at i (option_map (λ v. view v.now) found.entry)) }
+    ensures gives { Agrees result (prefix_at i (option_map (λ v. view v.now) found.entry)) }
     ensures lawful { IfOk result (λ t. IsLocalName t) }
 {
     let Some(value) = found else {
@@ -72,9 +72,9 @@ fn prefix_at(alloc: Global, i: usize, found: Option<&Value>) -> Result<Txt, Boot
     prefix_text_at(alloc, i, text.as_bytes())
 }
 
-#[tactic(auto, unfolding(crate::specs::Sinking::sink_at))]
+#[tactic(auto, unfolding(crate::specs::Sinks::sink_at))]
 fn sink_at(alloc: Global, i: usize, value: &Value) -> Result<Txt, BootFault>
-    ensures gives { Gives result (sink_at i (view value.now)) }
+    ensures gives { Agrees result (sink_at i (view value.now)) }
     ensures lawful { IfOk result (λ t. IsLocalName t) }
 {
     let config = typed_config_at(alloc, i, member(Some(value), "typed_config"))?;
@@ -82,7 +82,7 @@ fn sink_at(alloc: Global, i: usize, value: &Value) -> Result<Txt, BootFault>
 }
 
 fn prefix_in(alloc: Global, list: &[Value]) -> Result<Txt, BootFault>
-    ensures gives { Gives result (prefix_from 0 (items_view list.now)) }
+    ensures gives { Agrees result (prefix_from 0 (items_view list.now)) }
     ensures lawful { IfOk result (λ t. IsLocalName t) }
 {
     for (i, value) in list.iter().enumerate() {
@@ -94,9 +94,9 @@ fn prefix_in(alloc: Global, list: &[Value]) -> Result<Txt, BootFault>
 }
 
 /// The prefix of the first StatsD sink.
-#[tactic(auto, unfolding(crate::specs::Sinking::prefix_of))]
+#[tactic(auto, unfolding(crate::specs::Sinks::prefix_of))]
 pub(crate) fn prefix_of(alloc: Global, found: Option<&Value>) -> Result<Txt, BootFault>
-    ensures gives { Gives result (prefix_of (option_map (λ v. view v.now) found.entry)) }
+    ensures gives { Agrees result (prefix_of (option_map (λ v. view v.now) found.entry)) }
     ensures lawful { IfOk result (λ t. IsLocalName t) }
 {
     let Some(value) = found else {

@@ -5,7 +5,7 @@ ghost use Rattle.serde_json.specs.View.{view, items_view};
 ghost use Rattle.stat_defs.specs.Configs.{IsRule};
 ghost use Rattle.stat_defs.specs.Names as names;
 ghost use Rattle.stat_defs.specs.Names.{is_printable_byte, IsLocalName};
-ghost use Rattle.boot_values.specs.Gives.{Gives};
+ghost use Rattle.boot_values.specs.Agrees.{Agrees};
 ghost use Rattle.boot_file.specs.Lawful.{IsPlacedTag};
 ghost use Rattle.boot_file.specs.Tags.{called, placed, defaults_where, is_local_name, is_regex_text, is_fixed_text, tag_name_at, default_at, regex_at, fixed_at, rule_at, tag_at, tags_from, tags_of};
 
@@ -65,7 +65,7 @@ fn is_regex_text(text: &[u8]) -> bool
 }
 
 fn tag_name_at(alloc: Global, i: u32, found: Option<&Value>) -> Result<Txt, BootFault>
-    ensures gives { Gives result (tag_name_at i (option_map (λ v. view v.now) found.entry)) }
+    ensures gives { Agrees result (tag_name_at i (option_map (λ v. view v.now) found.entry)) }
     ensures lawful { IfOk result (λ t. IsLocalName t) }
 {
     let Some(value) = found else {
@@ -78,7 +78,7 @@ fn tag_name_at(alloc: Global, i: u32, found: Option<&Value>) -> Result<Txt, Boot
 }
 
 fn default_at(alloc: Global, i: u32, found: Option<DefaultTag>) -> Result<PlacedTag, BootFault>
-    ensures gives { Gives result (default_at i found) }
+    ensures gives { Agrees result (default_at i found) }
     ensures lawful { IfOk result (λ t. IsPlacedTag t) }
 {
     match found {
@@ -89,7 +89,7 @@ fn default_at(alloc: Global, i: u32, found: Option<DefaultTag>) -> Result<Placed
 
 fn regex_at(alloc: Global, i: u32, tag_name: Txt, value: &Value) -> Result<PlacedTag, BootFault>
     requires { IsLocalName tag_name }
-    ensures gives { Gives result (regex_at i tag_name (view value.now)) }
+    ensures gives { Agrees result (regex_at i tag_name (view value.now)) }
     ensures lawful { IfOk result (λ t. IsPlacedTag t) }
 {
     let Some(text) = value.as_str() else {
@@ -111,7 +111,7 @@ fn regex_at(alloc: Global, i: u32, tag_name: Txt, value: &Value) -> Result<Place
 
 fn fixed_at(alloc: Global, i: u32, tag_name: Txt, value: &Value) -> Result<PlacedTag, BootFault>
     requires { IsLocalName tag_name }
-    ensures gives { Gives result (fixed_at i tag_name (view value.now)) }
+    ensures gives { Agrees result (fixed_at i tag_name (view value.now)) }
     ensures lawful { IfOk result (λ t. IsPlacedTag t) }
 {
     let Some(text) = value.as_str() else {
@@ -139,7 +139,7 @@ fn rule_at(
     fixed: Option<&Value>,
 ) -> Result<PlacedTag, BootFault>
     requires { IsLocalName tag_name }
-    ensures gives { Gives result (rule_at i tag_name (option_map (λ v. view v.now) regex.entry) (option_map (λ v. view v.now) fixed.entry)) }
+    ensures gives { Agrees result (rule_at i tag_name (option_map (λ v. view v.now) regex.entry) (option_map (λ v. view v.now) fixed.entry)) }
     ensures lawful { IfOk result (λ t. IsPlacedTag t) }
 {
     match regex {
@@ -156,7 +156,7 @@ fn rule_at(
 
 #[tactic(auto, unfolding(crate::specs::Tags::tag_at))]
 fn tag_at(alloc: Global, i: u32, value: &Value) -> Result<PlacedTag, BootFault>
-    ensures gives { Gives result (tag_at i (view value.now)) }
+    ensures gives { Agrees result (tag_at i (view value.now)) }
     ensures lawful { IfOk result (λ t. IsPlacedTag t) }
 {
     let tag_name = tag_name_at(alloc, i, member(Some(value), "tag_name"))?;

@@ -1,3 +1,3 @@
-pub mod Asked
+pub mod AskedTexts
 pub mod Paths
-pub mod Answering
+pub mod LoadAnswers

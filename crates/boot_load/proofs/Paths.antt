@@ -5,7 +5,7 @@ use Rattle.stat_defs.specs.declared.configs.MatchSpec.{MatchSpec}
 use Rattle.stat_defs.specs.declared.configs.MatchSpec.TheVariants as matcher
 use Rattle.boot_values.specs.Paths.{indexed}
 use Rattle.tag_rules.specs.Admission.{patterns_of}
-use Rattle.boot_load.specs.Asking.{paths_in, matcher_paths}
+use Rattle.boot_load.specs.Asked.{paths_in, matcher_paths}
 
 pub paths_more : (list : List ℕ) (count : ℕ) (part : List ℕ) → paths_in list (count + 1) part ≡ paths_in list count part ++ indexed list count part ∷ []
 paths_more list count part = map-range_with_len_more (λ i. indexed list i part) 0 count count (omega arith)

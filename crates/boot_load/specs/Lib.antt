@@ -1,4 +1,4 @@
-pub mod Asking
-pub mod Loading
-pub mod Building
-pub mod Telling
+pub mod Asked
+pub mod Load
+pub mod Build
+pub mod BootLine

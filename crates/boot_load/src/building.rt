@@ -4,8 +4,8 @@ ghost use Rattle.stat_defs.specs.Configs.{IsConfig};
 ghost use Rattle.boot_values.specs.Paths.{indexed};
 ghost use Rattle.tag_rules.specs.Admission.{IsReadable, patterns_of};
 ghost use Rattle.tag_rules.specs.Tagging.{IsReadableRule};
-ghost use Rattle.boot_load.specs.Asking.{paths_in, matcher_paths, of_tags, of_matcher, of_buckets, asked};
-ghost use Rattle.boot_load.specs.Building.{BuildsAll, HasPathIn, IsTold};
+ghost use Rattle.boot_load.specs.Asked.{paths_in, matcher_paths, of_tags, of_matcher, of_buckets, of_store, of_views, asked};
+ghost use Rattle.boot_load.specs.Build.{BuildsAll, HasPathIn, IsTold, boot_with};
 
 use crate::fault::LoadFault;
 use crate::loading::Boot;
@@ -130,6 +130,36 @@ fn buckets_of<K: PatternMaker>(
     }
 }
 
+// The rules and the matcher that a store keeps for good.
+fn build_store<K: PatternMaker>(
+    alloc: Global,
+    config: &Config,
+    maker: &mut K,
+) -> Result<(TagRules, Matcher), LoadFault>
+    requires { IsConfig config.now }
+    ensures { BuildsAll (of_store config.now) (config.now.tags, config.now.matcher) (K.memory maker.old) (K.memory maker.new) result }
+{
+    config_law();
+    let rules = rules_of(alloc, maker, config.tag_paths.items(), config.tags.items())?;
+    let matcher = matcher_of(alloc, maker, &config.matcher)?;
+    Ok((rules, matcher))
+}
+
+// The buckets, and the rules that the views of flushes use.
+fn build_views<K: PatternMaker>(
+    alloc: Global,
+    config: &Config,
+    maker: &mut K,
+) -> Result<(Buckets, TagRules), LoadFault>
+    requires { IsConfig config.now }
+    ensures { BuildsAll (of_views config.now) (config.now.buckets, config.now.tags) (K.memory maker.old) (K.memory maker.new) result }
+{
+    config_law();
+    let buckets = buckets_of(alloc, maker, config.buckets.items())?;
+    let rules = rules_of(alloc, maker, config.tag_paths.items(), config.tags.items())?;
+    Ok((buckets, rules))
+}
+
 /// The configuration with its patterns.
 pub(crate) fn build<K: PatternMaker>(
     alloc: Global,
@@ -137,17 +167,15 @@ pub(crate) fn build<K: PatternMaker>(
     maker: &mut K,
 ) -> Result<Boot, LoadFault>
     requires { IsConfig config }
-    ensures { BuildsAll (asked config) (record { config = config; rules = config.tags; matcher = config.matcher; buckets = config.buckets })
-        (K.memory maker.old) (K.memory maker.new) result }
+    ensures { BuildsAll (asked config) (boot_with config) (K.memory maker.old) (K.memory maker.new) result }
 {
-    config_law();
-    let rules = rules_of(alloc, maker, config.tag_paths.items(), config.tags.items())?;
-    let matcher = matcher_of(alloc, maker, &config.matcher)?;
-    let buckets = buckets_of(alloc, maker, config.buckets.items())?;
+    let (rules, matcher) = build_store(alloc, &config, maker)?;
+    let (buckets, view_rules) = build_views(alloc, &config, maker)?;
     Ok(Boot {
         config,
         rules,
         matcher,
         buckets,
+        view_rules,
     })
 }

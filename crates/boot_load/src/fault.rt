@@ -2,6 +2,8 @@
 
 use boot_file::BootFault;
 use stat_defs::{NoMemory, Txt};
+use std::error::Error;
+use std::fmt::{Display, Formatter, Result as Written, Write};
 
 /// Why a bootstrap was not loaded.
 #[derive(Drop, Debug)]
@@ -17,6 +19,26 @@ pub enum LoadFault {
     /// There was no memory.
     NoMemory,
 }
+
+/// Without a path, which [`boot_line`](crate::boot_line) tells.
+impl Display for LoadFault {
+    ghost use Rattle.std.specs.Prelude.{Some};
+    ghost use Rattle.boot_load.specs.BootLine.{load_fault_text};
+
+    ghost output = { λ fault. Some (load_fault_text fault) };
+
+    fn fmt<W: Write>(&self, f: &mut Formatter<W>) -> Written {
+        match self {
+            LoadFault::TooBig => f.write_str("too big"),
+            LoadFault::Faulty(fault) => fault.fmt(f),
+            LoadFault::BadPattern(_) => f.write_str("bad pattern"),
+            LoadFault::ReadFailed => f.write_str("read failed"),
+            LoadFault::NoMemory => f.write_str("out of memory"),
+        }
+    }
+}
+
+impl Error for LoadFault {}
 
 impl From<NoMemory> for LoadFault {
     ghost use Rattle.std.specs.Prelude.{◌≡◌};

@@ -1,7 +1,6 @@
 //! The bytes of a bootstrap.
-ghost use Rattle.std.specs.Prelude.{◌≡◌, ◌≢◌, ◌≤◌, ℕ, List, codes, MatchResult, Err};
-ghost use Rattle.tag_rules.specs.Making.{Memory};
-ghost use Rattle.boot_load.specs.Loading.{IsRead, Loads};
+ghost use Rattle.std.specs.Prelude.{◌≡◌, ◌≢◌, ◌≤◌, ℕ, List, codes, MatchResult};
+ghost use Rattle.boot_load.specs.Load.{IsShortBoot, IsUnread};
 
 use crate::fault::LoadFault;
 use stats_io::{OpenFault, Pulled, Shelf, pull_up_to};
@@ -17,13 +16,11 @@ pub(crate) fn bytes_of<F: Shelf>(
     shelf: &mut F,
 ) -> Result<Vec<u8>, LoadFault>
     requires { name.now ≢ codes "-" }
-    ensures read { (maker : Memory) → MatchResult result
-        (λ bytes. IsRead F.S.origin F.S.faults (F.holds shelf.old name.now) name.now
-        (record { faults = F.faults shelf.old; failed = F.failed shelf.old }) (record { faults = F.faults shelf.new; failed = F.failed shelf.new }) maker maker bytes.items)
-        (λ fault. Loads F.S.origin F.S.faults (F.holds shelf.old name.now) name.now
-        (record { faults = F.faults shelf.old; failed = F.failed shelf.old }) (record { faults = F.faults shelf.new; failed = F.failed shelf.new }) maker maker (Err fault)) }
+    ensures read { MatchResult result
+        (λ bytes. IsShortBoot (F.holds shelf.old name.now) name.now bytes.items × (F.state shelf.new ≡ F.state shelf.old))
+        (λ fault. IsUnread F.S.state (F.holds shelf.old name.now) name.now (F.state shelf.old) (F.state shelf.new) fault) }
     ensures contents { (other : List ℕ) → F.holds shelf.new other ≡ F.holds shelf.old other }
-    ensures later { F.faults shelf.old ≤ F.faults shelf.new }
+    ensures later { (F.state shelf.old).faults ≤ (F.state shelf.new).faults }
 {
     let mut source = match shelf.open(alloc, name) {
         Ok(source) => source,

@@ -1,6 +1,6 @@
 //! What is said of a bootstrap that was not loaded.
 ghost use Rattle.std.specs.Prelude.{◌≡◌, ◌++◌, IfOk, codes};
-ghost use Rattle.boot_load.specs.Telling.{faulty_line, boot_line};
+ghost use Rattle.boot_load.specs.BootLine.{faulty_line, boot_line};
 
 use crate::fault::LoadFault;
 use boot_file::BootFault;

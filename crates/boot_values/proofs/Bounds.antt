@@ -7,7 +7,7 @@ use Rattle.std.proofs.lemmas.Bool.{ltb-true, ltb-false, le-ltb, eqb-false, or_pa
 use Rattle.std.proofs.lemmas.List.Sums.{sum_by-cons}
 use Rattle.std.proofs.lemmas.List.Elements.{All-append, All-cons, All-take, All-drop}
 use Rattle.stat_defs.specs.declared.bins.Bound.{Bound}
-use Rattle.boot_values.specs.Bucketing.{with_bound}
+use Rattle.boot_values.specs.BucketSettings.{with_bound}
 
 abbrev pub Above : ℕ → List Bound → Type 0
 Above h [] = Unit {0}

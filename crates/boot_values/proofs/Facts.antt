@@ -7,7 +7,7 @@ use Rattle.serde_json.specs.Find.{as_number, as_u64}
 use Rattle.serde_json.specs.Read.{read}
 use Rattle.serde_json.specs.View.{items_of, items_view}
 use Rattle.serde_json.specs.declared.value.Value.{Value}
-use Rattle.boot_values.specs.Bucketing.{natural_of}
+use Rattle.boot_values.specs.BucketSettings.{natural_of}
 use Rattle.boot_values.specs.Values.{item_count, json_of}
 
 count_of : (ds : List Data) → item_count (items_of ds) ≡ length ds

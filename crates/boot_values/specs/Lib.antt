@@ -1,6 +1,7 @@
-pub mod Gives
+pub mod BootFault
+pub mod Agrees
 pub mod Paths
 pub mod Values
 pub mod Patterns
-pub mod Matching
-pub mod Bucketing
+pub mod StatsMatcher
+pub mod BucketSettings

@@ -12,7 +12,7 @@ use Rattle.boot_values.specs.declared.fault.BootFault.TheVariants.{BadKey, OutOf
 use Rattle.boot_values.specs.declared.patterns.Shape.{Shape}
 use Rattle.boot_values.specs.declared.patterns.Shape.TheVariants.{Exact, Prefix, Suffix, Contains, SafeRegex}
 use Rattle.boot_values.specs.declared.place.Place.{Place}
-use Rattle.boot_values.specs.Gives.{and_then}
+use Rattle.boot_values.specs.Agrees.{and_then}
 use Rattle.boot_values.specs.Paths.{path_of}
 use Rattle.boot_values.specs.Values.{member, has}
 

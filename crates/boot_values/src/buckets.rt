@@ -4,8 +4,8 @@ ghost use Rattle.std.specs.List.{list_any, count_by};
 ghost use Rattle.std.specs.List.Sorted.{IsStrictlyIncreasing};
 ghost use Rattle.serde_json.specs.View.{view, items_view};
 ghost use Rattle.stat_defs.specs.Configs.{IsPatternText, IsBucketSpec, IsWholeBound, text_of};
-ghost use Rattle.boot_values.specs.Gives.{Gives};
-ghost use Rattle.boot_values.specs.Bucketing.{natural_of, bound_of, with_bound, bounds_from, bounds_of, match_at, setting_at, settings_from, settings_of};
+ghost use Rattle.boot_values.specs.Agrees.{Agrees};
+ghost use Rattle.boot_values.specs.BucketSettings.{natural_of, bound_of, with_bound, bounds_from, bounds_of, match_at, setting_at, settings_from, settings_of};
 
 use crate::fault::BootFault;
 use crate::json::{items_at, member};
@@ -40,7 +40,7 @@ fn bound_of(
     found: &[Bound],
     number: Option<u64>,
 ) -> Result<Bound, BootFault>
-    ensures gives { Gives result (bound_of i found.now number) }
+    ensures gives { Agrees result (bound_of i found.now number) }
     ensures whole { IfOk result (λ b. IsWholeBound b) }
     ensures new { IfOk result (λ b. list_any (λ c. c.halves == b.halves) found.now ≡ false) }
 {
@@ -69,7 +69,7 @@ fn bounds_in(alloc: Global, i: usize, list: &[Value]) -> Result<Vec<Bound>, Boot
     Ok(found)
 }
 
-#[tactic(auto, unfolding(crate::specs::Bucketing::bounds_of), using(crate::proofs::Facts::item_count_of_view))]
+#[tactic(auto, unfolding(crate::specs::BucketSettings::bounds_of), using(crate::proofs::Facts::item_count_of_view))]
 fn bounds_of(alloc: Global, i: usize, found: Option<&Value>) -> Result<Vec<Bound>, BootFault>
     ensures gives { MatchResult result (λ v. bounds_of i (option_map (λ v. view v.now) found.entry) ≡ Ok v.items)
         (λ f. f ≢ BootFault.NoMemory → bounds_of i (option_map (λ v. view v.now) found.entry) ≡ Err f) }
@@ -94,7 +94,7 @@ fn bounds_of(alloc: Global, i: usize, found: Option<&Value>) -> Result<Vec<Bound
 }
 
 fn match_at(alloc: Global, i: usize, found: Option<&Value>) -> Result<Pattern, BootFault>
-    ensures gives { Gives result (match_at i (option_map (λ v. view v.now) found.entry)) }
+    ensures gives { Agrees result (match_at i (option_map (λ v. view v.now) found.entry)) }
     ensures lawful { IfOk result (λ p. IsPatternText (text_of p)) }
 {
     let Some(value) = found else {
@@ -103,9 +103,9 @@ fn match_at(alloc: Global, i: usize, found: Option<&Value>) -> Result<Pattern, B
     pattern_at(alloc, Place::Match(i), value)
 }
 
-#[tactic(auto, unfolding(crate::specs::Bucketing::setting_at))]
+#[tactic(auto, unfolding(crate::specs::BucketSettings::setting_at))]
 fn setting_at(alloc: Global, i: usize, value: &Value) -> Result<BucketSpec, BootFault>
-    ensures gives { Gives result (setting_at i (view value.now)) }
+    ensures gives { Agrees result (setting_at i (view value.now)) }
     ensures lawful { IfOk result (λ s. IsBucketSpec s) }
 {
     let pattern = match_at(alloc, i, member(Some(value), "match"))?;
@@ -133,9 +133,9 @@ fn settings_in(alloc: Global, list: &[Value]) -> Result<Vec<BucketSpec>, BootFau
 /// The bucket settings that a `histogram_bucket_settings` says, in its order, where absent is none; the bounds of each rise.
 /// The first fault is told, `BadKey`, `BadBucket` or `OutOfRange` with its path below
 /// `stats_config.histogram_bucket_settings`, or `NoMemory`. No pattern is built.
-#[tactic(auto, unfolding(crate::specs::Bucketing::settings_of))]
+#[tactic(auto, unfolding(crate::specs::BucketSettings::settings_of))]
 pub fn settings_of(alloc: Global, found: Option<&Value>) -> Result<List<BucketSpec>, BootFault>
-    ensures gives { Gives result (settings_of (option_map (λ v. view v.now) found.entry)) }
+    ensures gives { Agrees result (settings_of (option_map (λ v. view v.now) found.entry)) }
     ensures lawful { IfOk result (λ l. All IsBucketSpec l) }
     ensures few { IfOk result (λ l. length l ≤ MAX_BUCKET_SETTINGS) }
 {

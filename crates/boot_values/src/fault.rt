@@ -2,6 +2,8 @@
 
 use stat_defs::{NoMemory, Txt};
 use std::alloc::{AllocError, AllocFailed};
+use std::error::Error;
+use std::fmt::{Display, Formatter, Result as Written, Write};
 
 /// The first fault of a bootstrap. Each text is the path of what is wrong: members stand after dots and places of lists
 /// in brackets from 0, as in `stats_config.stats_tags[0].regex`, and the whole value is `top`.
@@ -20,6 +22,27 @@ pub enum BootFault {
     /// There was no memory.
     NoMemory,
 }
+
+/// Without a path.
+impl Display for BootFault {
+    ghost use Rattle.std.specs.Prelude.{Some};
+    ghost use Rattle.boot_values.specs.BootFault.{boot_fault_text};
+
+    ghost output = { λ fault. Some (boot_fault_text fault) };
+
+    fn fmt<W: Write>(&self, f: &mut Formatter<W>) -> Written {
+        match self {
+            BootFault::NotJson => f.write_str("not json"),
+            BootFault::BadKey(_) => f.write_str("bad key"),
+            BootFault::BadTag(_) => f.write_str("bad tag"),
+            BootFault::BadBucket(_) => f.write_str("bad bucket"),
+            BootFault::OutOfRange(_) => f.write_str("out of range"),
+            BootFault::NoMemory => f.write_str("out of memory"),
+        }
+    }
+}
+
+impl Error for BootFault {}
 
 impl From<NoMemory> for BootFault {
     ghost use Rattle.std.specs.Prelude.{◌≡◌};

@@ -2,7 +2,7 @@
 ghost use Rattle.std.specs.Prelude.{◌≡◌, ◌≢◌, ◌<◌, ◌≤◌, ◌^◌, length, Option, Ok, Err, MatchResult, IfOk, None, Some, option_map};
 ghost use Rattle.serde_json.specs.View.{view, items_view};
 ghost use Rattle.boot_values.specs.Values.{json_of, member, has, is_section, section_at, switch_at, whole_at, items_at, item_count};
-ghost use Rattle.boot_values.specs.Gives.{Gives};
+ghost use Rattle.boot_values.specs.Agrees.{Agrees};
 
 use crate::fault::BootFault;
 use crate::place::{bad_key, out_of_range};
@@ -82,7 +82,7 @@ pub fn section_at<'v>(
 
 /// True or false, where absent is true: `BadKey` with this path for any other value, and `NoMemory`.
 pub fn switch_at(alloc: Global, path: &str, found: Option<&Value>) -> Result<bool, BootFault>
-    ensures { Gives result (switch_at path.now (option_map (λ v. view v.now) found.entry)) }
+    ensures { Agrees result (switch_at path.now (option_map (λ v. view v.now) found.entry)) }
 {
     match found {
         None => Ok(true),
@@ -103,7 +103,7 @@ pub fn whole_at(
 ) -> Result<u32, BootFault>
     requires least { limits.now.least ≤ limits.now.absent }
     requires most { limits.now.absent ≤ limits.now.most }
-    ensures gives { Gives result (whole_at path.now limits.now (option_map (λ v. view v.now) found.entry)) }
+    ensures gives { Agrees result (whole_at path.now limits.now (option_map (λ v. view v.now) found.entry)) }
     ensures within { IfOk result (λ n. (limits.now.least ≤ n) × (n ≤ limits.now.most)) }
 {
     let Some(value) = found else {

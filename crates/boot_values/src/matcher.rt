@@ -2,8 +2,8 @@
 ghost use Rattle.std.specs.Prelude.{◌≡◌, ◌≢◌, ◌<◌, ◌≤◌, ◌^◌, codes, length, [], All, Option, Some, None, Ok, Err, MatchResult, IfOk, option_map};
 ghost use Rattle.serde_json.specs.View.{view, items_view};
 ghost use Rattle.stat_defs.specs.Configs.{IsPatternText, IsMatchSpec, IsPatternList, text_of};
-ghost use Rattle.boot_values.specs.Gives.{Gives};
-ghost use Rattle.boot_values.specs.Matching.{choice_of, reject_at, name_of, path_of_side, path_of_patterns, place_in, spec_of, patterns_from, list_at, matcher_of};
+ghost use Rattle.boot_values.specs.Agrees.{Agrees};
+ghost use Rattle.boot_values.specs.StatsMatcher.{choice_of, reject_at, name_of, path_of_side, path_of_patterns, place_in, spec_of, patterns_from, list_at, matcher_of};
 
 use crate::fault::BootFault;
 use crate::json::{has, items_at, member, section_at};
@@ -39,7 +39,7 @@ fn choice_of(reject_all: bool, exclusion: bool, inclusion: bool) -> Option<Choic
 }
 
 fn reject_at(alloc: Global, found: Option<&Value>) -> Result<MatchSpec, BootFault>
-    ensures gives { Gives result (reject_at (option_map (λ v. view v.now) found.entry)) }
+    ensures gives { Agrees result (reject_at (option_map (λ v. view v.now) found.entry)) }
     ensures lawful { IfOk result (λ m. IsMatchSpec m) }
 {
     let Some(value) = found else {
@@ -112,9 +112,9 @@ fn patterns_in(alloc: Global, side: Side, list: &[Value]) -> Result<Vec<Pattern>
     Ok(found)
 }
 
-#[tactic(auto, unfolding(crate::specs::Matching::list_at))]
+#[tactic(auto, unfolding(crate::specs::StatsMatcher::list_at))]
 fn list_at(alloc: Global, side: Side, found: Option<&Value>) -> Result<MatchSpec, BootFault>
-    ensures gives { Gives result (list_at side (option_map (λ v. view v.now) found.entry)) }
+    ensures gives { Agrees result (list_at side (option_map (λ v. view v.now) found.entry)) }
     ensures lawful { IfOk result (λ m. IsMatchSpec m) }
 {
     let section = section_at(alloc, path_of_side(side), found)?;
@@ -126,9 +126,9 @@ fn list_at(alloc: Global, side: Side, found: Option<&Value>) -> Result<MatchSpec
 
 /// The matcher that a `stats_matcher` says; where it is absent all names are admitted. The first fault is told, `BadKey` or
 /// `OutOfRange` with its path below `stats_config.stats_matcher`, or `NoMemory`. No pattern is built.
-#[tactic(auto, unfolding(crate::specs::Matching::matcher_of))]
+#[tactic(auto, unfolding(crate::specs::StatsMatcher::matcher_of))]
 pub fn matcher_of(alloc: Global, found: Option<&Value>) -> Result<MatchSpec, BootFault>
-    ensures gives { Gives result (matcher_of (option_map (λ v. view v.now) found.entry)) }
+    ensures gives { Agrees result (matcher_of (option_map (λ v. view v.now) found.entry)) }
     ensures lawful { IfOk result (λ m. IsMatchSpec m) }
 {
     let Some(value) = found else {

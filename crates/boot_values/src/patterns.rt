@@ -2,7 +2,7 @@
 ghost use Rattle.std.specs.Prelude.{◌≡◌, ◌≢◌, ◌<◌, ◌≤◌, ◌^◌, codes, length, [], Option, Some, None, Ok, Err, IfOk, option_map};
 ghost use Rattle.serde_json.specs.View.{view};
 ghost use Rattle.stat_defs.specs.Configs.{IsPatternText, text_of};
-ghost use Rattle.boot_values.specs.Gives.{Gives};
+ghost use Rattle.boot_values.specs.Agrees.{Agrees};
 ghost use Rattle.boot_values.specs.Patterns.{only_of, shape_of, text_at, regex_text_at, shaped_at, is_case_kept, pattern_at};
 
 use crate::fault::BootFault;
@@ -54,7 +54,7 @@ fn shape_of(value: &Value) -> Option<Shape>
 }
 
 fn text_at(alloc: Global, place: Place, part: &str, found: Option<&Value>) -> Result<Txt, BootFault>
-    ensures gives { Gives result (text_at place part.now (option_map (λ v. view v.now) found.entry)) }
+    ensures gives { Agrees result (text_at place part.now (option_map (λ v. view v.now) found.entry)) }
     ensures lawful { IfOk result (λ t. IsPatternText t) }
 {
     let Some(value) = found else {
@@ -70,7 +70,7 @@ fn text_at(alloc: Global, place: Place, part: &str, found: Option<&Value>) -> Re
 }
 
 fn regex_text_at(alloc: Global, place: Place, found: Option<&Value>) -> Result<Txt, BootFault>
-    ensures gives { Gives result (regex_text_at place (option_map (λ v. view v.now) found.entry)) }
+    ensures gives { Agrees result (regex_text_at place (option_map (λ v. view v.now) found.entry)) }
     ensures lawful { IfOk result (λ t. IsPatternText t) }
 {
     let Some(regex) = found else {
@@ -81,7 +81,7 @@ fn regex_text_at(alloc: Global, place: Place, found: Option<&Value>) -> Result<T
 
 #[tactic(auto, unfolding(crate::specs::Patterns::shaped_at))]
 fn shaped_at(alloc: Global, place: Place, value: &Value, shape: Shape) -> Result<Pattern, BootFault>
-    ensures gives { Gives result (shaped_at place (view value.now) shape) }
+    ensures gives { Agrees result (shaped_at place (view value.now) shape) }
     ensures lawful { IfOk result (λ p. IsPatternText (text_of p)) }
 {
     match shape {
@@ -123,7 +123,7 @@ fn is_case_kept(found: Option<&Value>) -> bool
 /// The pattern at a place.
 #[tactic(auto, unfolding(crate::specs::Patterns::pattern_at))]
 pub(crate) fn pattern_at(alloc: Global, place: Place, value: &Value) -> Result<Pattern, BootFault>
-    ensures gives { Gives result (pattern_at place (view value.now)) }
+    ensures gives { Agrees result (pattern_at place (view value.now)) }
     ensures lawful { IfOk result (λ p. IsPatternText (text_of p)) }
 {
     let Some(shape) = shape_of(value) else {

@@ -1,9 +1,10 @@
 pub mod Command
-pub mod Causes
-pub mod Files
-pub mod Reporting
+pub mod World
+pub mod WorkerEnd
+pub mod FileRead
+pub mod Report
 pub mod Output
-pub mod Telling
-pub mod Reading
-pub mod Outcomes
-pub mod Readiness
+pub mod FaultLines
+pub mod FileRun
+pub mod Outcome
+pub mod Ready

@@ -1,25 +1,29 @@
 //! The statistics store as a program: `envoy_stats replay BOOT FILE..` applies event files and writes one flush.
 #![tactic(auto)]
 
-ghost use Rattle.std.specs.Prelude.{◌≡◌, ◌≢◌};
-ghost use Rattle.std.specs.IoError.{error_kind};
-ghost use Rattle.std.specs.declared.io.ErrorKind.TheVariants.{OutOfMemory};
-ghost use Rattle.envoy_stats.specs.Outcomes.{Says};
-ghost use Rattle.envoy_stats.specs.Telling.{usage, out_of_memory};
+ghost use Rattle.std.specs.Prelude.{◌≡◌, ◌≢◌, Option, IfOk, IfErr, map, string_bytes};
+ghost use Rattle.stat_defs.specs.declared.reports.Report.{Report};
+ghost use Rattle.envoy_stats.specs.World.{world, sight};
+ghost use Rattle.envoy_stats.specs.Outcome.{IsCall, IsUnreadable};
 
 mod command;
+mod laws;
 mod reading;
+mod ready;
 mod replay;
 mod reporting;
+mod status;
 mod telling;
 #[cfg(test)]
 mod tests;
 mod writing;
 
+pub use laws::each_unopened_file_has_its_fault;
 pub use replay::{Outcome, quiet_stats};
 use stats_io::{FolderShelf, Shelf, Sink, StdSink};
 use std::alloc::Global;
 use std::io;
+use std::io::{Stderr, Stdout};
 use std::process::ExitCode;
 use std::rt::Env;
 use tag_rules::{PatternMaker, RegexMaker};
@@ -36,20 +40,17 @@ fn words_of<R: Env + AllocGlobal>(rt: &R) -> io::Result<Vec<String>> {
 
 // Says why the words could not be read, and gives the status: want of memory, or a word that is no text.
 fn refuse<E: Sink>(err: &mut E, fault: io::Error) -> u8
-    ensures memory { error_kind fault ≡ OutOfMemory → (result ≡ 6)
-        × Says (record { written = E.written err.old; faults = E.faults err.old }) (record { written = E.written err.new; faults = E.faults err.new }) out_of_memory }
-    ensures word { error_kind fault ≢ OutOfMemory → (result ≡ 1)
-        × Says (record { written = E.written err.old; faults = E.faults err.old }) (record { written = E.written err.new; faults = E.faults err.new }) usage }
+    ensures { IsUnreadable (E.state err.old) (E.state err.new) fault result }
 {
     if fault.kind() == io::ErrorKind::OutOfMemory {
         say(err, OUT_OF_MEMORY);
-        return 6;
+        return status::NO_MEMORY;
     }
     say(err, USAGE);
-    1
+    status::NO_COMMAND
 }
 
-// The status of the command that these words are, where they could be read.
+// The status of a call with these words, where they could be read.
 fn serve<K: PatternMaker, F: Shelf, O: Sink, E: Sink>(
     alloc: Global,
     words: io::Result<Vec<String>>,
@@ -57,7 +58,14 @@ fn serve<K: PatternMaker, F: Shelf, O: Sink, E: Sink>(
     shelf: &mut F,
     out: &mut O,
     err: &mut E,
-) -> u8 {
+) -> u8
+    ensures called { IfOk words (λ read. (report : Option Report)
+        × IsCall (sight K.memory F.holds F.state F.S.state O.state E.state)
+        (world maker.old shelf.old out.old err.old) (world maker.new shelf.new out.new err.new)
+        (map string_bytes read.items) result report) }
+    ensures unread { IfErr words (λ fault. (maker.new ≡ maker.old) × (shelf.new ≡ shelf.old) × (out.new ≡ out.old)
+        × IsUnreadable (E.state err.old) (E.state err.new) fault result) }
+{
     match words {
         Ok(words) => quiet_stats(alloc, &words, maker, shelf, out, err).status,
         Err(fault) => refuse(err, fault),
@@ -70,12 +78,13 @@ fn main(rt: HostRuntime) -> ExitCode {
     let mut out = StdSink::new(rt.stdout());
     let mut err = StdSink::new(rt.stderr());
     let words = words_of(&rt);
-    ExitCode::from(serve(
+    let status = serve::<RegexMaker, FolderShelf<'_, HostRuntime>, StdSink<Stdout>, StdSink<Stderr>>(
         rt.alloc(),
         words,
         &mut maker,
         &mut shelf,
         &mut out,
         &mut err,
-    ))
+    );
+    ExitCode::from(status)
 }

@@ -1,13 +1,13 @@
 //! Files that are read and applied, one after another.
-ghost use Rattle.std.specs.Prelude.{◌≡◌, ◌≤◌, ◌<◌, ◌+◌, ◌*◌, ◌^◌, ℕ, List, Ok, IfOk, MatchResult, length, map, string_bytes};
+ghost use Rattle.std.specs.Prelude.{◌≡◌, ◌≤◌, ◌<◌, ◌+◌, ◌*◌, ◌^◌, ◌++◌, ◌∷◌, [], ℕ, List, Ok, IfOk, OnOk, MatchResult, length, map, string_bytes};
 ghost use Rattle.event_script.specs.Steps.{Answers};
 ghost use Rattle.event_script.specs.declared.pulling.TheConstants as limits;
-ghost use Rattle.envoy_stats.specs.Reporting.{taken_at};
-ghost use Rattle.envoy_stats.specs.Reading.{ReadsSource, ReadsFile, ReadsFiles};
+ghost use Rattle.envoy_stats.specs.Report.{taken_at};
+ghost use Rattle.envoy_stats.specs.FileRun.{IsSourceRun, IsFileRun, AreRuns};
 
 use counter_store::Counters;
 use event_script::{Lines, Step};
-use stat_defs::{Event, FileEnd, NoMemory, Verdict, WorkerEnd};
+use stat_defs::{Event, FileEnd, List, NoMemory, Verdict, WorkerEnd};
 use stats_io::{OpenFault, Shelf, Source};
 use std::alloc::Global;
 
@@ -16,6 +16,13 @@ use std::alloc::Global;
 pub struct FileRun {
     pub verdicts: Vec<Verdict>,
     pub end: WorkerEnd,
+}
+
+/// What came of files: the verdicts of each, and the end of each.
+#[derive(Drop)]
+pub struct Runs {
+    pub verdicts: Vec<List<Verdict>>,
+    pub ends: Vec<WorkerEnd>,
 }
 
 // The event of a step, or the end of the file.
@@ -50,7 +57,7 @@ fn read_source<S: Source + Drop>(
     counters: &mut Counters,
 ) -> Result<FileRun, NoMemory>
     requires { length counters.old.events + limits.MAX_FILE_BYTES < 2 ^ 31 }
-    ensures { IfOk result (λ run. ReadsSource S.left S.origin S.faults source counters.old counters.new run) }
+    ensures { IfOk result (λ run. IsSourceRun S.state source counters.old counters.new run) }
 {
     let faults_before = source.fault_count();
     let mut verdicts = Vec::new(alloc);
@@ -85,11 +92,10 @@ fn read_file<F: Shelf>(
     counters: &mut Counters,
 ) -> Result<FileRun, NoMemory>
     requires { length counters.old.events + limits.MAX_FILE_BYTES < 2 ^ 31 }
-    ensures read { IfOk result (λ run. ReadsFile F.S.left F.S.origin F.S.faults (F.holds shelf.old) name.now
-        (record { faults = F.faults shelf.old; failed = F.failed shelf.old }) (record { faults = F.faults shelf.new; failed = F.failed shelf.new })
+    ensures read { IfOk result (λ run. IsFileRun F.state F.S.state (F.holds shelf.old) name.now shelf.old shelf.new
         counters.old counters.new run) }
     ensures contents { (other : List ℕ) → F.holds shelf.new other ≡ F.holds shelf.old other }
-    ensures later { F.faults shelf.old ≤ F.faults shelf.new }
+    ensures later { (F.state shelf.old).faults ≤ (F.state shelf.new).faults }
 {
     let faults_before = shelf.fault_count();
     match shelf.open(alloc, name) {
@@ -107,6 +113,17 @@ fn read_file<F: Shelf>(
     }
 }
 
+// Adds what came of one file more.
+fn push_run(runs: &mut Runs, run: FileRun) -> Result<(), NoMemory>
+    ensures verdicts { OnOk result (runs.new.verdicts.items ≡ runs.old.verdicts.items ++ run.verdicts.items ∷ []) }
+    ensures ends { OnOk result (runs.new.ends.items ≡ runs.old.ends.items ++ run.end ∷ []) }
+{
+    let FileRun { verdicts, end } = run;
+    runs.verdicts.push(List::of(verdicts))?;
+    runs.ends.push(end)?;
+    Ok(())
+}
+
 /// Opens the files of a shelf one after another, reads each to its end and applies its events. A file that cannot be opened has
 /// none.
 pub fn read_files<F: Shelf>(
@@ -114,16 +131,18 @@ pub fn read_files<F: Shelf>(
     shelf: &mut F,
     names: &[String],
     counters: &mut Counters,
-) -> Result<Vec<FileRun>, NoMemory>
+) -> Result<Runs, NoMemory>
     requires { length counters.old.events + length names.now * limits.MAX_FILE_BYTES < 2 ^ 31 }
-    ensures { IfOk result (λ runs. ReadsFiles F.S.left F.S.origin F.S.faults (F.holds shelf.old) (map string_bytes names.now)
-        (record { faults = F.faults shelf.old; failed = F.failed shelf.old }) (record { faults = F.faults shelf.new; failed = F.failed shelf.new })
-        counters.old counters.new runs.items) }
+    ensures { IfOk result (λ runs. AreRuns F.state F.S.state (F.holds shelf.old) (map string_bytes names.now) shelf.old shelf.new
+        counters.old counters.new runs) }
 {
-    let mut runs = Vec::new(alloc);
+    let mut runs = Runs {
+        verdicts: Vec::new(alloc),
+        ends: Vec::new(alloc),
+    };
     for name in names {
         let run = read_file(alloc, shelf, name.as_str(), counters)?;
-        runs.push(run)?;
+        push_run(&mut runs, run)?;
     }
     Ok(runs)
 }

@@ -1,28 +1,25 @@
 //! `replay BOOT FILE..`.
-ghost use Rattle.std.specs.Prelude.{◌≡◌, ◌≢◌, ◌≤◌, ◌<◌, ◌^◌, ◌⊎◌, ◌↔◌, ℕ, List, None, IfOk, length, map, string_bytes, codes};
-ghost use Rattle.stat_defs.specs.Faults.{Rose};
-ghost use Rattle.stat_defs.specs.Configs.{IsConfig};
+ghost use Rattle.std.specs.Prelude.{◌≡◌, ◌≢◌, ◌≤◌, ◌<◌, ◌↔◌, ℕ, List, None, length, map, string_bytes};
 ghost use Rattle.boot_load.specs.declared.fault.LoadFault.TheVariants as unloaded;
-ghost use Rattle.boot_load.specs.Telling.{boot_line};
 ghost use Rattle.envoy_stats.specs.Command.{IsReplay, IsCommand};
+ghost use Rattle.envoy_stats.specs.World.{world, sight};
+ghost use Rattle.envoy_stats.specs.FaultLines.{out_of_memory};
+ghost use Rattle.envoy_stats.specs.Outcome.{IsSaid, IsRefused, Replays, status_of_boot};
+ghost use Rattle.envoy_stats.specs.Ready.{Finishes, RefusesBoot};
 ghost use Rattle.envoy_stats.specs.declared.command.TheConstants as limits;
-ghost use Rattle.envoy_stats.specs.Outcomes.{Says, status_of, status_of_all, status_of_boot, Replays};
-ghost use Rattle.envoy_stats.specs.Telling.{usage, out_of_memory};
-ghost use Rattle.envoy_stats.specs.Reading.{ReadsFiles};
-ghost use Rattle.envoy_stats.specs.Readiness.{nothing_counted, Tells, IsShown, IsMadeOf, IsReady, Finishes, said_with};
+ghost use Rattle.envoy_stats.specs.declared.status.TheConstants as statuses;
 
 use crate::command::replay_of;
-use crate::reading::{FileRun, read_files};
-use crate::reporting::{Parted, ends_of, part, report_of, view_of};
-use crate::telling::{OUT_OF_MEMORY, USAGE, fault_lines, say};
-use crate::writing::{worker_lines, write_output};
-use boot_load::{Boot, LoadFault, boot_line, load};
-use counter_store::Counters;
-use stat_defs::{Config, FileEnd, FlushView, NoMemory, Report, Txt};
+use crate::ready::{Ready, prepare};
+use crate::status;
+use crate::telling::{OUT_OF_MEMORY, USAGE, say};
+use crate::writing::write_output;
+use boot_load::{LoadFault, boot_line, load};
+use stat_defs::{NoMemory, Report};
 use stats_io::{Shelf, Sink};
 use statsd_text::TextFault;
 use std::alloc::Global;
-use tag_rules::{Matcher, PatternMaker};
+use tag_rules::PatternMaker;
 
 /// How a call ended: its status, and what it recorded where it got so far.
 #[derive(Drop, Debug)]
@@ -31,167 +28,24 @@ pub struct Outcome {
     pub report: Option<Report>,
 }
 
-/// All that is to be written and said of files, before the first byte is.
-#[derive(Drop)]
-pub struct Ready {
-    pub report: Report,
-    pub view: FlushView,
-    pub prefix: Txt,
-    pub lines: Vec<u8>,
-    pub faults: Vec<u8>,
-    pub status: u8,
-}
-
-fn status_of(end: FileEnd) -> u8
-    ensures { result ≡ status_of end }
-{
-    match end {
-        FileEnd::Whole => 0,
-        FileEnd::BadLine(_) | FileEnd::LineTooLong(_) | FileEnd::TooBig | FileEnd::TooMany => 3,
-        FileEnd::ReadFault | FileEnd::NotOpened => 4,
-    }
-}
-
-// The status of the first file that was not read whole.
-fn status_of_all(ends: &[FileEnd]) -> u8
-    ensures { result ≡ status_of_all ends.now }
-{
-    for end in ends {
-        let status = status_of(*end);
-        if status != 0 {
-            return status;
-        }
-    }
-    0
-}
-
 fn status_of_boot(fault: &LoadFault) -> u8
     ensures { result ≡ status_of_boot fault.now }
 {
     match fault {
-        LoadFault::TooBig | LoadFault::Faulty(_) | LoadFault::BadPattern(_) => 2,
-        LoadFault::ReadFailed => 4,
-        LoadFault::NoMemory => 6,
+        LoadFault::TooBig | LoadFault::Faulty(_) | LoadFault::BadPattern(_) => status::BAD_BOOT,
+        LoadFault::ReadFailed => status::UNREADABLE,
+        LoadFault::NoMemory => status::NO_MEMORY,
     }
-}
-
-/// Files that were read, and what was counted of them.
-#[derive(Drop)]
-pub struct Counted {
-    pub runs: Vec<FileRun>,
-    pub counters: Counters,
-}
-
-/// What is to be written and said of how the events and the files ended, and the status.
-#[derive(Drop)]
-pub struct Told {
-    pub lines: Vec<u8>,
-    pub faults: Vec<u8>,
-    pub status: u8,
-}
-
-/// What is reported of files, and what their one flush shows.
-#[derive(Drop)]
-pub struct Shown {
-    pub report: Report,
-    pub view: FlushView,
-}
-
-// Reads the files and counts their events.
-fn count_files<F: Shelf>(
-    alloc: Global,
-    config: &Config,
-    matcher: Matcher,
-    names: &[String],
-    shelf: &mut F,
-) -> Result<Counted, NoMemory>
-    requires lawful { IsConfig config.now }
-    requires matcher { matcher ≡ config.now.matcher }
-    requires few { length names.now ≤ limits.MAX_FILES }
-    ensures { IfOk result (λ counted. ReadsFiles F.S.left F.S.origin F.S.faults (F.holds shelf.old) (map string_bytes names.now)
-        (record { faults = F.faults shelf.old; failed = F.failed shelf.old }) (record { faults = F.faults shelf.new; failed = F.failed shelf.new })
-        (nothing_counted config.now) counted.counters counted.runs.items) }
-{
-    let mut counters = Counters::new(alloc, config.scopes.items(), matcher)?;
-    let runs = read_files(alloc, shelf, names, &mut counters)?;
-    Ok(Counted { runs, counters })
-}
-
-// The lines on files, and their status.
-fn tell(alloc: Global, parted: &Parted) -> Result<Told, NoMemory>
-    requires verdicts { length parted.now.verdicts.items < 2 ^ 32 }
-    requires ends { length parted.now.ends.items < 2 ^ 32 }
-    ensures { IfOk result (Tells parted.now) }
-{
-    let ends = ends_of(alloc, &parted.ends)?;
-    Ok(Told {
-        lines: worker_lines(alloc, &parted.verdicts)?,
-        faults: fault_lines(alloc, &ends)?,
-        status: status_of_all(&ends),
-    })
-}
-
-// The report on files, and what their one flush shows.
-fn show(alloc: Global, parted: Parted, counters: Counters) -> Result<Shown, NoMemory>
-    requires { length counters.events < 2 ^ 32 }
-    ensures { IfOk result (IsShown parted counters) }
-{
-    let report = report_of(alloc, parted, counters.totals())?;
-    let view = view_of(alloc, counters.into_totals())?;
-    Ok(Shown { report, view })
-}
-
-// Makes what is to be written and said of files that were counted.
-fn make_ready(alloc: Global, counted: Counted, prefix: Txt) -> Result<Ready, NoMemory>
-    requires few { length counted.runs.items < 2 ^ 32 }
-    requires room { length counted.counters.events < 2 ^ 32 }
-    ensures { IfOk result (IsMadeOf counted prefix) }
-{
-    let parted = part(alloc, counted.runs)?;
-    let told = tell(alloc, &parted)?;
-    let shown = show(alloc, parted, counted.counters)?;
-    Ok(Ready {
-        report: shown.report,
-        view: shown.view,
-        prefix,
-        lines: told.lines,
-        faults: told.faults,
-        status: told.status,
-    })
-}
-
-// Reads the files, and makes what is to be written and said of them.
-fn prepare<F: Shelf>(
-    alloc: Global,
-    boot: Boot,
-    names: &[String],
-    shelf: &mut F,
-) -> Result<Ready, NoMemory>
-    requires lawful { IsConfig boot.config }
-    requires matcher { boot.matcher ≡ boot.config.matcher }
-    requires few { length names.now ≤ limits.MAX_FILES }
-    ensures { IfOk result (λ ready. IsReady F.S.left F.S.origin F.S.faults (F.holds shelf.old) (map string_bytes names.now)
-        (record { faults = F.faults shelf.old; failed = F.failed shelf.old }) (record { faults = F.faults shelf.new; failed = F.failed shelf.new })
-        boot.config ready) }
-{
-    let Boot {
-        config,
-        rules: _,
-        matcher,
-        buckets: _,
-    } = boot;
-    let counted = count_files(alloc, &config, matcher, names, shelf)?;
-    make_ready(alloc, counted, config.statsd_prefix)
 }
 
 // Says that memory was wanting.
 fn give_up<E: Sink>(err: &mut E) -> Outcome
-    ensures outcome { result ≡ record { status = 6; report = None } }
-    ensures said { Says (record { written = E.written err.old; faults = E.faults err.old }) (record { written = E.written err.new; faults = E.faults err.new }) out_of_memory }
+    ensures outcome { result ≡ record { status = statuses.NO_MEMORY; report = None } }
+    ensures said { IsSaid (E.state err.old) (E.state err.new) out_of_memory }
 {
     say(err, OUT_OF_MEMORY);
     Outcome {
-        status: 6,
+        status: status::NO_MEMORY,
         report: None,
     }
 }
@@ -199,9 +53,7 @@ fn give_up<E: Sink>(err: &mut E) -> Outcome
 // Says why the bootstrap was not loaded.
 fn refuse_boot<E: Sink>(alloc: Global, fault: &LoadFault, err: &mut E) -> Outcome
     requires { fault.now ≢ unloaded.NoMemory }
-    ensures outcome { (result ≡ record { status = status_of_boot fault.now; report = None }) ⊎ (result ≡ record { status = 6; report = None }) }
-    ensures said { result.status ≢ 6 → Says (record { written = E.written err.old; faults = E.faults err.old }) (record { written = E.written err.new; faults = E.faults err.new }) (boot_line fault.now) }
-    ensures gave_up { result.status ≡ 6 → Says (record { written = E.written err.old; faults = E.faults err.old }) (record { written = E.written err.new; faults = E.faults err.new }) out_of_memory }
+    ensures { RefusesBoot (E.state err.old) (E.state err.new) fault.now result }
 {
     match boot_line(alloc, fault) {
         Ok(line) => {
@@ -217,12 +69,8 @@ fn refuse_boot<E: Sink>(alloc: Global, fault: &LoadFault, err: &mut E) -> Outcom
 
 // Writes what is ready, and says how the files ended, and then that a push failed.
 fn finish<O: Sink, E: Sink>(alloc: Global, ready: Ready, out: &mut O, err: &mut E) -> Outcome
-    requires { ready.status < 5 }
-    ensures written { Finishes ready
-        (record { written = O.written out.old; faults = O.faults out.old })
-        (record { written = O.written out.new; faults = O.faults out.new }) result }
-    ensures said { Says (record { written = E.written err.old; faults = E.faults err.old }) (record { written = E.written err.new; faults = E.faults err.new })
-        (said_with ready.faults.items result.status) }
+    requires { ready.status < statuses.UNWRITTEN }
+    ensures { Finishes (O.state out.old) (O.state out.new) (E.state err.old) (E.state err.new) ready result }
 {
     let Ready {
         report,
@@ -244,7 +92,7 @@ fn finish<O: Sink, E: Sink>(alloc: Global, ready: Ready, out: &mut O, err: &mut 
             say(err, &faults);
             say(err, b"write failed\n");
             Outcome {
-                status: 5,
+                status: status::UNWRITTEN,
                 report: Some(report),
             }
         }
@@ -262,16 +110,10 @@ fn replay<K: PatternMaker, F: Shelf, O: Sink, E: Sink>(
     out: &mut O,
     err: &mut E,
 ) -> Outcome
-    requires few { length files.now ≤ limits.MAX_FILES }
-    ensures replayed { Replays F.S.left F.S.origin F.S.faults (F.holds shelf.old) boot.now (map string_bytes files.now)
-        (record { faults = F.faults shelf.old; failed = F.failed shelf.old }) (record { faults = F.faults shelf.new; failed = F.failed shelf.new })
-        (K.memory maker.old) (K.memory maker.new)
-        (record { written = O.written out.old; faults = O.faults out.old }) (record { written = O.written out.new; faults = O.faults out.new })
-        (record { written = E.written err.old; faults = E.faults err.old }) (record { written = E.written err.new; faults = E.faults err.new })
-        result.status result.report }
-    ensures unwritten { result.report ≡ None → result.status ≢ 6 → out.new ≡ out.old }
-    ensures usual { boot.now ≡ codes "-" → result.status ≡ 2 → shelf.new ≡ shelf.old }
-    ensures status { result.status ≢ 1 }
+    requires { length files.now ≤ limits.MAX_FILES }
+    ensures { Replays (sight K.memory F.holds F.state F.S.state O.state E.state)
+        (world maker.old shelf.old out.old err.old) (world maker.new shelf.new out.new err.new)
+        boot.now (map string_bytes files.now) result.status result.report }
 {
     match load(alloc, boot, maker, shelf) {
         Ok(boot) => match prepare(alloc, boot, files, shelf) {
@@ -305,23 +147,21 @@ pub fn quiet_stats<K: PatternMaker, F: Shelf, O: Sink, E: Sink>(
     out: &mut O,
     err: &mut E,
 ) -> Outcome
-    ensures usage { (result.status ≡ 1) ↔ ¬ IsCommand (map string_bytes words.now) }
-    ensures refused { result.status ≡ 1 → (maker.new ≡ maker.old) × (shelf.new ≡ shelf.old) × (result.report ≡ None)
-        × Says (record { written = E.written err.old; faults = E.faults err.old }) (record { written = E.written err.new; faults = E.faults err.new }) usage }
+    // Status 1 is that of words that are no command: such a call says so and changes nothing else.
+    ensures usage { (result.status ≡ statuses.NO_COMMAND) ↔ ¬ IsCommand (map string_bytes words.now) }
+    ensures refused { ¬ IsCommand (map string_bytes words.now) → (result.report ≡ None)
+        × IsRefused (sight K.memory F.holds F.state F.S.state O.state E.state)
+        (world maker.old shelf.old out.old err.old) (world maker.new shelf.new out.new err.new) }
+    // What was loaded, read, reported, written and said for a command.
     ensures replayed { (boot : List ℕ) → (files : List (List ℕ)) → IsReplay (map string_bytes words.now) boot files
-        → Replays F.S.left F.S.origin F.S.faults (F.holds shelf.old) boot files
-        (record { faults = F.faults shelf.old; failed = F.failed shelf.old }) (record { faults = F.faults shelf.new; failed = F.failed shelf.new })
-        (K.memory maker.old) (K.memory maker.new)
-        (record { written = O.written out.old; faults = O.faults out.old }) (record { written = O.written out.new; faults = O.faults out.new })
-        (record { written = E.written err.old; faults = E.faults err.old }) (record { written = E.written err.new; faults = E.faults err.new })
-        result.status result.report }
-    ensures unwritten { result.report ≡ None → result.status ≢ 6 → out.new ≡ out.old }
-    ensures usual { (files : List (List ℕ)) → IsReplay (map string_bytes words.now) (codes "-") files → result.status ≡ 2 → shelf.new ≡ shelf.old }
+        → Replays (sight K.memory F.holds F.state F.S.state O.state E.state)
+        (world maker.old shelf.old out.old err.old) (world maker.new shelf.new out.new err.new)
+        boot files result.status result.report }
 {
     let Some(command) = replay_of(words) else {
         say(err, USAGE);
         return Outcome {
-            status: 1,
+            status: status::NO_COMMAND,
             report: None,
         };
     };

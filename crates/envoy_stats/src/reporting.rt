@@ -2,26 +2,14 @@
 ghost use Rattle.std.specs.Prelude.{◌≡◌, ◌<◌, ◌^◌, [], ◌∷◌, IfOk, map};
 ghost use Rattle.indexmap.specs.IndexMap.{index_map_len};
 ghost use Rattle.envoy_stats.specs.Output.{row_of, Shows};
-ghost use Rattle.envoy_stats.specs.Reporting.{deltas};
+ghost use Rattle.envoy_stats.specs.Report.{deltas, report_with};
 
-use crate::reading::FileRun;
+use crate::reading::Runs;
 use counter_store::Totals;
 use stat_defs::{
-    CounterRow, Delta, FileEnd, FlushRecord, FlushView, List, MetricId, NoMemory, Report, Tagged,
-    Txt, Verdict, WorkerEnd,
+    CounterRow, Delta, FlushRecord, FlushView, List, MetricId, NoMemory, Report, Tagged, Txt,
 };
 use std::alloc::Global;
-
-/// How the files ended.
-pub fn ends_of(alloc: Global, ends: &[WorkerEnd]) -> Result<Vec<FileEnd>, NoMemory>
-    ensures { IfOk result (λ made. made.items ≡ map (λ end. end.end) ends.now) }
-{
-    let mut made = Vec::new(alloc);
-    for end in ends {
-        made.push(end.end)?;
-    }
-    Ok(made)
-}
 
 // Each counter's units under its number.
 fn deltas_of(alloc: Global, totals: &Totals) -> Result<Vec<Delta>, NoMemory>
@@ -39,7 +27,8 @@ fn deltas_of(alloc: Global, totals: &Totals) -> Result<Vec<Delta>, NoMemory>
 // The flush of all that was counted.
 fn flush_of(alloc: Global, totals: &Totals) -> Result<FlushRecord, NoMemory>
     requires few { index_map_len totals.now < 2 ^ 32 }
-    ensures { IfOk result (λ flush. flush ≡ record { at = 0; deltas = deltas totals.now.entries; gauges = []; parts = [] }) }
+    ensures { IfOk result (λ flush.
+        flush ≡ record { at = 0; deltas = deltas totals.now.entries; gauges = []; parts = [] }) }
 {
     Ok(FlushRecord {
         at: 0,
@@ -49,50 +38,19 @@ fn flush_of(alloc: Global, totals: &Totals) -> Result<FlushRecord, NoMemory>
     })
 }
 
-/// The verdicts of each file, and how each ended.
-#[derive(Drop)]
-pub struct Parted {
-    pub verdicts: Vec<List<Verdict>>,
-    pub ends: Vec<WorkerEnd>,
-}
-
-/// Parts what came of files.
-pub fn part(alloc: Global, runs: Vec<FileRun>) -> Result<Parted, NoMemory>
-    ensures verdicts { IfOk result (λ p. p.verdicts.items ≡ map (λ run. run.verdicts.items) runs.items) }
-    ensures ends { IfOk result (λ p. p.ends.items ≡ map (λ run. run.end) runs.items) }
-{
-    let mut verdicts = Vec::new(alloc);
-    let mut ends = Vec::new(alloc);
-    for run in runs {
-        let FileRun {
-            verdicts: given,
-            end,
-        } = run;
-        verdicts.push(List::of(given))?;
-        ends.push(end)?;
-    }
-    Ok(Parted { verdicts, ends })
-}
-
 /// The report of files, with one flush and no log.
-pub fn report_of(alloc: Global, parted: Parted, totals: &Totals) -> Result<Report, NoMemory>
+pub fn report_of(alloc: Global, runs: Runs, totals: &Totals) -> Result<Report, NoMemory>
     requires few { index_map_len totals.now < 2 ^ 32 }
-    ensures { IfOk result (λ report. report ≡ record {
-      verdicts = parted.verdicts.items;
-      flushes = (record { at = 0; deltas = deltas totals.now.entries; gauges = []; parts = [] }) ∷ [];
-      log = [];
-      reads = [];
-      ends = parted.ends.items;
-    }) }
+    ensures { IfOk result (λ report. report ≡ report_with runs.verdicts.items totals.now.entries runs.ends.items) }
 {
     let mut flushes = Vec::new(alloc);
     flushes.push(flush_of(alloc, totals)?)?;
     Ok(Report {
-        verdicts: List::of(parted.verdicts),
+        verdicts: List::of(runs.verdicts),
         flushes: List::of(flushes),
         log: List::of(Vec::new(alloc)),
         reads: List::of(Vec::new(alloc)),
-        ends: List::of(parted.ends),
+        ends: List::of(runs.ends),
     })
 }
 

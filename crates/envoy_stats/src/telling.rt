@@ -1,11 +1,10 @@
 //! What is said on `err`.
-ghost use Rattle.std.specs.Prelude.{◌≡◌, ◌≤◌, ◌+◌, ◌^◌, ◌<◌, ◌++◌, IfOk, length, string_bytes, codes};
+ghost use Rattle.std.specs.Prelude.{◌≡◌, ◌≤◌, ◌+◌, ◌^◌, ◌<◌, ◌++◌, IfOk, length, map, string_bytes, codes};
 ghost use Rattle.std.specs.Fmt.{decimal};
-ghost use Rattle.std.specs.Io.KnownBytes.{Appends};
-ghost use Rattle.stat_defs.specs.Faults.{Rose};
-ghost use Rattle.envoy_stats.specs.Telling.{fault_line, fault_lines};
+ghost use Rattle.envoy_stats.specs.Outcome.{IsSaid};
+ghost use Rattle.envoy_stats.specs.FaultLines.{fault_line, fault_lines};
 
-use stat_defs::{FileEnd, NoMemory};
+use stat_defs::{FileEnd, NoMemory, WorkerEnd};
 use stats_io::{Sink, push_all};
 use std::alloc::Global;
 
@@ -18,22 +17,24 @@ pub const OUT_OF_MEMORY: &[u8] = b"out of memory\n";
 
 /// Says a text. A fault of the sink changes nothing else.
 pub fn say<E: Sink>(err: &mut E, text: &[u8])
-    ensures said { ¬ Rose (E.faults err.old) (E.faults err.new) → Appends (E.written err.old) (E.written err.new) text.now }
-    ensures later { E.faults err.old ≤ E.faults err.new }
+    ensures said { IsSaid (E.state err.old) (E.state err.new) text.now }
+    ensures later { (E.state err.old).faults ≤ (E.state err.new).faults }
 {
     let _ = push_all(err, text);
 }
 
 // A line on the file of that number.
 fn file_line(alloc: Global, number: usize, told: &str) -> Result<String, NoMemory>
-    ensures { IfOk result (λ text. string_bytes text ≡ codes "file " ++ (decimal number ++ (codes ": " ++ (told.now ++ codes "\n")))) }
+    ensures { IfOk result (λ text.
+        string_bytes text ≡ codes "file " ++ (decimal number ++ (codes ": " ++ (told.now ++ codes "\n")))) }
 {
     Ok(format!(in alloc; "file {number}: {told}\n")?)
 }
 
 // A line on a line of that file.
 fn place_line(alloc: Global, number: usize, line: u64, told: &str) -> Result<String, NoMemory>
-    ensures { IfOk result (λ text. string_bytes text ≡ codes "file " ++ (decimal number ++ (codes " line " ++ (decimal line ++ (codes ": " ++ (told.now ++ codes "\n")))))) }
+    ensures { IfOk result (λ text. string_bytes text ≡ codes "file " ++ (decimal number
+        ++ (codes " line " ++ (decimal line ++ (codes ": " ++ (told.now ++ codes "\n")))))) }
 {
     Ok(format!(in alloc; "file {number} line {line}: {told}\n")?)
 }
@@ -54,14 +55,14 @@ fn fault_line(alloc: Global, number: usize, end: FileEnd) -> Result<String, NoMe
 }
 
 /// The lines on files that ended so, numbered from 1; none on a file that was read whole.
-pub fn fault_lines(alloc: Global, ends: &[FileEnd]) -> Result<Vec<u8>, NoMemory>
+pub fn fault_lines(alloc: Global, ends: &[WorkerEnd]) -> Result<Vec<u8>, NoMemory>
     requires { length ends.now < 2 ^ 32 }
-    ensures { IfOk result (λ text. text.items ≡ fault_lines 1 ends.now) }
+    ensures { IfOk result (λ text. text.items ≡ fault_lines 1 (map (λ end. end.end) ends.now)) }
 {
     let mut text = Vec::new(alloc);
     let mut number = 1;
     for end in ends {
-        let line = fault_line(alloc, number, *end)?;
+        let line = fault_line(alloc, number, end.end)?;
         text.extend_from_slice(line.as_bytes())?;
         number += 1;
     }

@@ -1,10 +1,7 @@
 //! What is written of files.
-ghost use Rattle.std.specs.Prelude.{◌≡◌, ◌+◌, ◌<◌, ◌^◌, ◌++◌, OnOk, OnErr, IfOk, Err, not, length, count_by, string_bytes, codes};
-ghost use Rattle.std.specs.Io.KnownBytes.{Appends};
-ghost use Rattle.stat_defs.specs.Faults.{Rose};
-ghost use Rattle.stats_io.specs.Pushes.{AppendsFront};
-ghost use Rattle.statsd_text.specs.Statsd.{statsd_text};
-ghost use Rattle.envoy_stats.specs.Output.{took_effect, counts_line, worker_line, worker_lines};
+ghost use Rattle.std.specs.Prelude.{◌≡◌, ◌+◌, ◌<◌, ◌^◌, OnOk, IfOk, Err, not, length, count_by, string_bytes};
+ghost use Rattle.stats_io.specs.Push.{AppendsFront, WritesWhole, WritesFront};
+ghost use Rattle.envoy_stats.specs.Output.{took_effect, counts_line, worker_line, worker_lines, output_with};
 
 use stat_defs::{FlushView, List, NoMemory, Txt, Verdict};
 use stats_io::{Sink, WriteFault, push_all};
@@ -74,10 +71,12 @@ pub fn write_output<O: Sink>(
     lines: &[u8],
     out: &mut O,
 ) -> Result<(), TextFault>
-    ensures whole { OnOk result (Appends (O.written out.old) (O.written out.new) (codes "# last\n" ++ (statsd_text prefix.now view.now ++ lines.now))) }
-    ensures front { OnErr result (AppendsFront (O.written out.old) (O.written out.new) (codes "# last\n" ++ (statsd_text prefix.now view.now ++ lines.now))) }
-    ensures cause { result ≡ Err TextFault.WriteFault → Rose (O.faults out.old) (O.faults out.new) }
-    ensures kept { OnOk result (O.faults out.new ≡ O.faults out.old) }
+    ensures whole { OnOk result
+        (WritesWhole (O.state out.old) (O.state out.new) (output_with prefix.now view.now lines.now)) }
+    ensures front { result ≡ Err TextFault.WriteFault
+        → WritesFront (O.state out.old) (O.state out.new) (output_with prefix.now view.now lines.now) }
+    ensures no_memory { result ≡ Err TextFault.NoMemory
+        → AppendsFront (O.state out.old).written (O.state out.new).written (output_with prefix.now view.now lines.now) }
 {
     if let Err(WriteFault) = push_all(out, b"# last\n") {
         return Err(TextFault::WriteFault);

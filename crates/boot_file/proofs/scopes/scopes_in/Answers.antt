@@ -2,7 +2,7 @@ use Rattle.std.proofs.Common.{◌≡◌, [], ◌∷◌, ◌++◌, false, refl, a
 use Rattle.std.proofs.lemmas.Grind.{common_steps}
 use Rattle.std.proofs.lemmas.List.Elements.{All-append, All-cons, All-nil}
 use Rattle.stat_defs.specs.Configs.{IsScopeSpec}
-use Rattle.boot_file.specs.Scoping.{is_taken}
+use Rattle.boot_file.specs.Scopes.{is_taken}
 use Rattle.boot_file.proofs.Labels.{different}
 use Rattle.boot_file.proofs.scopes.scopes_in.Goals as goal
 

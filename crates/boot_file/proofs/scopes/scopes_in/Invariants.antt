@@ -4,7 +4,7 @@ use Rattle.std.specs.List.{AllPairs}
 use Rattle.serde_json.specs.View.{items_view}
 use Rattle.stat_defs.specs.declared.configs.ScopeSpec.{ScopeSpec}
 use Rattle.stat_defs.specs.Configs.{IsScopeSpec}
-use Rattle.boot_file.specs.Scoping.{root, scopes_from}
+use Rattle.boot_file.specs.Scopes.{root, scopes_from}
 use Rattle.boot_file.proofs.scopes.scopes_in.Given as goal
 
 abbrev pub invariant-loop-i : goal.invariant-loop-i

@@ -1,6 +1,6 @@
 use Rattle.std.proofs.Common.{◌≡◌, drop}
 use Rattle.serde_json.specs.View.{items_view}
-use Rattle.boot_file.specs.Sinking.{prefix_from}
+use Rattle.boot_file.specs.Sinks.{prefix_from}
 use Rattle.boot_file.proofs.sinks.prefix_in.Given as goal
 
 abbrev pub invariant-loop-i : goal.invariant-loop-i

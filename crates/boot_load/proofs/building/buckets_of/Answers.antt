@@ -1,8 +1,8 @@
 use Rattle.std.proofs.Common.{codes, length}
 use Rattle.tag_rules.specs.Building.{setting_texts}
-use Rattle.boot_load.specs.Asking.{setting_paths}
+use Rattle.boot_load.specs.Asked.{setting_paths}
 use Rattle.boot_load.proofs.Paths.{as_many_paths}
-use Rattle.boot_load.proofs.Asked.{has_path, told_build, whole_build}
+use Rattle.boot_load.proofs.AskedTexts.{has_path, told_build, whole_build}
 use Rattle.boot_load.proofs.building.buckets_of.Goals as goal
 
 pub told-requires : goal.told-requires

@@ -1,8 +1,8 @@
 use Rattle.tag_rules.specs.Admission.{patterns_of}
 use Rattle.tag_rules.specs.Building.{pattern_texts}
-use Rattle.boot_load.specs.Asking.{matcher_paths}
+use Rattle.boot_load.specs.Asked.{matcher_paths}
 use Rattle.boot_load.proofs.Paths.{as_many_patterns}
-use Rattle.boot_load.proofs.Asked.{has_path, told_build, whole_build}
+use Rattle.boot_load.proofs.AskedTexts.{has_path, told_build, whole_build}
 use Rattle.boot_load.proofs.building.matcher_of.Goals as goal
 
 pub told-requires : goal.told-requires

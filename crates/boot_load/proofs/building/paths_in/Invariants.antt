@@ -1,5 +1,5 @@
 use Rattle.std.proofs.Common.{◌≡◌}
-use Rattle.boot_load.specs.Asking.{paths_in}
+use Rattle.boot_load.specs.Asked.{paths_in}
 use Rattle.boot_load.proofs.building.paths_in.Given as goal
 
 abbrev pub invariant-loop-i : goal.invariant-loop-i

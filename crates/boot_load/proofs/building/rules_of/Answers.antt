@@ -1,5 +1,5 @@
 use Rattle.tag_rules.specs.Building.{rule_texts}
-use Rattle.boot_load.proofs.Asked.{has_path, told_build, whole_build}
+use Rattle.boot_load.proofs.AskedTexts.{has_path, told_build, whole_build}
 use Rattle.boot_load.proofs.building.rules_of.Goals as goal
 
 pub told-requires : goal.told-requires

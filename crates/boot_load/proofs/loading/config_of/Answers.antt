@@ -1,6 +1,6 @@
 use Rattle.std.proofs.Common.{rules}
 use Rattle.std.proofs.lemmas.Result.{err_from_is_err_and}
-use Rattle.boot_load.proofs.Answering.{unread}
+use Rattle.boot_load.proofs.LoadAnswers.{unread}
 use Rattle.boot_load.proofs.loading.config_of.Goals as goal
 
 pub returns-in_err-bytes-clause-read : goal.returns-in_err-bytes-clause-read
@@ -9,11 +9,12 @@ returns-in_err-bytes-clause-read g c =
     rw (p.1, p.2) (c.in_err-bytes.ensures.read)
 
 pub returns-in-Ok-clause-read : goal.returns-in-Ok-clause-read
-returns-in-Ok-clause-read g c = λ maker. (c.deref.result.now, c.in-Ok.ensures.gives, search (rules, c.in_ok-bytes.ensures.read maker))
+returns-in-Ok-clause-read g c =
+    let read = c.in_ok-bytes.ensures.read in
+    (record { bytes = c.deref.result.now; is_boot = search (rules, read.0); says = c.in-Ok.ensures.gives }, read.1)
 
 pub returns-clause-read : goal.returns-clause-read
-returns-clause-read g c = λ maker.
-    unread g.F.S.Source.origin g.F.S.Source.faults (g.F.Shelf.holds c.args.shelf.now c.args.name.now) c.args.name.now
-    (record { faults = g.F.Shelf.faults c.args.shelf.now; failed = g.F.Shelf.failed c.args.shelf.now })
-    (record { faults = g.F.Shelf.faults c.bytes_of.new.shelf; failed = g.F.Shelf.failed c.bytes_of.new.shelf })
-    c.deref.result.now c.in-Err.fault c.unread.result c.in-Err.ensures.gives c.unread.ensures maker (search (rules, c.in_ok-bytes.ensures.read maker))
+returns-clause-read g c =
+    let read = c.in_ok-bytes.ensures.read in
+    unread g.F.S.Source.state _ _ _ _ c.deref.result.now c.in-Err.fault c.unread.result c.in-Err.ensures.gives c.unread.ensures
+    (search (rules, read.0)) read.1

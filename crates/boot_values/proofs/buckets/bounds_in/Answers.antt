@@ -2,7 +2,7 @@ use Rattle.std.proofs.Common.{◌≡◌, false, ◌==◌, arith}
 use Rattle.std.specs.List.{list_any}
 use Rattle.std.proofs.lemmas.Grind.{common_steps}
 use Rattle.stat_defs.specs.Configs.{IsWholeBound}
-use Rattle.boot_values.specs.Bucketing.{with_bound}
+use Rattle.boot_values.specs.BucketSettings.{with_bound}
 use Rattle.boot_values.proofs.Bounds.{increasing_halves, all_with, rises_with}
 use Rattle.boot_values.proofs.buckets.bounds_in.Goals as goal
 

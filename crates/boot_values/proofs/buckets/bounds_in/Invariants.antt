@@ -2,7 +2,7 @@ use Rattle.std.proofs.Common.{◌≡◌, [], length, drop}
 use Rattle.std.specs.Prelude.{All}
 use Rattle.serde_json.specs.View.{items_view}
 use Rattle.stat_defs.specs.Configs.{IsWholeBound}
-use Rattle.boot_values.specs.Bucketing.{bounds_from}
+use Rattle.boot_values.specs.BucketSettings.{bounds_from}
 use Rattle.boot_values.proofs.Bounds.{Rises}
 use Rattle.boot_values.proofs.buckets.bounds_in.Given as goal
 

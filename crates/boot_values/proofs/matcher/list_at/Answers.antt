@@ -4,7 +4,7 @@ use Rattle.stat_defs.specs.declared.configs.TheConstants.{MAX_PATTERNS}
 use Rattle.stat_defs.specs.Configs.{IsMatchSpec, IsPatternList}
 use Rattle.boot_values.specs.declared.matcher.Side.{Side}
 use Rattle.boot_values.specs.declared.matcher.Side.TheVariants.{Exclusion, Inclusion}
-use Rattle.boot_values.specs.Matching.{spec_of}
+use Rattle.boot_values.specs.StatsMatcher.{spec_of}
 use Rattle.boot_values.proofs.matcher.list_at.Goals as goal
 
 lawful_spec : (side : Side) (patterns : List Pattern) → IsPatternList patterns → IsMatchSpec (spec_of side patterns)

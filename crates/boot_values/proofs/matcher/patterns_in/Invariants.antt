@@ -2,7 +2,7 @@ use Rattle.std.proofs.Common.{◌≡◌, [], length, drop}
 use Rattle.std.specs.Prelude.{All}
 use Rattle.serde_json.specs.View.{items_view}
 use Rattle.stat_defs.specs.Configs.{IsPatternText, text_of}
-use Rattle.boot_values.specs.Matching.{patterns_from}
+use Rattle.boot_values.specs.StatsMatcher.{patterns_from}
 use Rattle.boot_values.proofs.matcher.patterns_in.Given as goal
 
 abbrev pub invariant-loop-i : goal.invariant-loop-i

@@ -2,7 +2,7 @@ use Rattle.std.proofs.Common.{◌≡◌, ◌∙◌, rules, arith, string_bytes, 
 use Rattle.std.proofs.lemmas.List.{length-map}
 use Rattle.std.proofs.lemmas.List.Folds.{list_all-map}
 use Rattle.envoy_stats.specs.Command.{is_file_word}
-use Rattle.envoy_stats.proofs.Words.{two_and_rest, no_files}
+use Rattle.envoy_stats.proofs.CommandWords.{two_and_rest, no_files}
 use Rattle.envoy_stats.proofs.command.replay_of.Goals as goal
 
 pub returns-else-not-are_file_words : goal.returns-else-not-are_file_words

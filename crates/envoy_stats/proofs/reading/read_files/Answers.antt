@@ -1,17 +1,18 @@
 use Rattle.std.proofs.Common.{◌∙◌, map, take, string_bytes, arith}
-use Rattle.envoy_stats.proofs.Words.{front_push}
-use Rattle.envoy_stats.proofs.Files.{same_content, one_file_more}
+use Rattle.envoy_stats.proofs.CommandWords.{front_push}
+use Rattle.envoy_stats.proofs.FilesRead.{same_content, one_file_more}
 use Rattle.envoy_stats.proofs.reading.read_files.Goals as goal
 
 pub loop-name-preserved : goal.loop-name-preserved
 loop-name-preserved g c =
     let names = front_push string_bytes c.args.names.now c.loop-name.name-index c.name-item.result (omega arith) c.name-item.is in
     let held = g.F.Shelf.holds c.args.shelf.now in
-    let read = same_content g.F.S.Source.left g.F.S.Source.origin g.F.S.Source.faults (g.F.Shelf.holds c.loop-name.shelf) held (string_bytes c.name-item.result) _ _ _ _ c.in_ok-run.run'
+    let read = same_content g.F.Shelf.state g.F.S.Source.state (g.F.Shelf.holds c.loop-name.shelf) held (string_bytes c.name-item.result) _ _ _ _ c.in_ok-run.run'
     (c.loop-name.invariant.contents (string_bytes c.name-item.result)) (rw c.as_str.ensures.value at c.in_ok-run.ensures.read) in
     record {
-      reads = rw (names, c.in_ok-push.ensures.items)
-          (one_file_more g.F.S.Source.left g.F.S.Source.origin g.F.S.Source.faults held (map string_bytes (take c.loop-name.name-index c.args.names.now)) (string_bytes c.name-item.result)
-          _ _ _ c.args.counters.now c.loop-name.counters c.read_file.new.counters c.loop-name.runs.items c.in_ok-run.run' c.loop-name.invariant.reads read);
+      runs = rw names
+          (one_file_more g.F.Shelf.state g.F.S.Source.state held (map string_bytes (take c.loop-name.name-index c.args.names.now)) (string_bytes c.name-item.result)
+          _ _ _ c.args.counters.now c.loop-name.counters c.read_file.new.counters c.loop-name.runs c.push_run.new.runs c.in_ok-run.run' c.loop-name.invariant.runs read
+          c.in_ok-push_run.ensures.verdicts c.in_ok-push_run.ensures.ends);
       contents = λ other. c.in_ok-run.ensures.contents other ∙ c.loop-name.invariant.contents other;
     }

@@ -1,44 +1,29 @@
-use Rattle.std.proofs.Common.{◌≢◌, rules, arith, refl, map, string_bytes}
+use Rattle.std.proofs.Common.{◌≢◌, rules, refl, map, string_bytes}
 use Rattle.boot_load.specs.declared.fault.LoadFault.TheVariants.{NoMemory}
-use Rattle.envoy_stats.specs.Outcomes.{SinkState}
-use Rattle.envoy_stats.proofs.Readying.{ready_alike}
-use Rattle.envoy_stats.proofs.Finishing.{ready_small, replays_of, status_is_not}
-use Rattle.envoy_stats.proofs.Refusing.{refused_boot, refusal_not_one}
+use Rattle.envoy_stats.specs.World.{world, sight}
+use Rattle.envoy_stats.proofs.MadeReady.{ready_alike, ready_small}
+use Rattle.envoy_stats.proofs.Replayed.{replays_of}
+use Rattle.envoy_stats.proofs.BootRefused.{refused_boot}
 use Rattle.envoy_stats.proofs.replay.replay.Goals as goal
 
 pub finish-requires : goal.finish-requires
-finish-requires g c =
-    ready_small g.F.S.Source.left g.F.S.Source.origin g.F.S.Source.faults (g.F.Shelf.holds c.load.new.shelf) (map string_bytes c.args.files.now) _ _ c.in-Ok.boot.config c.in-Ok-prepare.ready c.in-Ok-prepare.ensures
+finish-requires g c = ready_small g.F.Shelf.state g.F.S.Source.state _ _ _ _ _ c.in-Ok-prepare.ready c.in-Ok-prepare.ensures
 
-pub returns-in-Ok-prepare-clause-replayed : goal.returns-in-Ok-prepare-clause-replayed
-returns-in-Ok-prepare-clause-replayed g c =
-    let held = g.F.Shelf.holds c.args.shelf.now in
-    replays_of g.F.S.Source.left g.F.S.Source.origin g.F.S.Source.faults held c.args.boot.now (map string_bytes c.args.files.now) _ _ _ _ _ _ _ _ _ c.in-Ok.boot c.in-Ok.ensures.loads c.in-Ok-prepare.ready
-    (ready_alike g.F.S.Source.left g.F.S.Source.origin g.F.S.Source.faults (g.F.Shelf.holds c.load.new.shelf) held c.in-Ok.ensures.contents (map string_bytes c.args.files.now) _ _ c.in-Ok.boot.config c.in-Ok-prepare.ready c.in-Ok-prepare.ensures)
-    c.finish.result.status c.finish.result.report c.finish.ensures.written c.finish.ensures.said
-
-pub returns-in-Ok-prepare-clause-usual : goal.returns-in-Ok-prepare-clause-usual
-returns-in-Ok-prepare-clause-usual g c = λ usual two.
-    let before : SinkState = record { written = g.O.Sink.written c.args.out.now; faults = g.O.Sink.faults c.args.out.now } in
-    let after : SinkState = record { written = g.O.Sink.written c.finish.new.out; faults = g.O.Sink.faults c.finish.new.out } in
-    absurd
-    (status_is_not g.F.S.Source.left g.F.S.Source.origin g.F.S.Source.faults (g.F.Shelf.holds c.load.new.shelf) (map string_bytes c.args.files.now) _ _ c.in-Ok.boot.config c.in-Ok-prepare.ready
-    c.in-Ok-prepare.ensures before after c.finish.result.status c.finish.result.report c.finish.ensures.written 2 (omega arith) (omega arith) two)
-
-pub returns-in-Ok-prepare-clause-status : goal.returns-in-Ok-prepare-clause-status
-returns-in-Ok-prepare-clause-status g c = λ one.
-    let before : SinkState = record { written = g.O.Sink.written c.args.out.now; faults = g.O.Sink.faults c.args.out.now } in
-    let after : SinkState = record { written = g.O.Sink.written c.finish.new.out; faults = g.O.Sink.faults c.finish.new.out } in
-    status_is_not g.F.S.Source.left g.F.S.Source.origin g.F.S.Source.faults (g.F.Shelf.holds c.load.new.shelf) (map string_bytes c.args.files.now) _ _ c.in-Ok.boot.config c.in-Ok-prepare.ready
-    c.in-Ok-prepare.ensures before after c.finish.result.status c.finish.result.report c.finish.ensures.written 1 (omega arith) (omega arith) one
+pub returns-in-Ok-prepare : goal.returns-in-Ok-prepare
+returns-in-Ok-prepare g c =
+    let see = sight g.K.PatternMaker.memory g.F.Shelf.holds g.F.Shelf.state g.F.S.Source.state g.O.Sink.state g.E.Sink.state in
+    let before = world c.args.maker.now c.args.shelf.now c.args.out.now c.args.err.now in
+    let after = world c.load.new.maker c.prepare.new.shelf c.finish.new.out c.finish.new.err in
+    let names = map string_bytes c.args.files.now in
+    replays_of see before after c.args.boot.now names c.load.new.shelf c.in-Ok.boot c.in-Ok.ensures.loads c.in-Ok-prepare.ready
+    (ready_alike g.F.Shelf.state g.F.S.Source.state (g.F.Shelf.holds c.load.new.shelf) (g.F.Shelf.holds c.args.shelf.now) c.in-Ok.ensures.contents names _ _ _
+    c.in-Ok-prepare.ready c.in-Ok-prepare.ensures) c.finish.result.status c.finish.result.report c.finish.ensures
 
 pub returns-in-Err : goal.returns-in-Err
 returns-in-Err g c =
+    let see = sight g.K.PatternMaker.memory g.F.Shelf.holds g.F.Shelf.state g.F.S.Source.state g.O.Sink.state g.E.Sink.state in
+    let before = world c.args.maker.now c.args.shelf.now c.args.out.now c.args.err.now in
+    let after = world c.load.new.maker c.load.new.shelf c.args.out.now c.refuse_boot.new.err in
     let has : c.in-Err.fault ≢ NoMemory = search rules in
-    record {
-      replayed = refused_boot g.F.S.Source.left g.F.S.Source.origin g.F.S.Source.faults (g.F.Shelf.holds c.args.shelf.now) c.args.boot.now (map string_bytes c.args.files.now) _ _ _ _ _ _ _
-          c.in-Err.fault c.refuse_boot.result c.in-Err.ensures.loads has c.refuse_boot.ensures.outcome c.refuse_boot.ensures.said c.refuse_boot.ensures.gave_up;
-      unwritten = λ none other. refl;
-      usual = λ usual two. c.in-Err.ensures.usual usual;
-      status = refusal_not_one c.in-Err.fault c.refuse_boot.result c.refuse_boot.ensures.outcome;
-    }
+    refused_boot see before after c.args.boot.now (map string_bytes c.args.files.now) c.in-Err.fault c.refuse_boot.result c.in-Err.ensures.loads has refl
+    c.in-Err.ensures.usual c.refuse_boot.ensures

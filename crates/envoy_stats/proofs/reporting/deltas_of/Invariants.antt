@@ -1,6 +1,6 @@
 use Rattle.std.proofs.Common.{◌≡◌, ◌+◌, ◌++◌, map, length}
 use Rattle.std.specs.List.{enumerate_from}
-use Rattle.envoy_stats.specs.Reporting.{delta_of, deltas}
+use Rattle.envoy_stats.specs.Report.{delta_of, deltas}
 use Rattle.envoy_stats.proofs.reporting.deltas_of.Given as goal
 
 abbrev pub invariant-loop-n : goal.invariant-loop-n

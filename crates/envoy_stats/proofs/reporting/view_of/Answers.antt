@@ -1,5 +1,5 @@
 use Rattle.std.proofs.Common.{◌∙◌}
-use Rattle.envoy_stats.proofs.Rows.{shows_sorted}
+use Rattle.envoy_stats.proofs.SortedRows.{shows_sorted}
 use Rattle.envoy_stats.proofs.reporting.view_of.Goals as goal
 
 pub returns : goal.returns

@@ -1,6 +1,6 @@
 use Rattle.std.proofs.Common.{◌∙◌, arith, ap}
 use Rattle.envoy_stats.specs.Output.{worker_line}
-use Rattle.envoy_stats.proofs.Lines.{one_line_more}
+use Rattle.envoy_stats.proofs.WorkerLines.{one_line_more}
 use Rattle.envoy_stats.proofs.writing.worker_lines.Goals as goal
 
 pub loop-verdicts-preserved : goal.loop-verdicts-preserved

@@ -1,0 +1,127 @@
+-- How a call ends, and what it leaves. This project's own.
+use Rattle.std.specs.Prelude.{◌≡◌, ◌≢◌, ◌⊎◌, ◌↔◌, ◌==◌, if◌then◌else◌, ℕ, Option, Some, None, Ok, Err, List, [], ◌∷◌, map, codes}
+use Rattle.std.specs.Io.KnownBytes.{Appends}
+use Rattle.std.specs.IoError.{error_kind}
+use Rattle.std.specs.declared.io.Error.{Error}
+use Rattle.std.specs.declared.io.ErrorKind.TheVariants.{OutOfMemory}
+use Rattle.stat_defs.specs.Faults.{Rose}
+use Rattle.stat_defs.specs.declared.reports.FileEnd.{FileEnd}
+use Rattle.stat_defs.specs.declared.reports.FileEnd.TheVariants.{Whole, BadLine, LineTooLong, TooBig, TooMany, ReadFault, NotOpened}
+use Rattle.stat_defs.specs.declared.reports.Report.{Report}
+use Rattle.stats_io.specs.States.{SinkState}
+use Rattle.stats_io.specs.Push.{AppendsFront, WritesWhole, WritesFront}
+use Rattle.boot_load.specs.declared.loading.Boot.{Boot}
+use Rattle.boot_load.specs.declared.fault.LoadFault.{LoadFault}
+use Rattle.boot_load.specs.declared.fault.LoadFault.TheVariants as unloaded
+use Rattle.boot_load.specs.Load.{Loads}
+use Rattle.boot_load.specs.BootLine.{boot_line}
+use Rattle.envoy_stats.specs.declared.status.TheConstants.{DONE, NO_COMMAND, BAD_BOOT, BAD_FILE, UNREADABLE, UNWRITTEN, NO_MEMORY}
+use Rattle.envoy_stats.specs.Command.{IsReplay, IsCommand}
+use Rattle.envoy_stats.specs.World.{World, Sight}
+use Rattle.envoy_stats.specs.FileRead.{FileRead, AreFiles}
+use Rattle.envoy_stats.specs.Report.{counting_rules, report_of}
+use Rattle.envoy_stats.specs.Output.{IsOutput}
+use Rattle.envoy_stats.specs.FaultLines.{usage, out_of_memory, said_of}
+
+-- the status of a file's end
+abbrev pub status_of : FileEnd → ℕ
+status_of Whole = DONE
+status_of (BadLine n) = BAD_FILE
+status_of (LineTooLong n) = BAD_FILE
+status_of TooBig = BAD_FILE
+status_of TooMany = BAD_FILE
+status_of ReadFault = UNREADABLE
+status_of NotOpened = UNREADABLE
+
+-- the status of the first file that was not read whole
+abbrev pub status_of_all : List FileEnd → ℕ
+status_of_all [] = DONE
+status_of_all (end ∷ ends) = if status_of end == DONE then status_of_all ends else status_of end
+
+-- the status of a bootstrap that was not loaded
+abbrev pub status_of_boot : LoadFault → ℕ
+status_of_boot unloaded.TooBig = BAD_BOOT
+status_of_boot (unloaded.Faulty fault) = BAD_BOOT
+status_of_boot (unloaded.BadPattern path) = BAD_BOOT
+status_of_boot unloaded.ReadFailed = UNREADABLE
+status_of_boot unloaded.NoMemory = NO_MEMORY
+
+-- where the sink's count did not rise, the text was written to it
+abbrev pub IsSaid : SinkState → SinkState → List ℕ → Type 0
+IsSaid before after text = ¬ Rose before.faults after.faults → Appends before.written after.written text
+
+-- All of the text was written, and the status is this one. Or a push failed behind a front of the text, which has a status of
+-- its own.
+abbrev pub IsWritten : SinkState → SinkState → List ℕ → ℕ → ℕ → Type 0
+IsWritten before after text whole status =
+    ((status ≡ whole) × WritesWhole before after text) ⊎ ((status ≡ UNWRITTEN) × WritesFront before after text)
+
+module _ {K F S O E : Type 0} (see : Sight K F S O E) (before after : World K F O E) where
+  -- the words are no command: all but `err` is as it was
+  pub record IsRefused : Type 0 where
+    pub maker : after.maker ≡ before.maker
+    pub shelf : after.shelf ≡ before.shelf
+    pub out : after.out ≡ before.out
+    pub said : IsSaid (see.err before.err) (see.err after.err) usage
+
+  module _ (boot : List ℕ) (names : List (List ℕ)) where
+    -- the bootstrap was loaded, with all its patterns, and then these files were read
+    pub record IsRunOver (loaded : Boot) (files : List FileRead) : Type 0 where
+      pub between : F
+      pub boot_loaded : Loads see.source (see.holds before.shelf boot) boot (see.shelf before.shelf) (see.shelf between)
+          (see.maker before.maker) (see.maker after.maker) (Ok loaded)
+      pub files_read : AreFiles see.shelf see.source (see.holds before.shelf) names between after.shelf files
+
+    -- the report is that of the files that were read, and their output was written
+    pub record IsReplayed (status : ℕ) (report : Report) : Type 0 where
+      pub loaded : Boot
+      pub files : List FileRead
+      pub run : IsRunOver loaded files
+      pub report_is : report ≡ report_of (counting_rules loaded.config) files
+      pub output : List ℕ
+      pub output_is : IsOutput loaded.config files output
+      pub written : IsWritten (see.out before.out) (see.out after.out) output (status_of_all (map (λ file. file.end.end) files)) status
+      pub said : IsSaid (see.err before.err) (see.err after.err) (said_of (map (λ file. file.end.end) files) status)
+
+    -- the bootstrap was not loaded, and nothing was written; for `-` no file was opened
+    pub record IsBootFault (status : ℕ) : Type 0 where
+      pub fault : LoadFault
+      pub cause : Loads see.source (see.holds before.shelf boot) boot (see.shelf before.shelf) (see.shelf after.shelf)
+          (see.maker before.maker) (see.maker after.maker) (Err fault)
+      pub no_want : fault ≢ unloaded.NoMemory
+      pub status_is : status ≡ status_of_boot fault
+      pub unwritten : after.out ≡ before.out
+      pub usual : boot ≡ codes "-" → after.shelf ≡ before.shelf
+      pub said : IsSaid (see.err before.err) (see.err after.err) (boot_line fault)
+
+    -- a front was written of the output of files that were read
+    pub record IsCutShort : Type 0 where
+      pub loaded : Boot
+      pub files : List FileRead
+      pub run : IsRunOver loaded files
+      pub output : List ℕ
+      pub output_is : IsOutput loaded.config files output
+      pub front : AppendsFront (see.out before.out).written (see.out after.out).written output
+
+    -- memory was wanting: nothing was written, or a front of such an output
+    pub record IsGivenUp (status : ℕ) : Type 0 where
+      pub status_is : status ≡ NO_MEMORY
+      pub written : (after.out ≡ before.out) ⊎ IsCutShort
+      pub said : IsSaid (see.err before.err) (see.err after.err) out_of_memory
+
+    -- a report comes where the bootstrap was loaded and memory was there
+    abbrev pub Replays : ℕ → Option Report → Type 0
+    Replays status None = IsBootFault status ⊎ IsGivenUp status
+    Replays status (Some report) = IsReplayed status report
+
+  -- what a call with these words does: the contract of `quiet_stats`
+  pub record IsCall (words : List (List ℕ)) (status : ℕ) (report : Option Report) : Type 0 where
+    pub usage_status : (status ≡ NO_COMMAND) ↔ ¬ IsCommand words
+    pub refused : ¬ IsCommand words → (report ≡ None) × IsRefused
+    pub replayed : (boot : List ℕ) → (names : List (List ℕ)) → IsReplay words boot names → Replays boot names status report
+
+-- the words could not be read: for want of memory, or since one of them is no text
+abbrev pub IsUnreadable : SinkState → SinkState → Error → ℕ → Type 0
+IsUnreadable before after fault status =
+    (error_kind fault ≡ OutOfMemory → (status ≡ NO_MEMORY) × IsSaid before after out_of_memory)
+    × (error_kind fault ≢ OutOfMemory → (status ≡ NO_COMMAND) × IsSaid before after usage)
