@@ -22,9 +22,10 @@ front_whole x y a b p =
 
 -- the first piece, and a front of the second
 pub front_next : (x y z : Option (List ℕ)) (a b : List ℕ) → Appends x y a → AppendsFront y z b → AppendsFront x z (a ++ b)
-front_next x y z a b p f =
-    (length a + f.0,
-    subst (λ (l : List ℕ). Appends x z l) (sym (take-append-add a b f.0)) (Appends-trans x y z a (take f.0 b) p f.1))
+front_next x y z a b p f = (
+  length a + f.0,
+  subst (λ (l : List ℕ). Appends x z l) (sym (take-append-add a b f.0)) (Appends-trans x y z a (take f.0 b) p f.1),
+)
 
 -- a push of the first piece failed
 pub cut_first : (x y : SinkState) (a b : List ℕ) → WritesFront x y a → WritesFront x y (a ++ b)
