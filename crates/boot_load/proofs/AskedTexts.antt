@@ -1,7 +1,7 @@
 -- The patterns that a configuration asks for, and those of its parts.
-use Rattle.std.proofs.Common.{ℕ, ◌≡◌, ◌<◌, List, [], ◌∷◌, ◌++◌, Some, Ok, Err, map, length, take, slice_get, zero, suc, refl, sym, ap, ◌∙◌, append_assoc, arith}
+use Rattle.std.proofs.Common.{ℕ, ◌≡◌, ◌<◌, ◌≤◌, ◌+◌, List, [], ◌∷◌, ◌++◌, Some, Ok, Err, map, length, take, slice_get, zero, suc, refl, sym, ap, ◌∙◌, append_assoc, length-append, add-one, arith}
 use Rattle.std.specs.List.{flat_map}
-use Rattle.std.proofs.lemmas.Option.{same_Some, none-some, slice_get_within, slice_get-get_or}
+use Rattle.std.proofs.lemmas.Option.{same_Some, none-some, slice_get-get_or}
 use Rattle.tag_rules.specs.Making.{Memory, after_making}
 use Rattle.tag_rules.specs.Building.{IsCutAt, Builds}
 use Rattle.tag_rules.proofs.Made.{refused_member}
@@ -31,6 +31,24 @@ record IsAt (all : List Asked) (path text : List ℕ) (texts_before : List (List
   order : all ≡ done ++ (record { path = path; text = text }) ∷ rest
   texts_are : texts_of done ≡ texts_before
 
+-- a text among the first ones of a list
+cut_texts : (ts rest : List (List ℕ)) (k : ℕ) (x : List ℕ) → k < length ts → slice_get (ts ++ rest) k ≡ Some x
+    → (more : List (List ℕ)) × (ts ≡ take k ts ++ x ∷ more) × (take k (ts ++ rest) ≡ take k ts)
+cut_texts [] rest k x few g = absurd (omega (arith, few))
+cut_texts (t ∷ ts) rest zero x few g = (ts, ap (λ y. y ∷ ts) (same_Some t x g), refl)
+cut_texts (t ∷ ts) rest (suc k) x few g =
+    let later = cut_texts ts rest k x (omega (arith, few)) g in
+    (later.0, ap (λ l. t ∷ l) later.1, ap (λ l. t ∷ l) later.2)
+
+-- a text behind the first ones of a list
+skip_texts : (ts rest : List (List ℕ)) (k : ℕ) (x : List ℕ) → length ts ≤ k → slice_get (ts ++ rest) k ≡ Some x
+    → (j : ℕ) × (k ≡ length ts + j) × (slice_get rest j ≡ Some x) × (take k (ts ++ rest) ≡ ts ++ take j rest)
+skip_texts [] rest k x some g = (k, omega arith, g, refl)
+skip_texts (t ∷ ts) rest zero x some g = absurd (omega (arith, some))
+skip_texts (t ∷ ts) rest (suc k) x some g =
+    let later = skip_texts ts rest k x (omega (arith, some)) g in
+    (later.0, omega (arith, later.1), later.2, ap (λ l. t ∷ l) later.3)
+
 module _ {A : Type 0} (texts : A → List (List ℕ)) where
   -- the texts that the members ask for
   texts-asked_by : (paths : List (List ℕ)) (members : List A) → length paths ≡ length members → texts_of (asked_by texts paths members) ≡ flat_map texts members
@@ -42,49 +60,70 @@ module _ {A : Type 0} (texts : A → List (List ℕ)) where
       ∙ ap (λ l. l ++ texts_of (asked_by texts paths members)) (texts-told_by path (texts member))
       ∙ ap (λ l. texts member ++ l) (texts-asked_by paths members (omega (arith, e)))
 
-  -- the member at place i asks for `done`, `text` and `rest`
-  at_place : (paths : List (List ℕ)) (members : List A) (i : ℕ) (path : List ℕ) (member : A) (done rest : List (List ℕ)) (text : List ℕ)
-      → length paths ≡ length members → slice_get paths i ≡ Some path → slice_get members i ≡ Some member → texts member ≡ done ++ text ∷ rest
-      → IsAt (asked_by texts paths members) path text (flat_map texts (take i members) ++ done)
-  at_place [] members i path member done rest text e p m asks = absurd (none-some path p)
-  at_place (q ∷ paths) [] i path member done rest text e p m asks = absurd (none-some member m)
-  at_place (q ∷ paths) (n ∷ members) zero path member done rest text e p m asks =
-      let here : told_by q (texts n) ≡ told_by path (done ++ text ∷ rest) = (λ i. told_by (same_Some q path p i) (texts (same_Some n member m i))) ∙ ap (told_by path) asks in
+  -- the text at a place among those of the member i is asked for under the path i
+  at_place : (paths : List (List ℕ)) (members : List A) (i at : ℕ) (path text : List ℕ) → length paths ≡ length members
+      → slice_get paths i ≡ Some path → slice_get (flat_map texts members) at ≡ Some text
+      → length (flat_map texts (take i members)) ≤ at → at < length (flat_map texts (take (suc i) members))
+      → IsAt (asked_by texts paths members) path text (take at (flat_map texts members))
+  at_place paths [] i at path text e p m begins ends = absurd (none-some text m)
+  at_place [] (n ∷ members) i at path text e p m begins ends = absurd (omega (arith, e))
+  at_place (q ∷ paths) (n ∷ members) zero at path text e p m begins ends =
+      let cut = cut_texts (texts n) (flat_map texts members) at text (omega (arith, ends, length-append (texts n) [])) m in
+      let here : told_by q (texts n) ≡ told_by path (take at (texts n) ++ text ∷ cut.0) =
+      (λ i. told_by (same_Some q path p i) (cut.1 i)) in
       record {
-        done = told_by path done;
-        rest = told_by path rest ++ asked_by texts paths members;
-        order = ap (λ l. l ++ asked_by texts paths members) (here ∙ told_by-append path done (text ∷ rest)) ∙ append_assoc (told_by path done) (told_by path (text ∷ rest)) (asked_by texts paths members);
-        texts_are = texts-told_by path done;
+        done = told_by path (take at (texts n));
+        rest = told_by path cut.0 ++ asked_by texts paths members;
+        order = ap (λ l. l ++ asked_by texts paths members) (here ∙ told_by-append path (take at (texts n)) (text ∷ cut.0))
+            ∙ append_assoc (told_by path (take at (texts n))) (told_by path (text ∷ cut.0)) (asked_by texts paths members);
+        texts_are = texts-told_by path (take at (texts n)) ∙ sym cut.2;
       }
-  at_place (q ∷ paths) (n ∷ members) (suc i) path member done rest text e p m asks =
-      let later = at_place paths members i path member done rest text (omega (arith, e)) p m asks in
+  at_place (q ∷ paths) (n ∷ members) (suc i) at path text e p m begins ends =
+      let skip = skip_texts (texts n) (flat_map texts members) at text
+      (omega (arith, begins, length-append (texts n) (flat_map texts (take i members)))) m in
+      let later = at_place paths members i skip.0 path text (omega (arith, e)) p skip.2
+      (omega (arith, begins, skip.1, length-append (texts n) (flat_map texts (take i members))))
+      (omega (arith, ends, skip.1, length-append (texts n) (flat_map texts (take (suc i) members)))) in
       record {
         done = told_by q (texts n) ++ later.done;
         rest = later.rest;
         order = ap (λ l. told_by q (texts n) ++ l) later.order ∙ sym (append_assoc (told_by q (texts n)) later.done _);
         texts_are = texts-append (told_by q (texts n)) later.done ∙ ap (λ l. l ++ texts_of later.done) (texts-told_by q (texts n))
-            ∙ ap (λ l. texts n ++ l) later.texts_are ∙ sym (append_assoc (texts n) (flat_map texts (take i members)) done);
+            ∙ ap (λ l. texts n ++ l) later.texts_are ∙ sym skip.3;
       }
 
   refused_at : (paths : List (List ℕ)) (members : List A) (old new : Memory) (i : ℕ) (path : List ℕ)
-      → length paths ≡ length members → slice_get paths i ≡ Some path → IsCutAt texts members old new i → IsPatternRefused (asked_by texts paths members) path old new
+      → length paths ≡ length members → slice_get paths i ≡ Some path → IsCutAt texts members old new i
+      → IsPatternRefused (asked_by texts paths members) path old new
   refused_at paths members old new i path e p is =
-      let cut = refused_member texts members old new i is in
-      let at = at_place paths members i path cut.member cut.done cut.rest cut.refused e p cut.place cut.asks in
+      let at = at_place paths members i is.cut.at path is.cut.refused e p is.cut.text is.begins (rw add-one at is.ends) in
       record {
         done = at.done;
-        text = cut.refused;
+        text = is.cut.refused;
         rest = at.rest;
         order = at.order;
-        made = cut.made ∙ ap (λ l. old.made ++ l) (sym at.texts_are);
-        refused = cut.refuses;
+        made = is.cut.made ∙ ap (λ l. old.made ++ l) (sym at.texts_are);
+        refused = is.cut.refuses;
       }
+
+  place_within : (members : List A) (i : ℕ) → length (flat_map texts (take i members)) < length (flat_map texts (take (suc i) members))
+      → i < length members
+  place_within [] i more = absurd (omega (arith, more))
+  place_within (n ∷ members) zero more = omega arith
+  place_within (n ∷ members) (suc i) more =
+      let later = place_within members i (omega (
+        arith,
+        more,
+        length-append (texts n) (flat_map texts (take i members)),
+        length-append (texts n) (flat_map texts (take (suc i) members)),
+      )) in
+      omega (arith, later)
 
   -- the member whose pattern is bad has a path
   pub has_path : {B : Type 0} (paths : List (List ℕ)) (members : List A) (setting : B) (old new : Memory) (fault : TagFault)
       → length paths ≡ length members → Builds texts members setting old new (Err fault) → HasPathIn paths fault
-  has_path paths members setting old new (tag.BadPattern i) e cut =
-      let within : i < length members = slice_get_within members i _ (refused_member texts members old new i cut).place in
+  has_path paths members setting old new (tag.BadPattern i) e is =
+      let within : i < length members = place_within members i (omega (arith, is.begins, rw add-one at is.ends)) in
       (_, slice_get-get_or paths i [] (omega (arith, e, within)))
   has_path paths members setting old new tag.NoMemory e built = tt
 

@@ -14,7 +14,7 @@ use Rattle.stats_io.specs.Open.{IsUnpulled}
 use Rattle.stats_io.specs.Told.{MayBe}
 use Rattle.stats_io.proofs.Pieces.{kept_consumes}
 use Rattle.std.specs.Io.KnownBytes.{Keeps}
-use Rattle.event_script.specs.declared.pulling.TheConstants.{MAX_FILE_BYTES}
+use Rattle.event_script.specs.declared.limits.TheConstants.{MAX_FILE_BYTES}
 use Rattle.event_script.specs.Run.{IsRun}
 use Rattle.counter_store.specs.Counting.{Rules, History, verdicts}
 use Rattle.envoy_stats.specs.WorkerEnd.{IsOpened, HasCause}

@@ -1,19 +1,21 @@
 -- A file that is being read and applied.
-use Rattle.std.proofs.Common.{◌≡◌, ◌<◌, ◌≤◌, ◌+◌, ◌^◌, ◌==◌, ℕ, Bool, true, false, cond, Option, None, Some, List, [], ◌∷◌, ◌++◌, length, map, fold, refl, sym, ap, ◌∙◌, arith, add-zero, length-append}
+use Rattle.std.proofs.Common.{◌≡◌, ◌<◌, ◌≤◌, ◌+◌, ◌^◌, ◌==◌, ℕ, Bool, true, false, cond, Option, None, Some, Ok, List, [], ◌∷◌, ◌++◌, length, map, fold, refl, sym, ap, ◌∙◌, arith, length-append}
 use Rattle.std.proofs.lemmas.List.Sums.{fold-append}
 use Rattle.std.proofs.lemmas.List.{append-nil, append_assoc, map-append, length-map}
 use Rattle.std.proofs.lemmas.List.FromFn.{length-enumerate_from}
-use Rattle.std.proofs.KnownBytes.{Consumes-nil}
 use Rattle.std.specs.List.{enumerate_from}
 use Rattle.stat_defs.specs.declared.events.Event.{Event}
 use Rattle.stat_defs.specs.declared.events.Event.TheVariants.{Inc, Gauge, Rec, SetText, OpenScope, Release}
 use Rattle.stat_defs.specs.declared.history.Verdict.{Verdict}
 use Rattle.stat_defs.specs.declared.history.Verdict.TheVariants.{Accepted, Opened, Released, LabelTaken, NoScope, Rejected, OverLimit, NoRoom}
 use Rattle.stats_io.specs.States.{SourceState}
-use Rattle.event_script.specs.declared.pulling.TheConstants.{MAX_FILE_BYTES}
+use Rattle.event_script.specs.declared.limits.TheConstants.{MAX_FILE_BYTES}
 use Rattle.event_script.specs.Grammar.{IsLawful}
-use Rattle.event_script.specs.Reading.{Reading, Moves}
-use Rattle.event_script.proofs.Filling.{moves_trans}
+use Rattle.event_script.specs.Reader.{Reading, Moves}
+use Rattle.event_script.specs.Answer.{IsAnswer}
+use Rattle.event_script.specs.declared.step.Step.TheVariants as step
+use Rattle.event_script.proofs.AnswerStep.{moves_none}
+use Rattle.event_script.proofs.Moves.{moves_trans}
 use Rattle.counter_store.specs.Counting.{Rules, History, IsNamed, meant, judge, with_counter, names_with, names_after, counters, verdict_of, judged, verdicts, units, tally}
 
 -- a lawful increment has a local name
@@ -82,50 +84,35 @@ pub record SoFar {S : Type 0} (state : S → SourceState) (init now : Reading S)
   pub verdicts_are : given ≡ verdicts earlier.rules earlier.events events
   pub few : length events + 1 ≤ now.number
   pub bound : now.number ≤ MAX_FILE_BYTES + 1
-  pub first : now.first_faults ≡ init.first_faults
-  pub origin : (state now.source).origin ≡ (state init.source).origin
 
 module _ {S : Type 0} (state : S → SourceState) where
-  moves_none : (r : Reading S) → Moves state r r [] []
-  moves_none r = record {
-    consumed = Consumes-nil (state r.source).left;
-    taken = sym (add-zero r.taken);
-    given = sym (add-zero r.given);
-    follows = λ more last may. may;
-    answers = λ more last others end may comes. comes;
-  }
-
   pub so_far_none : (init : Reading S) (earlier : History) (given : List Verdict) → init.number ≡ 1 → given ≡ [] → SoFar state init init earlier earlier given
   so_far_none init earlier given one none_given = record {
     got = [];
     events = [];
-    moves = moves_none init;
+    moves = moves_none state init;
     applied = λ i. record earlier { events = sym (append-nil earlier.events) i };
     verdicts_are = none_given;
     few = omega (arith, one);
     bound = omega (arith, one);
-    first = refl;
-    origin = refl;
   }
 
   -- one event more
-  pub so_far_more : (init old new : Reading S) (earlier later latest : History) (given : List Verdict) (verdict : Verdict) → SoFar state init old earlier later given
-      → (event : Event) (got : List ℕ) → Moves state old new got (event ∷ []) → old.number < new.number → new.number ≤ MAX_FILE_BYTES + 1 → new.first_faults ≡ old.first_faults → (state new.source).origin ≡ (state old.source).origin
+  pub so_far_more : (init old new : Reading S) (earlier later latest : History) (given : List Verdict) (verdict : Verdict)
+      → SoFar state init old earlier later given → (event : Event) → IsAnswer state old new (Ok (step.Event event))
       → verdict ≡ verdict_of later.rules (counters later.rules later.events) event → latest ≡ record later { events = later.events ++ event ∷ [] }
       → SoFar state init new earlier latest (given ++ verdict ∷ [])
-  so_far_more init old new earlier later latest given verdict so event got step on bound first origin is_verdict is_applied = record {
-    got = so.got ++ got;
+  so_far_more init old new earlier later latest given verdict so event answer is_verdict is_applied = record {
+    got = so.got ++ answer.got;
     events = so.events ++ (event ∷ []);
-    moves = moves_trans state init old new so.got got so.events (event ∷ []) so.moves step;
+    moves = moves_trans state init old new so.got answer.got so.events (event ∷ []) so.moves answer.moves;
     applied = is_applied ∙ ap {A = History} {B = History} (λ h. record h { events = h.events ++ event ∷ [] }) so.applied
         ∙ ap {B = History} (λ es. record earlier { events = es }) (append_assoc earlier.events so.events (event ∷ []));
     verdicts_are =
         (λ i. so.verdicts_are i ++ (is_verdict ∙ ap (λ h. verdict_of h.rules (counters h.rules h.events) event) so.applied) i ∷ [])
         ∙ sym (verdicts_push earlier.rules earlier.events so.events event);
-    few = omega (arith, so.few, on, length-append so.events (event ∷ []));
-    bound = bound;
-    first = first ∙ so.first;
-    origin = origin ∙ so.origin;
+    few = omega (arith, so.few, answer.onward, length-append so.events (event ∷ []));
+    bound = answer.short;
   }
 
   -- the events behind the earlier ones are few

@@ -6,7 +6,7 @@ use Rattle.stat_defs.specs.declared.events.Event.{Event}
 use Rattle.stat_defs.specs.declared.reports.FileEnd.TheVariants.{ReadFault, NotOpened}
 use Rattle.stats_io.specs.States.{SourceState, ShelfState}
 use Rattle.event_script.specs.Run.{IsRun}
-use Rattle.event_script.specs.declared.pulling.TheConstants.{MAX_FILE_BYTES}
+use Rattle.event_script.specs.declared.limits.TheConstants.{MAX_FILE_BYTES}
 use Rattle.counter_store.specs.Counting.{History, verdicts}
 use Rattle.envoy_stats.specs.FileRead.{FileRead, IsFile, AreFiles, all_events}
 use Rattle.envoy_stats.specs.Report.{taken_at, verdicts_behind}

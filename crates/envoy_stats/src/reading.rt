@@ -1,7 +1,7 @@
 //! Files that are read and applied, one after another.
 ghost use Rattle.std.specs.Prelude.{◌≡◌, ◌≤◌, ◌<◌, ◌+◌, ◌*◌, ◌^◌, ◌++◌, ◌∷◌, [], ℕ, List, Ok, IfOk, OnOk, MatchResult, length, map, string_bytes};
-ghost use Rattle.event_script.specs.Steps.{Answers};
-ghost use Rattle.event_script.specs.declared.pulling.TheConstants as limits;
+ghost use Rattle.event_script.specs.Answer.{TellsEnd};
+ghost use Rattle.event_script.specs.declared.limits.TheConstants as limits;
 ghost use Rattle.envoy_stats.specs.Report.{taken_at};
 ghost use Rattle.envoy_stats.specs.FileRun.{IsSourceRun, IsFileRun, AreRuns};
 
@@ -27,7 +27,7 @@ pub struct Runs {
 
 // The event of a step, or the end of the file.
 fn event_or_end(step: Step) -> Result<Event, FileEnd>
-    ensures { MatchResult result (λ event. step ≡ Step.Event event) (λ end. Answers (Ok step) end) }
+    ensures { MatchResult result (λ event. step ≡ Step.Event event) (λ end. TellsEnd (Ok step) end) }
 {
     match step {
         Step::Event(event) => Ok(event),

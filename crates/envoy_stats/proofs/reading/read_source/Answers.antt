@@ -14,15 +14,14 @@ apply-requires-clause-room g c =
 
 pub loop-lines-preserved : goal.loop-lines-preserved
 loop-lines-preserved g c =
-    let moved = rw c.in-Ok.ensures at c.in_ok-step.ensures.moved in
     rw c.in_ok-push-in-Ok.ensures.items
-    (so_far_more g.S.Source.state c.in_ok-lines.lines c.loop-lines.lines c.next.new.self c.args.counters.now c.loop-lines.counters c.apply.new.self c.loop-lines.verdicts.items
-    c.in_ok-verdict-in-Ok.verdict c.loop-lines.invariant c.in-Ok.event moved.0 moved.1 (rw c.in-Ok.ensures at c.in_ok-step.ensures.event) c.in_ok-step.ensures.bound
-    c.in_ok-step.ensures.first c.in_ok-step.ensures.origin c.in_ok-verdict-in-Ok.ensures.verdict c.in_ok-verdict-in-Ok.ensures.applied)
+    (so_far_more g.S.Source.state c.in_ok-lines.lines c.loop-lines.lines c.next.new.self c.args.counters.now c.loop-lines.counters c.apply.new.self
+    c.loop-lines.verdicts.items c.in_ok-verdict-in-Ok.verdict c.loop-lines.invariant c.in-Ok.event (rw c.in-Ok.ensures at c.in_ok-step.ensures.answer)
+    c.in_ok-verdict-in-Ok.ensures.verdict c.in_ok-verdict-in-Ok.ensures.applied)
 
 pub returns-in-Err : goal.returns-in-Err
 returns-in-Err g c =
     read_all g.S.Source.state c.args.source c.in_ok-lines.lines c.loop-lines.lines c.next.new.self c.args.counters.now c.loop-lines.counters _
-    c.loop-lines.invariant c.in_ok-lines.ensures (Ok c.in_ok-step.step) c.in-Err.ensures c.in_ok-step.ensures.moved.0 c.in_ok-step.ensures.moved.1
-    c.in_ok-step.ensures.ended c.in_ok-step.ensures.by c.in_ok-step.ensures.explained c.in_ok-step.ensures.whole c.in_ok-step.ensures.first c.in_ok-step.ensures.origin
-    (rw c.taken.ensures at c.taken_at-taken.ensures) c.fault_count-faults_before.ensures (c.fault_count.ensures ∙ ap (λ s. (g.S.Source.state s).faults) c.into_source-source.ensures)
+    c.loop-lines.invariant c.in_ok-lines.ensures (Ok c.in_ok-step.step) c.in-Err.ensures c.in_ok-step.ensures.answer
+    (rw c.taken.ensures at c.taken_at-taken.ensures) c.fault_count-faults_before.ensures
+    (c.fault_count.ensures ∙ ap (λ s. (g.S.Source.state s).faults) c.into_source-source.ensures)

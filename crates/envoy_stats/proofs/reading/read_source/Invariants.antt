@@ -1,5 +1,5 @@
 use Rattle.std.proofs.Common.{◌+◌, ◌-◌}
-use Rattle.event_script.specs.declared.pulling.TheConstants.{MAX_FILE_BYTES}
+use Rattle.event_script.specs.declared.limits.TheConstants.{MAX_FILE_BYTES}
 use Rattle.envoy_stats.proofs.SoFar.{SoFar}
 use Rattle.envoy_stats.proofs.reading.read_source.Given as goal
 
