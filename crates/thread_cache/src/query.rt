@@ -1,6 +1,5 @@
 //! Keys as they are looked up.
-ghost use Rattle.std.specs.Prelude.{◌≡◌, ◌≤◌, ◌++◌, length, IfOk, [], vec_capacity};
-ghost use Rattle.std.specs.Hash as fed;
+ghost use Rattle.std.specs.Prelude.{◌≡◌, ◌≤◌, ◌∷◌, length, IfOk, [], vec_capacity};
 ghost use Rattle.std.specs.Cmp.Rules.{hashing};
 ghost use Rattle.std.proofs.Common.{rules};
 ghost use Rattle.stat_defs.specs.declared.ids.Kind.TheVariants.{Counter};
@@ -23,15 +22,13 @@ pub(crate) struct CacheKey {
 
 // Label and name are hashed, each as a whole. A name has few kinds and modes.
 impl Hash for CacheKey {
-    ghost hash_input = { λ key. fed.str key.label.items ++ fed.str key.name.items };
+    ghost hash_input = { λ key. key.label.items ∷ key.name.items ∷ [] };
 
     ghost respects_eq = { Prim.search (hashing, rules) };
 
     fn hash<H: Hasher>(&self, state: &mut H) {
         state.write(&self.label);
-        state.write_u8(255);
         state.write(&self.name);
-        state.write_u8(255);
     }
 }
 
