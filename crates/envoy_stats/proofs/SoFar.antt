@@ -15,12 +15,13 @@ use Rattle.event_script.specs.Reader.{Reading, Moves}
 use Rattle.event_script.specs.Answer.{IsAnswer}
 use Rattle.event_script.specs.declared.step.Step.TheVariants as step
 use Rattle.event_script.proofs.AnswerStep.{moves_none}
+use Rattle.event_script.proofs.Written.{lawful_event}
 use Rattle.event_script.proofs.Moves.{moves_trans}
 use Rattle.counter_store.specs.Counting.{Rules, History, IsNamed, meant, judge, with_counter, names_with, names_after, counters, verdict_of, judged, verdicts, units, tally}
 
 -- a lawful increment has a local name
 pub named : (event : Event) → IsLawful event → IsNamed event
-named (Inc label name n) lawful = lawful.1
+named (Inc label name n) lawful = (lawful_event (Inc label name n) lawful).1
 named (Gauge label name mode op n) lawful = tt
 named (Rec label name v) lawful = tt
 named (SetText label name text) lawful = tt
