@@ -7,9 +7,9 @@ mod listing;
 mod parents;
 mod slots;
 mod tables;
+#[cfg(test)]
+mod tests;
 mod workers;
-
-
 
 pub use half::{Half, MAX_HALF_COUNT};
 pub use laws::{half_law, thread_law};

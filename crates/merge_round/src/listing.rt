@@ -10,12 +10,7 @@ use stat_defs::{BinList, MetricId, NoMemory, Part};
 use std::alloc::Global;
 
 // One part more, where there are bins.
-fn put_part(
-    parts: &mut Vec<Part>,
-    worker: u32,
-    id: u32,
-    bins: BinList,
-) -> Result<(), NoMemory>
+fn put_part(parts: &mut Vec<Part>, worker: u32, id: u32, bins: BinList) -> Result<(), NoMemory>
     ensures { OnOk result ((all : ℕ → ℕ → List BinCount) → all worker id ≡ bins → ArePartsBefore all worker id parts.old.items
         → ArePartsBefore all worker (id + 1) parts.new.items) }
 {

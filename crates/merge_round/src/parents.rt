@@ -6,8 +6,8 @@ ghost use Rattle.merge_round.specs.Rounds.{parts_in, interval_in, cumulative_in,
 ghost use Rattle.merge_round.specs.Slots.{IsReadyFor};
 
 use crate::half::Half;
-use crate::tables::Tables;
 use crate::listing::parts_of;
+use crate::tables::Tables;
 use crate::workers::{clear_workers, merge_worker, warm_worker};
 use stat_defs::{BinList, MetricId, NoMemory, Part};
 use std::alloc::Global;
@@ -56,12 +56,7 @@ impl Parents {
 
     /// Adds the half's values to this worker's part of the round, to the round's interval and to the cumulative bins, and leaves
     /// the half without values. After want of memory both are as they were.
-    pub fn take_half(
-        &mut self,
-        alloc: Global,
-        worker: u32,
-        half: &mut Half,
-    ) -> Result<(), NoMemory>
+    pub fn take_half(&mut self, alloc: Global, worker: u32, half: &mut Half) -> Result<(), NoMemory>
         requires { self.old.count + half.old.count ≤ MAX_COUNT }
         ensures part { OnOk result (parts_in self.new ≡ with_part (parts_in self.old) worker (bins_in half.old)) }
         ensures interval { OnOk result (interval_in self.new ≡ both (interval_in self.old) (bins_in half.old)) }
@@ -85,6 +80,14 @@ impl Parents {
         self.count += half.count;
         half.clear();
         Ok(())
+    }
+
+    /// The number of values of all rounds.
+    pub fn count(&self) -> u64
+        ensures count { result ≡ self.now.count }
+        ensures limit { result ≤ MAX_COUNT }
+    {
+        self.count
     }
 
     /// The bins of a histogram in the round, of all workers together.

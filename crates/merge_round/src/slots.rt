@@ -170,11 +170,7 @@ pub(crate) fn clear_all(slots: &mut [Option<Bins>])
 }
 
 // The bins at a place.
-pub(crate) fn pairs_at(
-    alloc: Global,
-    slots: &[Option<Bins>],
-    i: usize,
-) -> Result<BinList, NoMemory>
+pub(crate) fn pairs_at(alloc: Global, slots: &[Option<Bins>], i: usize) -> Result<BinList, NoMemory>
     ensures { IfOk result (λ list. list ≡ bins_at slots.now i) }
 {
     if i < slots.len() {
