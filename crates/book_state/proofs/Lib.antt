@@ -1,21 +1,21 @@
 pub mod Lists
-mod Computed
-mod Waiting
-mod WorkedParts
-mod LiveScopes
-mod Listing
-mod Changing
+pub mod Computed
+pub mod Waiting
+pub mod WorkedParts
+pub mod LiveScopes
+pub mod Listing
+pub mod Changing
 pub mod Releasing
-mod Members
-mod Numbering
-mod Moving
-mod Moves
-mod Finds
+pub mod Members
+pub mod Numbering
+pub mod Moving
+pub mod Moves
+pub mod Finds
 pub mod Safety
 pub mod Staying
 pub mod Growing
 pub mod Entering
-mod Storing
-mod Applying
-mod Stepping
-mod Naming
+pub mod Storing
+pub mod Applying
+pub mod Stepping
+pub mod Naming

@@ -243,6 +243,16 @@ impl BookState {
         self.past = self.past.and(entry);
         Ok(())
     }
+
+    /// Applies the entry of a sweep, which takes no memory. Its time is linear in the metrics that are not gone.
+    pub fn sweep(&mut self, entry: &Entry)
+        requires next { IsNext self.old entry.now }
+        requires call { entry.now.call ≡ call.Sweep }
+        ensures { self.new ≡ after_entry self.old entry.now }
+    {
+        self.metrics.sweep(least_tag(&self.seats));
+        self.past = self.past.and(entry);
+    }
 }
 
 impl BookState {
@@ -346,16 +356,6 @@ impl BookState {
     {
         let tag = self.released.len() as u64;
         set_tag(&mut self.seats, entry.seat, tag);
-        self.past = self.past.and(entry);
-    }
-
-    // Its time is linear in the metrics that are not gone.
-    fn sweep(&mut self, entry: &Entry)
-        requires next { IsNext self.old entry.now }
-        requires call { entry.now.call ≡ call.Sweep }
-        ensures { self.new ≡ after_entry self.old entry.now }
-    {
-        self.metrics.sweep(least_tag(&self.seats));
         self.past = self.past.and(entry);
     }
 

@@ -2,6 +2,7 @@
 use Rattle.std.proofs.Common.{◌≡◌, ◌≢◌, ℕ, zero, suc, ◌+◌, ◌<◌, ◌≤◌, ◌==◌, ◌&&◌, Bool, true, false, cond, Some, List, [], ◌∷◌, ◌++◌, slice_get, replicate, refl, ap, sym, ◌∙◌, subst, arith}
 use Rattle.std.proofs.lemmas.Bool.Decides.{nat_tests}
 use Rattle.std.specs.Option.{IsSomeAnd}
+use Rattle.stat_defs.specs.Books.{BookHistory}
 use Rattle.stat_defs.specs.declared.configs.Config.{Config}
 use Rattle.stat_defs.specs.declared.configs.ScopeSpec.{ScopeSpec}
 use Rattle.stat_defs.specs.declared.history.Call.{Call}
@@ -10,14 +11,14 @@ use Rattle.stat_defs.specs.declared.history.Entry.{Entry}
 use Rattle.stat_defs.specs.declared.history.Reply.{Reply}
 use Rattle.stat_defs.specs.declared.history.Reply.TheVariants as reply
 use Rattle.stat_defs.specs.declared.history.Verdict.{Verdict}
-use Rattle.stat_book.specs.State.{NameRules, State, seat_of}
-use Rattle.stat_book.specs.Step.{effect, Works}
-use Rattle.stat_book.specs.Log.{empty, openings, replay_from, held_by}
-use Rattle.stat_book.specs.Calls.{BookView, rules_of, state_of, new_book, Logged, Answers, is_opening, openings_by}
-use Rattle.stat_book.proofs.Lists.{count_cons, count_push}
-use Rattle.stat_book.proofs.Growing.{left_seat, left_held, same_seats}
+use Rattle.book_state.specs.State.{NameRules, State, seat_of}
+use Rattle.book_state.specs.Step.{effect, Works}
+use Rattle.book_state.specs.Log.{empty, openings, replay_from, held_by}
+use Rattle.stat_book.specs.Calls.{rules_of, state_of, new_book, Logged, Answers, is_opening, openings_by}
+use Rattle.book_state.proofs.Lists.{count_cons, count_push}
+use Rattle.book_state.proofs.Growing.{left_seat, left_held, same_seats}
 
-module _ (old new : BookView) (by : ℕ) (c : Call) (r : Reply) (l : Logged old by c r new) where
+module _ (old new : BookHistory) (by : ℕ) (c : Call) (r : Reply) (l : Logged old by c r new) where
   pub state_after : state_of new ≡ effect (rules_of old) by c r (state_of old)
   state_after = l.step.after
 
@@ -27,7 +28,7 @@ module _ (old new : BookView) (by : ℕ) (c : Call) (r : Reply) (l : Logged old 
 
   pub other_holds : (seat : ℕ) → seat ≢ by → held_by (rules_of new) new.workers seat new.log ≡ held_by (rules_of old) old.workers seat old.log
   other_holds seat other =
-      ap (λ (book : BookView). held_by (rules_of book) book.workers seat book.log) l.logged ∙ left_held (rules_of old) old.workers seat old.log (record { seat = by; call = c; reply = r }) other
+      ap (λ (book : BookHistory). held_by (rules_of book) book.workers seat book.log) l.logged ∙ left_held (rules_of old) old.workers seat old.log (record { seat = by; call = c; reply = r }) other
 
   pub other_works : (seat : ℕ) → seat ≢ by → Works (state_of old) seat → Works (state_of new) seat
   other_works seat other works = subst (λ o. IsSomeAnd o (λ row. (row.ended ≡ false) × Unit {0})) (sym (other_seat_stays seat other)) works
@@ -36,7 +37,7 @@ module _ (old new : BookView) (by : ℕ) (c : Call) (r : Reply) (l : Logged old 
   pub openings_after : (seat : ℕ) → openings_by seat new.log ≤ openings_by seat old.log + 1
   openings_after seat =
       let e : Entry = record { seat = by; call = c; reply = r } in
-      let more = ap (λ (book : BookView). openings_by seat book.log) l.logged ∙ count_push (λ (entry : Entry). is_opening entry.call && entry.seat == seat) old.log e in
+      let more = ap (λ (book : BookHistory). openings_by seat book.log) l.logged ∙ count_push (λ (entry : Entry). is_opening entry.call && entry.seat == seat) old.log e in
       let one = at_most_one (is_opening c && by == seat) in
       omega (arith, more, one) where
         at_most_one : (t : Bool) → cond t 1 0 ≤ 1
@@ -55,11 +56,11 @@ release_seats rules by label _ s = refl
 seats_kept : (s t : State) (seat : ℕ) → s.seats ≡ t.seats → Works t seat → Works s seat
 seats_kept s t seat same works = subst (λ o. IsSomeAnd o (λ row. (row.ended ≡ false) × Unit {0})) (sym (same_seats s t seat same)) works
 
-pub opened_works : (old new : BookView) (by : ℕ) (label prefix : List ℕ) (v : Verdict) → Answers old by (call.OpenScope label prefix) v new → (seat : ℕ) → Works (state_of old) seat → Works (state_of new) seat
+pub opened_works : (old new : BookHistory) (by : ℕ) (label prefix : List ℕ) (v : Verdict) → Answers old by (call.OpenScope label prefix) v new → (seat : ℕ) → Works (state_of old) seat → Works (state_of new) seat
 opened_works old new by label prefix v a seat works =
     seats_kept (state_of new) (state_of old) seat (ap (λ (s : State). s.seats) a.2.step.after ∙ open_seats (rules_of old) by label prefix a.0 (state_of old)) works
 
-pub released_works : (old new : BookView) (by : ℕ) (label : List ℕ) (v : Verdict) → Answers old by (call.Release label) v new → (seat : ℕ) → Works (state_of old) seat → Works (state_of new) seat
+pub released_works : (old new : BookHistory) (by : ℕ) (label : List ℕ) (v : Verdict) → Answers old by (call.Release label) v new → (seat : ℕ) → Works (state_of old) seat → Works (state_of new) seat
 released_works old new by label v a seat works =
     seats_kept (state_of new) (state_of old) seat (ap (λ (s : State). s.seats) a.2.step.after ∙ release_seats (rules_of old) by label a.0 (state_of old)) works
 

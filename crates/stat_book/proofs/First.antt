@@ -1,61 +1,39 @@
 -- A new book, and the openings of the configured scopes.
-use Rattle.std.proofs.Common.{◌≡◌, ◌≢◌, ℕ, suc, ◌+◌, ◌<◌, ◌≤◌, ◌&&◌, ◌==◌, List, [], ◌∷◌, ◌++◌, true, false, None, length, map, take, get_or, replicate, slice_get, All, refl, ap, sym, ◌∙◌, subst, arith, inl, append_assoc, append-nil}
+use Rattle.std.proofs.Common.{◌≡◌, ◌≢◌, ℕ, zero, suc, ◌+◌, ◌*◌, ◌<◌, ◌≤◌, ◌&&◌, ◌==◌, List, [], ◌∷◌, ◌++◌, true, false, Option, Some, None, length, map, take, get_or, replicate, slice_get, All, refl, ap, sym, ◌∙◌, subst, arith, inl, append_assoc, append-nil}
 use Rattle.std.specs.List.{position_from, AllPairs}
-use Rattle.std.proofs.lemmas.List.{length-replicate, length-map, length-take, get_or-take}
+use Rattle.std.specs.FinMap as table
+use Rattle.std.specs.Ordering.{nat_cmp}
+use Rattle.std.proofs.lemmas.List.{length-map, length-take, get_or-take}
 use Rattle.std.proofs.lemmas.List.Sums.{count_by-le-length}
-use Rattle.std.proofs.lemmas.List.Elements.{All-nil, All-from_get_or}
+use Rattle.std.proofs.lemmas.List.Elements.{All-nil, All-cons, All-head, All-tail, All-from_get_or}
 use Rattle.std.proofs.lemmas.Slice.Eq.{bytes_eq-Decides}
-use Rattle.stat_defs.specs.Names.{IsScopePrefix}
+use Rattle.stat_defs.specs.Books.{BookHistory, releases_in, is_released}
+use Rattle.stat_defs.specs.Configs.{IsConfig, IsScopeSpec, AreScopes}
+use Rattle.stat_defs.specs.declared.configs.Config.{Config}
 use Rattle.stat_defs.specs.declared.configs.ScopeSpec.{ScopeSpec}
-use Rattle.stat_defs.specs.declared.configs.MatchSpec.{MatchSpec}
 use Rattle.stat_defs.specs.declared.configs.TagSpec.{TagSpec}
 use Rattle.stat_defs.specs.declared.configs.TheConstants.{MAX_SCOPES}
-use Rattle.stat_defs.specs.declared.history.Reply.TheVariants as reply
 use Rattle.stat_defs.specs.declared.history.Entry.{Entry}
-use Rattle.stat_book.specs.declared.book.SeatRow.{SeatRow}
-use Rattle.stat_book.specs.declared.limits.TheConstants.{MAX_WORKERS, MAX_OPENINGS}
-use Rattle.stat_book.specs.State.{NameRules, State, Scope, same_text}
-use Rattle.stat_book.specs.Scopes.{opened, live_at}
-use Rattle.stat_book.specs.Bearing.{IsBorne}
-use Rattle.stat_book.specs.Log.{empty, openings, replay_from, replay}
-use Rattle.stat_book.specs.Calls.{BookView, rules_of, state_of, openings_by, is_opening, empty_book}
-use Rattle.stat_book.specs.BookKept.{Stored, IsStored, IsKept, seat_row, seat_stored, released_in}
-use Rattle.stat_book.proofs.Lists.{not_some, not_true, all_at, map_some, get_map, position_none, map-replicate}
-use Rattle.stat_book.proofs.Growing.{runs_on, seats_stay}
-use Rattle.stat_book.proofs.Keeping.{state_with, released_push, one_opening}
-use Rattle.stat_book.proofs.Opening.{opening, live_is, scope_count, opened_allowed, opened_stored}
+use Rattle.symbol_table.specs.Table.{Table, total, uses_at, IsTable}
+use Rattle.book_state.specs.declared.limits.TheConstants.{MAX_WORKERS, MAX_OPENINGS, MAX_TOKENS}
+use Rattle.book_state.specs.State.{NameRules, State, Scope, live_scope, same_text, symbols_in}
+use Rattle.book_state.specs.Step.{effect}
+use Rattle.book_state.specs.Log.{empty, openings, replay_from, replay, Run}
+use Rattle.book_state.specs.Stored.{StateView, IsLawfulCall, drawing, after_entry}
+use Rattle.book_state.proofs.Lists.{not_some, not_true, all_at, map_some, get_map, position_none, count_cons}
+use Rattle.book_state.proofs.Growing.{replayed, runs_on}
+use Rattle.book_state.proofs.Entering.{same_replay_from, drawn}
+use Rattle.stat_book.specs.Appending.{first_entry}
+use Rattle.stat_book.specs.Calls.{rules_of, state_of, new_book, openings_by, is_opening, released_in}
+use Rattle.stat_book.specs.Symbols.{AreUses}
+use Rattle.stat_book.specs.BookKept.{IsKept}
+use Rattle.stat_book.proofs.Keeping.{tags_are}
 
-abbrev no_seats : SeatRow
-no_seats = record { tag = 0; ended = false }
-
-pub empty_kept : (tags : List TagSpec) (matcher : MatchSpec) (workers : ℕ) (seats : List SeatRow) → 1 ≤ workers → workers ≤ MAX_WORKERS → seats ≡ replicate workers no_seats
-    → IsKept (empty_book tags matcher workers) (record { scopes = []; metrics = []; released = []; seats = map seat_row seats })
-empty_kept tags matcher workers seats some few are = record {
-  some_workers = some;
-  few_workers = few;
-  legal = record { rest = []; begins = refl; seats = refl; steps = tt };
-  few_openings = λ seat. omega arith;
-  released = refl;
-  seats = length-replicate workers (record { tag = 0; held = []; ended = false });
-  state = record {
-    seats = ap (λ (rows : List SeatRow). map seat_row rows) are ∙ (map-replicate seat_row workers no_seats ∙ sym (map-replicate seat_stored workers (record { tag = 0; held = []; ended = false })));
-    releases = refl;
-    scopes = refl;
-    prefixes = All-nil (λ (scope : Scope). IsScopePrefix scope.prefix);
-    metrics = refl;
-    borne = All-nil (IsBorne 0);
-    bears = λ id scope at. absurd (not_some scope at);
-  };
-}
-
-abbrev pub first_opening : ℕ → ScopeSpec → Entry
-first_opening id scope = opening 0 scope.label scope.prefix (reply.Opened (record { 0 = id }))
-
-openings_push : (id : ℕ) (scopes : List ScopeSpec) (scope : ScopeSpec) → openings id (scopes ++ scope ∷ []) ≡ openings id scopes ++ first_opening (id + length scopes) scope ∷ []
-openings_push id [] scope = let e : id ≡ id + 0 = omega arith in ap (λ (n : ℕ). first_opening n scope ∷ []) e
+openings_push : (id : ℕ) (scopes : List ScopeSpec) (scope : ScopeSpec) → openings id (scopes ++ scope ∷ []) ≡ openings id scopes ++ first_entry (id + length scopes) scope ∷ []
+openings_push id [] scope = let e : id ≡ id + 0 = omega arith in ap (λ (n : ℕ). first_entry n scope ∷ []) e
 openings_push id (first ∷ scopes) scope =
     let e : suc id + length scopes ≡ id + length (first ∷ scopes) = omega arith in
-    ap (λ (log : List Entry). first_opening id first ∷ log) (openings_push (suc id) scopes scope ∙ ap (λ (n : ℕ). openings (suc id) scopes ++ first_opening n scope ∷ []) e)
+    ap (λ (log : List Entry). first_entry id first ∷ log) (openings_push (suc id) scopes scope ∙ ap (λ (n : ℕ). openings (suc id) scopes ++ first_entry n scope ∷ []) e)
 
 length-openings : (id : ℕ) (scopes : List ScopeSpec) → length (openings id scopes) ≡ length scopes
 length-openings id [] = refl
@@ -64,10 +42,11 @@ length-openings id (scope ∷ scopes) = ap suc (length-openings (suc id) scopes)
 abbrev scope_of_spec : ScopeSpec → Scope
 scope_of_spec scope = record { label = scope.label; prefix = scope.prefix; live = true }
 
-opened_all : (rules : NameRules) (s : State) (id : ℕ) (scopes : List ScopeSpec) → (replay_from rules s (openings id scopes)).scopes ≡ s.scopes ++ map scope_of_spec scopes
-opened_all rules s id [] = sym (append-nil s.scopes)
+opened_all : (rules : NameRules) (s : State) (id : ℕ) (scopes : List ScopeSpec) → replay_from rules s (openings id scopes) ≡ record s { scopes = s.scopes ++ map scope_of_spec scopes }
+opened_all rules s id [] = ap (λ (l : List Scope). record s { scopes = l }) (sym (append-nil s.scopes))
 opened_all rules s id (scope ∷ scopes) =
-    opened_all rules (record s { scopes = s.scopes ++ scope_of_spec scope ∷ [] }) (suc id) scopes ∙ append_assoc s.scopes (scope_of_spec scope ∷ []) (map scope_of_spec scopes)
+    opened_all rules (record s { scopes = s.scopes ++ scope_of_spec scope ∷ [] }) (suc id) scopes
+    ∙ ap (λ (l : List Scope). record s { scopes = l }) (append_assoc s.scopes (scope_of_spec scope ∷ []) (map scope_of_spec scopes))
 
 -- a label that is configured for no scope so far is not live
 no_label : (label : List ℕ) (scopes : List ScopeSpec) → All (λ (scope : ScopeSpec). scope.label ≢ label) scopes
@@ -75,53 +54,8 @@ no_label : (label : List ℕ) (scopes : List ScopeSpec) → All (λ (scope : Sco
 no_label label scopes different = position_none (λ (scope : Scope). scope.live && same_text scope.label label) 0 (map scope_of_spec scopes) (λ i scope at.
     let from = map_some scope_of_spec (slice_get scopes i) scope (sym (get_map scope_of_spec scopes i) ∙ at) in
     let other = all_at (λ (spec : ScopeSpec). spec.label ≢ label) scopes i from.0 different from.1 in
-    let no : same_text from.0.label label ≡ false = not_true (same_text from.0.label label) (λ same. other ((bytes_eq-Decides from.0.label label).0 same)) in
-    rw (from.2, no) refl)
-
-module _ (book : BookView) (held : Stored) (kept : IsKept book held) (first : book.log ≡ openings 0 book.scopes) (scope : ScopeSpec)
-    (different : All (λ (before : ScopeSpec). before.label ≢ scope.label) book.scopes) where
-  first_scopes : (state_of book).scopes ≡ map scope_of_spec book.scopes
-  first_scopes = ap (λ (log : List Entry). (replay (rules_of book) book.workers log).scopes) first ∙ opened_all (rules_of book) (empty book.workers) 0 book.scopes
-
-  first_count : length held.scopes ≡ length book.scopes
-  first_count = scope_count held (state_of book) kept.state ∙ (ap length first_scopes ∙ length-map book.scopes scope_of_spec)
-
-  pub first_free : live_at held.scopes scope.label ≡ None
-  first_free = sym (live_is held (state_of book) kept.state scope.label)
-      ∙ (ap (λ (scopes : List Scope). position_from (λ (s : Scope). s.live && same_text s.label scope.label) 0 scopes) first_scopes ∙ no_label scope.label book.scopes different)
-
-  pub first_log : (id : ℕ) (log : List Entry) → id ≡ length held.scopes → log ≡ book.log ++ first_opening id scope ∷ [] → log ≡ openings 0 (book.scopes ++ scope ∷ [])
-  first_log id log is grown =
-      let number : id ≡ 0 + length book.scopes = omega (arith, is, first_count) in
-      grown ∙ (ap (λ (log : List Entry). log ++ first_opening id scope ∷ []) first ∙ (ap (λ (n : ℕ). openings 0 book.scopes ++ first_opening n scope ∷ []) number ∙ sym (openings_push 0 book.scopes scope)))
-
-  pub first_kept : (id : ℕ) (scopes : List ScopeSpec) (log : List Entry) → length book.scopes ≤ MAX_SCOPES → IsScopePrefix scope.prefix → id ≡ length held.scopes
-      → scopes ≡ book.scopes ++ scope ∷ [] → log ≡ book.log ++ first_opening id scope ∷ []
-      → IsKept (record book { scopes = scopes; log = log }) (record held { scopes = held.scopes ++ opened scope.label scope.prefix ∷ [] })
-  first_kept id scopes log few lawful is more grown =
-      let e = first_opening id scope in
-      let s = state_of book in
-      let rules = rules_of book in
-      let may = opened_allowed held s kept.state rules 0 scope.label scope.prefix id (inl refl) first_free is in
-      let room : openings_by 0 book.log < MAX_OPENINGS =
-      let some = count_by-le-length (λ (entry : Entry). is_opening entry.call && entry.seat == 0) book.log in
-      let all = ap length first ∙ length-openings 0 book.scopes in
-      omega (arith, some, all, few) in
-      rw (more, grown) (record {
-        some_workers = kept.some_workers;
-        few_workers = kept.few_workers;
-        legal = record {
-          rest = [];
-          begins = first_log id (book.log ++ e ∷ []) is refl ∙ sym (append-nil (openings 0 (book.scopes ++ scope ∷ [])));
-          seats = refl;
-          steps = runs_on rules (empty book.workers) book.log e kept.legal.steps may;
-        };
-        few_openings = one_opening book.log e room kept.few_openings;
-        released = kept.released ∙ sym (released_push book.log e ∙ append-nil (released_in book.log));
-        seats = ap (λ (t : State). length t.seats) (state_with book e) ∙ (seats_stay rules 0 e.call e.reply s ∙ kept.seats);
-        state = subst (IsStored (record held { scopes = held.scopes ++ opened scope.label scope.prefix ∷ [] })) (sym (state_with book e))
-            (opened_stored held s kept.state rules 0 scope.label scope.prefix id lawful);
-      })
+    let un : same_text from.0.label label ≡ false = not_true (same_text from.0.label label) (λ same. other ((bytes_eq-Decides from.0.label label).0 same)) in
+    rw (from.2, un) refl)
 
 -- a configured scope has another label than those before it
 pub other_labels : (scopes : List ScopeSpec) (i : ℕ) (scope : ScopeSpec) → AllPairs (λ (one other : ScopeSpec). one.label ≢ other.label) scopes → i < length scopes → scope ≡ get_or scopes i scope
@@ -130,3 +64,116 @@ other_labels scopes i scope different within is = All-from_get_or (λ (before : 
     let first : k < i = omega (arith, below, length-take i scopes) in
     let other = different k i scope first within in
     rw get_or-take (subst (λ (s : ScopeSpec). (get_or scopes k scope).label ≢ s.label) (sym is) other))
+
+-- the state in which these scopes were opened
+abbrev pub first_state : List TagSpec → ℕ → List ScopeSpec → StateView
+first_state tags workers scopes = record { tags = tags; state = replay (drawing tags) workers (openings 0 scopes); released = [] }
+
+module _ (rules : NameRules) (workers : ℕ) (scopes : List ScopeSpec) where
+  pub first_scopes : (replay rules workers (openings 0 scopes)).scopes ≡ map scope_of_spec scopes
+  first_scopes = ap (λ (s : State). s.scopes) (opened_all rules (empty workers) 0 scopes)
+
+  pub first_count : length (replay rules workers (openings 0 scopes)).scopes ≡ length scopes
+  first_count = ap length first_scopes ∙ length-map scopes scope_of_spec
+
+  pub first_free : (label : List ℕ) → All (λ (before : ScopeSpec). before.label ≢ label) scopes → live_scope (replay rules workers (openings 0 scopes)) label ≡ None
+  first_free label different =
+      ap (λ (l : List Scope). position_from (λ (s : Scope). s.live && same_text s.label label) 0 l) first_scopes ∙ no_label label scopes different
+
+  pub first_log : (scope : ScopeSpec) → openings 0 scopes ++ first_entry (length (replay rules workers (openings 0 scopes)).scopes) scope ∷ [] ≡ openings 0 (scopes ++ scope ∷ [])
+  first_log scope =
+      let e : length (replay rules workers (openings 0 scopes)).scopes ≡ 0 + length scopes = omega (arith, first_count) in
+      ap (λ (n : ℕ). openings 0 scopes ++ first_entry n scope ∷ []) e ∙ sym (openings_push 0 scopes scope)
+
+pub first_step : (tags : List TagSpec) (workers : ℕ) (scopes : List ScopeSpec) (scope : ScopeSpec)
+    → after_entry (first_state tags workers scopes) (first_entry (length (first_state tags workers scopes).state.scopes) scope) ≡ first_state tags workers (scopes ++ scope ∷ [])
+first_step tags workers scopes scope =
+    let e = first_entry (length (first_state tags workers scopes).state.scopes) scope in
+    let state = sym (replayed (drawing tags) workers (openings 0 scopes) e) ∙ ap (λ (log : List Entry). replay (drawing tags) workers log) (first_log (drawing tags) workers scopes scope) in
+    λ i. record { tags = tags; state = state i; released = [] }
+
+-- the openings are steps
+first_run : (rules : NameRules) (workers : ℕ) (scopes : List ScopeSpec) (d : ScopeSpec) → AllPairs (λ (one other : ScopeSpec). one.label ≢ other.label) scopes
+    → (i : ℕ) → i ≤ length scopes → Run rules (empty workers) (openings 0 (take i scopes))
+first_run rules workers scopes d different zero within = tt
+first_run rules workers scopes d different (suc i) within =
+    let one = i + 1 in
+    let scope = get_or scopes i d in
+    let below : i < length scopes = omega (arith, within) in
+    let before = take i scopes in
+    let same : get_or scopes i scope ≡ scope = get_same scopes i d scope below in
+    let free = first_free rules workers before scope.label (other_labels scopes i scope different below (sym same)) in
+    let more = runs_on rules (empty workers) (openings 0 before) (first_entry (length (replay rules workers (openings 0 before)).scopes) scope)
+    (first_run rules workers scopes d different i (omega (arith, within))) (inl refl, free, refl) in
+    let taken : before ++ scope ∷ [] ≡ take (suc i) scopes = sym (take_next scopes i d below) in
+    subst (λ (l : List ScopeSpec). Run rules (empty workers) (openings 0 l)) taken
+    (subst (λ (log : List Entry). Run rules (empty workers) log) (first_log rules workers before scope) more) where
+      get_same : (xs : List ScopeSpec) (i : ℕ) (d d' : ScopeSpec) → i < length xs → get_or xs i d' ≡ get_or xs i d
+      get_same [] i d d' within = absurd (omega (arith, within))
+      get_same (x ∷ xs) zero d d' within = refl
+      get_same (x ∷ xs) (suc i) d d' within = get_same xs i d d' (omega (arith, within))
+
+      take_next : (xs : List ScopeSpec) (i : ℕ) (d : ScopeSpec) → i < length xs → take (suc i) xs ≡ take i xs ++ get_or xs i d ∷ []
+      take_next [] i d within = absurd (omega (arith, within))
+      take_next (x ∷ xs) zero d within = refl
+      take_next (x ∷ xs) (suc i) d within = ap (λ (l : List ScopeSpec). x ∷ l) (take_next xs i d (omega (arith, within)))
+
+first_lawful : (id : ℕ) (scopes : List ScopeSpec) → All IsScopeSpec scopes → All (λ (entry : Entry). IsLawfulCall entry.call) (openings id scopes)
+first_lawful id [] each = All-nil (λ (entry : Entry). IsLawfulCall entry.call)
+first_lawful id (scope ∷ scopes) each = All-cons (λ (entry : Entry). IsLawfulCall entry.call) (first_entry id scope) (openings (suc id) scopes) (All-head IsScopeSpec scope scopes each).prefix
+    (first_lawful (suc id) scopes (All-tail IsScopeSpec scope scopes each))
+
+first_released : (id : ℕ) (scopes : List ScopeSpec) → released_in (openings id scopes) ≡ []
+first_released id [] = refl
+first_released id (scope ∷ scopes) = first_released (suc id) scopes
+
+first_releases : (id : ℕ) (scopes : List ScopeSpec) → releases_in (openings id scopes) ≡ 0
+first_releases id [] = refl
+first_releases id (scope ∷ scopes) =
+    let one = count_cons (λ (entry : Entry). is_released entry.reply) (first_entry id scope) (openings (suc id) scopes) in
+    omega (arith, one, first_releases (suc id) scopes)
+
+taken_all : (xs : List ScopeSpec) → take (length xs) xs ≡ xs
+taken_all [] = refl
+taken_all (x ∷ xs) = ap (λ (l : List ScopeSpec). x ∷ l) (taken_all xs)
+
+pub taken_over : (i : ℕ) (xs : List ScopeSpec) → length xs ≤ i → take i xs ≡ xs
+taken_over zero [] within = refl
+taken_over (suc i) [] within = refl
+taken_over zero (x ∷ xs) within = absurd (omega (arith, within))
+taken_over (suc i) (x ∷ xs) within = ap (λ (l : List ScopeSpec). x ∷ l) (taken_over i xs (omega (arith, within)))
+
+pub no_uses : (uses : Table) → uses ≡ table.empty → IsTable uses → AreUses uses []
+no_uses uses is all = record {
+  table = all;
+  counts = λ n. subst (λ (u : Table). uses_at u n ≡ 0) (sym is) (ap (λ (o : Option (List ℕ × ℕ)). elim o as (λ x. ℕ) [ None ↦ 0 | Some entry ↦ entry.1 ]) (table.get-empty nat_cmp n));
+  tokens = λ at token n here. absurd (not_some (token, n) here);
+}
+
+pub first_kept : (config : Config) (workers : ℕ) → IsConfig config → 1 ≤ workers → workers ≤ MAX_WORKERS → (held : StateView) → held ≡ first_state config.tags workers config.scopes
+    → (uses : Table) → AreUses uses [] → total uses ≡ 0 → IsKept (new_book config workers) held uses
+first_kept config workers is some few held stored uses none zero_uses =
+    let book = new_book config workers in
+    let rules = rules_of book in
+    let root : ScopeSpec = record { label = []; prefix = [] } in
+    let state = opened_all rules (empty workers) 0 config.scopes in record {
+      some_workers = some;
+      few_workers = few;
+      legal = record {
+        rest = [];
+        begins = sym (append-nil (openings 0 config.scopes));
+        seats = refl;
+        steps = subst (λ (l : List ScopeSpec). Run rules (empty workers) (openings 0 l)) (taken_all config.scopes)
+            (first_run rules workers config.scopes root is.scopes.different (length config.scopes) (omega arith));
+      };
+      lawful = first_lawful 0 config.scopes is.scopes.each;
+      few_openings = λ seat.
+          let some = count_by-le-length (λ (entry : Entry). is_opening entry.call && entry.seat == seat) (openings 0 config.scopes) in
+          omega (arith, some, length-openings 0 config.scopes, is.scopes.few);
+      tags = ap (λ (v : StateView). v.tags) stored;
+      replay = ap (λ (v : StateView). v.state) stored ∙ same_replay_from (drawing config.tags) rules (drawn config.tags ∙ sym (tags_are book)) (empty workers) (openings 0 config.scopes);
+      released = ap (λ (v : StateView). v.released) stored ∙ sym (first_released 0 config.scopes);
+      releases = first_releases 0 config.scopes ∙ sym (ap (λ (s : State). s.releases) state);
+      symbols = subst (λ symbols. AreUses uses symbols) (sym (ap symbols_in state)) none;
+      few_uses = omega (arith, zero_uses);
+    }

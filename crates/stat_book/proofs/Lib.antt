@@ -1,14 +1,6 @@
-mod Lists
-mod Computed
-mod Waiting
-mod WorkedParts
-mod LiveScopes
-mod Listing
-mod Releasing
 mod Openings
+mod NamesStay
 mod Keeping
-mod Opening
-mod Closing
+mod Uses
 mod First
-pub mod Growing
 pub mod CallerLemmas

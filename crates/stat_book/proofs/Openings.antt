@@ -8,12 +8,12 @@ use Rattle.stat_defs.specs.declared.history.Reply.{Reply}
 use Rattle.stat_defs.specs.declared.history.Reply.TheVariants as reply
 use Rattle.stat_defs.specs.declared.history.Entry.{Entry}
 use Rattle.stat_defs.specs.declared.configs.ScopeSpec.{ScopeSpec}
-use Rattle.stat_book.specs.declared.limits.TheConstants.{MAX_WORKERS, MAX_OPENINGS}
-use Rattle.stat_book.specs.State.{NameRules, State, Seat}
-use Rattle.stat_book.specs.Step.{effect, on_seat, closed}
-use Rattle.stat_book.specs.Log.{empty, openings, is_sweep, fits_seat, replay_from, replay, Legal}
+use Rattle.book_state.specs.declared.limits.TheConstants.{MAX_WORKERS, MAX_OPENINGS}
+use Rattle.book_state.specs.State.{NameRules, State, Seat}
+use Rattle.book_state.specs.Step.{effect, on_seat, closed}
+use Rattle.book_state.specs.Log.{empty, openings, is_sweep, fits_seat, replay_from, replay, Legal}
 use Rattle.stat_book.specs.Calls.{is_opening, openings_by}
-use Rattle.stat_book.proofs.Lists.{both, length-change_at, count_cons}
+use Rattle.book_state.proofs.Lists.{both, length-change_at, count_cons}
 
 abbrev opens : List Entry → ℕ
 opens log = count_by (λ entry. is_opening entry.call) log

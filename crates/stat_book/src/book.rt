@@ -1,54 +1,52 @@
 //! The book: its state is the replay of its log.
-ghost use Rattle.std.specs.Prelude.{◌≡◌, ◌≢◌, ℕ, ◌≤◌, ◌<◌, length, All, IfOk, OnOk, OnErr, slice_get};
+ghost use Rattle.std.specs.Prelude.{◌≡◌, ℕ, ◌≤◌, ◌<◌, ◌++◌, ◌∷◌, [], true, false, None, length, drop, All, IfOk, OnOk, OnErr, slice_get};
 ghost use Rattle.std.specs.Option.{IsSomeAnd};
 ghost use Rattle.stat_defs.specs.Names.{IsScopePrefix};
 ghost use Rattle.stat_defs.specs.Configs.{IsConfig};
 ghost use Rattle.stat_defs.specs.declared.configs.TheConstants.{MAX_SCOPES};
 ghost use Rattle.stat_defs.specs.declared.history.Call.TheVariants as call;
-ghost use Rattle.stat_book.specs.declared.limits.TheConstants.{MAX_WORKERS, MAX_OPENINGS};
-ghost use Rattle.stat_book.specs.State.{symbols_in};
-ghost use Rattle.stat_book.specs.Step.{Works};
-ghost use Rattle.stat_book.specs.Log.{openings};
+ghost use Rattle.stat_defs.specs.declared.history.Reply.TheVariants as reply;
+ghost use Rattle.book_state.specs.declared.limits.TheConstants.{MAX_WORKERS, MAX_OPENINGS};
+ghost use Rattle.book_state.specs.State.{symbols_in, names_in, live_scope};
+ghost use Rattle.book_state.specs.Step.{Allowed, Working, Works, holds_text};
+ghost use Rattle.book_state.specs.Log.{is_sweep};
+ghost use Rattle.book_state.specs.Follows.{tag_of};
+ghost use Rattle.book_state.specs.Safe.{SymbolsSafe};
+ghost use Rattle.book_state.specs.Stored.{IsLawfulCall, after_entry};
 ghost use Rattle.stat_book.specs.Symbols.{AreUses};
-ghost use Rattle.stat_book.specs.Calls.{state_of, IsLegal, new_book, empty_book, with_first, Answers, openings_by, names_in};
+ghost use Rattle.stat_book.specs.Calls.{rules_of, state_of, IsLegal, new_book, Logged, Answers, openings_by, is_opening, released_in};
+ghost use Rattle.stat_book.specs.Appending.{first_entry, KeepsNames};
 
-use crate::metrics::MetricTable;
-use crate::scopes::ScopeTable;
+use book_state::BookState;
+use ghost_list::GhostList;
+use name_map::HashKey;
 use stat_defs::{
-    Call, Config, Entry, Metric, MetricId, NoMemory, Reply, ScopeId, ScopeSpec, Txt, Verdict,
+    Acked, Booked, Call, Config, Entry, List, Metric, MetricId, NoMemory, Reply, ScopeId,
+    ScopeSpec, Txt, Verdict,
 };
 use std::alloc::Global;
 use std::marker::Model;
 use symbol_table::SymbolTable;
 use tag_rules::{Matcher, TagRules};
 
-/// What the book stores of a worker's seat. What a seat holds, its caller keeps.
-#[derive(Clone, Copy)]
-struct SeatRow {
-    tag: u64,
-    ended: bool,
-}
-
 /// The scopes and metrics of a store, with the log of all calls and replies. Contracts see a book as its configuration, its
 /// number of workers and its log; its state is the replay of the log.
 #[derive(Drop)]
 pub struct Book {
-    rules: TagRules,
     matcher: Matcher,
-    first_scopes: Vec<ScopeSpec>,
     workers: u32,
-    scopes: ScopeTable,
-    metrics: MetricTable,
-    /// The scopes released so far, in order.
-    released: Vec<ScopeId>,
-    seats: Vec<SeatRow>,
+    state: BookState,
+    /// The tokens of the names that are not gone.
+    symbols: SymbolTable,
     log: Vec<Entry>,
+    /// The configuration, which contracts alone see.
+    config: GhostList<Config>,
 }
 
 impl Model for Book {
-    ghost use Rattle.stat_book.specs.Calls.{BookView};
+    ghost use Rattle.stat_defs.specs.Books.{BookHistory};
 
-    ghost Value = { BookView };
+    ghost Value = { BookHistory };
 
     ghost use Rattle.stat_book.specs.BookKept.{shown, Kept};
 
@@ -57,11 +55,20 @@ impl Model for Book {
     ghost invariant = { Kept };
 }
 
+impl Booked for Book {
+    ghost history = { λ book. book };
+
+    fn releases(&self) -> u64 {
+        self.state.released().len() as u64
+    }
+}
+
 impl Book {
     /// A book in which the store's seat has opened the configuration's scopes. The rules and the matcher are those that
-    /// were built from the configuration.
+    /// were built from the configuration, and the book's tables are hashed under the key.
     pub fn new(
         alloc: Global,
+        key: HashKey,
         config: &Config,
         rules: TagRules,
         matcher: Matcher,
@@ -73,11 +80,19 @@ impl Book {
         requires workers { (1 ≤ workers) × (workers ≤ MAX_WORKERS) }
         ensures { IfOk result (λ book. book ≡ new_book config.now workers) }
     {
-        let mut book = Book::empty(alloc, rules, matcher, workers)?;
+        let mut state = BookState::new(alloc, key, rules, workers)?;
+        let mut log = Vec::new(alloc);
         for scope in config.scopes.items() {
-            book.open_first(alloc, scope)?;
+            open_first(alloc, &mut state, &mut log, scope)?;
         }
-        Ok(book)
+        Ok(Book {
+            matcher,
+            workers,
+            state,
+            symbols: SymbolTable::new(alloc, key),
+            log,
+            config: GhostList::new().and(config),
+        })
     }
 
     /// Opens a scope, unless its label is live.
@@ -98,15 +113,12 @@ impl Book {
             label: label.clone()?,
             prefix: prefix.clone()?,
         };
-        self.log.reserve(1)?;
-        if self.scopes.live_id(label).is_some() {
-            let reply = Reply::LabelTaken;
-            self.log.push_reserved(Entry { seat, call, reply });
+        if self.live_scope(label).is_some() {
+            self.append(alloc, seat, call, Reply::LabelTaken)?;
             return Ok(Verdict::LabelTaken);
         }
-        let id = ScopeId(self.scopes.open(alloc, label, prefix)?);
-        let reply = Reply::Opened(id);
-        self.log.push_reserved(Entry { seat, call, reply });
+        let id = self.next_scope();
+        self.append(alloc, seat, call, Reply::Opened(id))?;
         Ok(Verdict::Opened(id))
     }
 
@@ -119,27 +131,62 @@ impl Book {
         let call = Call::Release {
             label: label.clone()?,
         };
-        self.log.reserve(1)?;
-        let Some(id) = self.scopes.live_id(label) else {
-            let reply = Reply::NoScope;
-            self.log.push_reserved(Entry { seat, call, reply });
-            return Ok(Verdict::NoScope);
-        };
-        self.released.reserve(1)?;
-        let borne = self.scopes.close(alloc, id, label);
-        self.released.push_reserved(ScopeId(id));
-        let tag = self.released.len() as u64;
-        self.metrics.lose_bearers(borne.as_slice(), tag);
-        let reply = Reply::Released(ScopeId(id));
-        self.log.push_reserved(Entry { seat, call, reply });
-        Ok(Verdict::Released(ScopeId(id)))
+        match self.live_scope(label) {
+            None => {
+                self.append(alloc, seat, call, Reply::NoScope)?;
+                Ok(Verdict::NoScope)
+            }
+            Some(id) => {
+                self.append(alloc, seat, call, Reply::Released(ScopeId(id)))?;
+                Ok(Verdict::Released(ScopeId(id)))
+            }
+        }
+    }
+
+    /// Replaces the text of a text readout that the seat holds.
+    pub fn set_text(
+        &mut self,
+        alloc: Global,
+        seat: u32,
+        id: MetricId,
+        text: &Txt,
+    ) -> Result<(), NoMemory>
+        requires holds { Working (state_of self.old) seat (λ row. holds_text id.0 row ≡ true) }
+        ensures step { OnOk result (Logged self.old seat (call.SetText id text.now) reply.TextSet self.new) }
+        ensures err { OnErr result (self.new ≡ self.old) }
+    {
+        let text = text.clone()?;
+        self.append(alloc, seat, Call::SetText { id, text }, Reply::TextSet)
+    }
+
+    /// Acknowledges all releases so far, of which the seat has not acknowledged all. The answer has the scopes that were
+    /// released since its last acknowledgement, in order. It takes time in these.
+    pub fn ack(&mut self, alloc: Global, seat: u32) -> Result<Acked, NoMemory>
+        requires due { Working (state_of self.old) seat (λ row. row.tag < (state_of self.old).releases) }
+        ensures step { IfOk result (λ acked. Logged self.old seat call.Ack (reply.Acked acked.tag) self.new) }
+        ensures scopes { IfOk result (λ acked. acked.scopes ≡ drop (tag_of (state_of self.old) seat) (released_in self.old.log)) }
+        ensures err { OnErr result (self.new ≡ self.old) }
+    {
+        let scopes = self.released_since(alloc, seat)?;
+        let tag = self.newest_tag();
+        self.append(alloc, seat, Call::Ack, Reply::Acked(tag))?;
+        Ok(Acked { tag, scopes })
+    }
+
+    /// Ends a seat, which then holds nothing.
+    pub fn end(&mut self, alloc: Global, seat: u32) -> Result<(), NoMemory>
+        requires works { Works (state_of self.old) seat }
+        ensures step { OnOk result (Logged self.old seat call.End reply.Ended self.new) }
+        ensures err { OnErr result (self.new ≡ self.old) }
+    {
+        self.append(alloc, seat, Call::End, Reply::Ended)
     }
 
     /// The metrics that are not gone, in the order of their numbers.
     pub fn names(&self, alloc: Global) -> Result<Vec<MetricId>, NoMemory>
         ensures { IfOk result (λ ids. ids.items ≡ names_in (state_of self.now)) }
     {
-        self.metrics.names(alloc)
+        self.state.names(alloc)
     }
 
     /// A metric that was made.
@@ -147,13 +194,15 @@ impl Book {
         requires { id.0 < length (state_of self.now).metrics }
         ensures { IsSomeAnd (slice_get (state_of self.now).metrics id.0) (λ row. row.metric ≡ result.now) }
     {
-        self.metrics.metric(id.0)
+        self.state.metric(id)
     }
 
     /// All calls so far, with their replies.
     pub fn log(&self) -> &[Entry]
         ensures log { result.now ≡ self.now.log }
         ensures legal { IsLegal self.now }
+        ensures safe { SymbolsSafe (rules_of self.now) self.now.workers self.now.log }
+        ensures lawful { All (λ entry. IsLawfulCall entry.call) self.now.log }
     {
         &self.log
     }
@@ -162,69 +211,98 @@ impl Book {
     pub fn symbols(&self) -> &SymbolTable
         ensures { AreUses result.now (symbols_in (state_of self.now)) }
     {
-        self.metrics.symbols()
+        &self.symbols
     }
 
     /// How many metrics were made.
     pub fn made(&self) -> u32
         ensures { result ≡ length (state_of self.now).metrics }
     {
-        self.metrics.made()
+        self.state.made()
     }
 }
 
 impl Book {
-    // A book without scopes.
-    fn empty(
-        alloc: Global,
-        rules: TagRules,
-        matcher: Matcher,
-        workers: u32,
-    ) -> Result<Book, NoMemory>
-        requires { (1 ≤ workers) × (workers ≤ MAX_WORKERS) }
-        ensures { IfOk result (λ book. book ≡ empty_book rules matcher workers) }
+    // The live scope of a label.
+    fn live_scope(&self, label: &Txt) -> Option<u32>
+        ensures { result ≡ live_scope (state_of self.now) label.now }
     {
-        let seat = SeatRow {
-            tag: 0,
-            ended: false,
-        };
-        let seats = vec![in alloc; seat; workers as usize]?;
-        Ok(Book {
-            rules,
-            matcher,
-            first_scopes: Vec::new(alloc),
-            workers,
-            scopes: ScopeTable::new(alloc),
-            metrics: MetricTable::new(alloc)?,
-            released: Vec::new(alloc),
-            seats,
-            log: Vec::new(alloc),
-        })
+        self.state.live_scope(label)
     }
 
-    // Opens one more scope of the configuration.
-    fn open_first(&mut self, alloc: Global, scope: &ScopeSpec) -> Result<(), NoMemory>
-        requires first { self.old.log ≡ openings 0 self.old.scopes }
-        requires few { length self.old.scopes ≤ MAX_SCOPES }
-        requires different { All (λ before. before.label ≢ scope.now.label) self.old.scopes }
-        requires prefix { IsScopePrefix scope.now.prefix }
-        ensures { OnOk result (self.new ≡ with_first self.old scope.now) }
+    // The number of the next scope.
+    fn next_scope(&self) -> ScopeId
+        ensures { result.0 ≡ length (state_of self.now).scopes }
     {
-        let call = Call::OpenScope {
-            label: scope.label.clone()?,
-            prefix: scope.prefix.clone()?,
-        };
-        let first = scope.clone()?;
-        self.first_scopes.reserve(1)?;
+        ScopeId(self.state.opened() as u32)
+    }
+
+    // The number of releases so far.
+    fn newest_tag(&self) -> u64
+        ensures { result ≡ (state_of self.now).releases }
+    {
+        self.state.released().len() as u64
+    }
+
+    // The scopes released since a seat's last acknowledgement, in order.
+    fn released_since(&self, alloc: Global, seat: u32) -> Result<List<ScopeId>, NoMemory>
+        requires due { Working (state_of self.now) seat (λ row. row.tag < (state_of self.now).releases) }
+        ensures { IfOk result (λ scopes. scopes ≡ drop (tag_of (state_of self.now) seat) (released_in self.now.log)) }
+    {
+        let tag = self.state.tag(seat) as usize;
+        Ok(List::of(self.state.released()[tag..].to_vec(alloc)?))
+    }
+
+    // Logs a call of a worker with a reply that draws or frees no symbol.
+    fn append(
+        &mut self,
+        alloc: Global,
+        seat: u32,
+        call: Call,
+        reply: Reply,
+    ) -> Result<(), NoMemory>
+        requires may { Allowed (rules_of self.old) seat call reply (state_of self.old) }
+        requires works { Works (state_of self.old) seat }
+        requires worker { is_sweep call ≡ false }
+        requires lawful { IsLawfulCall call }
+        requires room { is_opening call ≡ true → openings_by seat self.old.log < MAX_OPENINGS }
+        requires keeps { KeepsNames reply }
+        ensures ok { OnOk result (Logged self.old seat call reply self.new) }
+        ensures err { OnErr result (self.new ≡ self.old) }
+    {
+        let entry = Entry { seat, call, reply };
         self.log.reserve(1)?;
-        let id = ScopeId(self.scopes.open(alloc, &scope.label, &scope.prefix)?);
-        self.first_scopes.push_reserved(first);
-        let reply = Reply::Opened(id);
-        self.log.push_reserved(Entry {
-            seat: 0,
-            call,
-            reply,
-        });
+        self.state.apply(alloc, &entry)?;
+        self.log.push_reserved(entry);
         Ok(())
     }
+}
+
+// Opens one more scope of the configuration.
+fn open_first(
+    alloc: Global,
+    state: &mut BookState,
+    log: &mut Vec<Entry>,
+    scope: &ScopeSpec,
+) -> Result<(), NoMemory>
+    requires free { live_scope state.old.state scope.now.label ≡ None }
+    requires few { length state.old.state.scopes ≤ MAX_SCOPES }
+    requires prefix { IsScopePrefix scope.now.prefix }
+    ensures state { OnOk result (state.new ≡ after_entry state.old (first_entry (length state.old.state.scopes) scope.now)) }
+    ensures log { OnOk result (log.new.items ≡ log.old.items ++ first_entry (length state.old.state.scopes) scope.now ∷ []) }
+{
+    let call = Call::OpenScope {
+        label: scope.label.clone()?,
+        prefix: scope.prefix.clone()?,
+    };
+    let reply = Reply::Opened(ScopeId(state.opened() as u32));
+    let entry = Entry {
+        seat: 0,
+        call,
+        reply,
+    };
+    log.reserve(1)?;
+    state.apply(alloc, &entry)?;
+    log.push_reserved(entry);
+    Ok(())
 }

@@ -96,7 +96,7 @@ same_tokens m m' (n ∷ ns) all =
     let tail : list_map (token_in m') ns ≡ list_map (token_in m) ns = same_tokens m m' ns (λ k d below. all (suc k) d (omega arith)) in
     cc
 
-used_case : (m : Table) (n : ℕ) (o : Option (List ℕ × ℕ)) → map.get m n ≡ o → 0 < uses_in o → Holds m (token_in m n) n
+pub used_case : (m : Table) (n : ℕ) (o : Option (List ℕ × ℕ)) → map.get m n ≡ o → 0 < uses_in o → Holds m (token_in m n) n
 used_case m n None e some = absurd (omega arith)
 used_case m n (Some entry) e some = subst (λ (t : List ℕ). Holds m t n) (sym (token_of_got m n entry e)) (entry.1, e)
 
@@ -137,7 +137,7 @@ still_case m n k false some =
       | inr ne ↦ (omega (arith, ap uses_in (got_other m n (token_in m n, uses_at m n - 1) k ne)), ap token_of_entry (got_other m n (token_in m n, uses_at m n - 1) k ne))
     ]
 
-still_used : (m : Table) (ns : List ℕ) (k : ℕ) → 0 < uses_at (uncounted_all m ns) k → (0 < uses_at m k) × (token_in (uncounted_all m ns) k ≡ token_in m k)
+pub still_used : (m : Table) (ns : List ℕ) (k : ℕ) → 0 < uses_at (uncounted_all m ns) k → (0 < uses_at m k) × (token_in (uncounted_all m ns) k ≡ token_in m k)
 still_used m [] k some = (some, refl)
 still_used m (n ∷ ns) k some =
     let later = still_used (uncounted m n) ns k some in
