@@ -84,7 +84,7 @@ still_there tag id k rows here there = by_row (slice_get rows k) refl there wher
   by_row (Some row) at h = elim (eq_or k id) [
     | inl same ↦
         let got = ap (λ (i : ℕ). slice_get (change_at (lose tag) id rows) i) same
-            ∙ (get_change_same (lose tag) id rows ∙ ap (option_map (lose tag)) (ap (λ (i : ℕ). slice_get rows i) (sym same) ∙ at)) in
+        ∙ (get_change_same (lose tag) id rows ∙ ap (option_map (lose tag)) (ap (λ (i : ℕ). slice_get rows i) (sym same) ∙ at)) in
         subst (λ (o : Option MetricRow). IsSomeAnd o (λ row. is_gone row.metric.life ≡ false)) (sym got) ((lose_lists tag row (nat_le row.bearers 1) h).gone ∙ h)
     | inr other ↦ subst (λ (o : Option MetricRow). IsSomeAnd o (λ row. is_gone row.metric.life ≡ false)) (sym (get_change_other (lose tag) id rows k other ∙ at)) h
   ]
@@ -153,7 +153,7 @@ module _ {X : Type 0} (f : X → X) (again : (x : X) → f (f x) ≡ f x) where
   change_step k id ids rows o at rest = elim (eq_or k id) [
     | inl same ↦
         let here : slice_get (change_at f id rows) k ≡ option_map f o = ap (λ (i : ℕ). slice_get (change_at f id rows) i) same
-            ∙ (get_change_same f id rows ∙ ap (option_map f) (ap (λ (i : ℕ). slice_get rows i) (sym same) ∙ at)) in
+        ∙ (get_change_same f id rows ∙ ap (option_map f) (ap (λ (i : ℕ). slice_get rows i) (sym same) ∙ at)) in
         rest ∙ (ap (λ (p : Option X). cond (has k ids) (option_map f p) p) here ∙ (twice (has k ids) o
         ∙ ap (λ (b : Bool). cond (b || has k ids) (option_map f o) o) (sym (ap (λ (i : ℕ). nat_eq k i) (sym same) ∙ same_number k))))
     | inr other ↦
@@ -274,10 +274,10 @@ module _ (least : Option ℕ) where
   kept_step all id row rest rest' false gone at same =
       let m = swept_kind row (is_overdue least row.metric.life) in
       by_life (is_gone (swept_row least row).metric.life) at ∙ sym (ap (λ (m : Metric). cond (is_gone (swept_row least row).metric.life) rest' ((record { kind = m.kind; name = m.name }, id) ∷ rest')) m) where
-    by_life : (b : Bool) → gone_at all id ≡ b → filter (λ name. not (gone_at all name.1)) ((record { kind = row.metric.kind; name = row.metric.name }, id) ∷ rest)
-        ≡ cond b rest' ((record { kind = row.metric.kind; name = row.metric.name }, id) ∷ rest')
-    by_life true g = rw g same
-    by_life false g = rw g (ap (λ (l : List (NameKey × ℕ)). (record { kind = row.metric.kind; name = row.metric.name }, id) ∷ l) same)
+        by_life : (b : Bool) → gone_at all id ≡ b → filter (λ name. not (gone_at all name.1)) ((record { kind = row.metric.kind; name = row.metric.name }, id) ∷ rest)
+            ≡ cond b rest' ((record { kind = row.metric.kind; name = row.metric.name }, id) ∷ rest')
+        by_life true g = rw g same
+        by_life false g = rw g (ap (λ (l : List (NameKey × ℕ)). (record { kind = row.metric.kind; name = row.metric.name }, id) ∷ l) same)
 
   -- the names that are left in the index
   pub names_left : (all : List MetricRow) (id : ℕ) (rows : List MetricRow) → ((k : ℕ) → slice_get all (id + k) ≡ slice_get (map (swept_row least) rows) k)

@@ -174,10 +174,10 @@ few_apart zero [] apart below = omega arith
 few_apart zero (k ∷ ks) apart below = let h : has k (k ∷ ks) ≡ true = rw (same_number k) refl in absurd (omega (arith, below k h))
 few_apart (suc n) ks apart below =
     few_step n ks (has n ks) refl apart (few_apart n (others n ks) (apart_others n ks apart) (λ k h.
-        elim (eq_or k n) [
-          | inl e ↦ absurd (true_false (sym h ∙ (ap (λ (j : ℕ). has j (others n ks)) e ∙ has_gone n ks)))
-          | inr ne ↦ let was = below k (has_left n k ks h) in omega (arith, was, ne)
-        ])) where
-  few_step : (n : ℕ) (ks : List ℕ) (t : Bool) → has n ks ≡ t → NoDoubles ks → length (others n ks) ≤ n → length ks ≤ suc n
-  few_step n ks true h apart few = let one = one_taken n ks apart h in omega (arith, one, few)
-  few_step n ks false h apart few = let same = ap length (none_taken n ks h) in omega (arith, same, few)
+    elim (eq_or k n) [
+      | inl e ↦ absurd (true_false (sym h ∙ (ap (λ (j : ℕ). has j (others n ks)) e ∙ has_gone n ks)))
+      | inr ne ↦ let was = below k (has_left n k ks h) in omega (arith, was, ne)
+    ])) where
+      few_step : (n : ℕ) (ks : List ℕ) (t : Bool) → has n ks ≡ t → NoDoubles ks → length (others n ks) ≤ n → length ks ≤ suc n
+      few_step n ks true h apart few = let one = one_taken n ks apart h in omega (arith, one, few)
+      few_step n ks false h apart few = let same = ap length (none_taken n ks h) in omega (arith, same, few)

@@ -227,14 +227,14 @@ module _ (v : StateView) (held : Stored) (st : IsStored held v.state) (e : Entry
           let rows = change_at (found sc key.mode) id.0 s.metrics in
           let more : State = record s { metrics = rows } in
           let is' : after ≡ on_seat (hold key sc (verdict.Accepted id)) e.seat more =
-              effect_at v e (call.Find key) (reply.Found id) is told ∙ ap (λ (n : ℕ). on_seat (hold key n (verdict.Accepted id)) e.seat (record s { metrics = change_at (found n key.mode) id.0 s.metrics })) scope_is in
+          effect_at v e (call.Find key) (reply.Found id) is told ∙ ap (λ (n : ℕ). on_seat (hold key n (verdict.Accepted id)) e.seat (record s { metrics = change_at (found n key.mode) id.0 s.metrics })) scope_is in
           let alike = held_alike more (hold key sc (verdict.Accepted id)) (λ seat. refl) e.seat in
           borne_stored held s st sc id.0 rows (found_this s.metrics sc id.0 key.mode k.row k.at) (λ k i ne. found_others s.metrics sc id.0 key.mode k i ne) (λ i ne. found_same s.metrics sc id.0 key.mode i ne)
           after (next_run v e next st.run) (ap (λ (t : State). t.scopes) is' ∙ alike.scopes) (ap (λ (t : State). t.metrics) is' ∙ alike.metrics) (ap (λ (t : State). t.releases) is' ∙ alike.releases)
           (ap (λ (t : State). map seat_stored t.seats) is' ∙ alike.seats)
           (change_at (found_again key.mode new) id.0 held.metrics)
           (ap (change_at (found_again key.mode new) id.0) st.metrics ∙ found_rows s.metrics sc id.0 key.mode new (λ row here.
-              is_new ∙ ap (λ (o : Option Row). not (option_map_or (bears sc) o false)) here))
+          is_new ∙ ap (λ (o : Option Row). not (option_map_or (bears sc) o false)) here))
 
     -- a metric that is made
     module _ (id : MetricId) (numbers : List ℕ) (told : e.reply ≡ reply.Made id numbers) where
@@ -261,7 +261,7 @@ module _ (v : StateView) (held : Stored) (st : IsStored held v.state) (e : Entry
           let more : State = record s { metrics = rows } in
           let row_is : made (drawing v.tags) s key numbers ≡ row = made_as v.tags s key numbers sc scope_is in
           let is' : after ≡ on_seat (hold key sc (verdict.Accepted id)) e.seat more =
-              effect_at v e (call.Find key) (reply.Made id numbers) is told ∙ (λ i. on_seat (hold key (scope_is i) (verdict.Accepted id)) e.seat (record s { metrics = s.metrics ++ row_is i ∷ [] })) in
+          effect_at v e (call.Find key) (reply.Made id numbers) is told ∙ (λ i. on_seat (hold key (scope_is i) (verdict.Accepted id)) e.seat (record s { metrics = s.metrics ++ row_is i ∷ [] })) in
           let alike = held_alike more (hold key sc (verdict.Accepted id)) (λ seat. refl) e.seat in
           let count = metric_count held s st in
           subst (λ (n : ℕ). IsStored (record held { scopes = change_at (bearing n) sc held.scopes; metrics = held.metrics ++ stored row ∷ [] }) after) (sym count)

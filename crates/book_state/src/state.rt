@@ -238,7 +238,13 @@ impl BookState {
         ensures ok { OnOk result (self.new ≡ after_entry self.old entry.now) }
         ensures err { OnErr result (self.new ≡ self.old) }
     {
-        let metric = new_metric(alloc, &self.rules, key, &name.name, numbers_of(&entry.reply))?;
+        let metric = new_metric(
+            alloc,
+            &self.rules,
+            key,
+            &name.name,
+            numbers_of(&entry.reply),
+        )?;
         self.metrics.make(&mut self.scopes, scope, name, metric)?;
         self.past = self.past.and(entry);
         Ok(())

@@ -78,7 +78,12 @@ fn main(rt: HostRuntime) -> ExitCode {
     let mut out = StdSink::new(rt.stdout());
     let mut err = StdSink::new(rt.stderr());
     let words = words_of(&rt);
-    let status = serve::<RegexMaker, FolderShelf<'_, HostRuntime>, StdSink<Stdout>, StdSink<Stderr>>(
+    let status = serve::<
+        RegexMaker,
+        FolderShelf<'_, HostRuntime>,
+        StdSink<Stdout>,
+        StdSink<Stderr>,
+    >(
         rt.alloc(),
         words,
         &mut maker,

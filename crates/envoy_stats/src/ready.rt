@@ -54,12 +54,7 @@ fn status_of_all(ends: &[WorkerEnd]) -> u8
 }
 
 // Makes what is to be written and said of files whose events were counted.
-fn ready_of(
-    alloc: Global,
-    runs: Runs,
-    counters: Counters,
-    prefix: Txt,
-) -> Result<Ready, NoMemory>
+fn ready_of(alloc: Global, runs: Runs, counters: Counters, prefix: Txt) -> Result<Ready, NoMemory>
     requires verdicts { length runs.verdicts.items < 2 ^ 32 }
     requires ends { length runs.ends.items < 2 ^ 32 }
     requires room { length counters.events < 2 ^ 32 }

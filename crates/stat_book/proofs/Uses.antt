@@ -138,7 +138,7 @@ gone_split (x ∷ rows) (suc id) row at there many n =
     let rest = gone_split rows id row at there many n in
     let a = ap (times n) (map-append (λ (symbol : List ℕ × ℕ). symbol.1) (symbols_of x) (flat_map symbols_of rows)) ∙ times_append n (numbers_of (symbols_of x)) (numbers_of (flat_map symbols_of rows)) in
     let b = ap (times n) (map-append (λ (symbol : List ℕ × ℕ). symbol.1) (symbols_of x) (flat_map symbols_of (change_at gone_row id rows)))
-        ∙ times_append n (numbers_of (symbols_of x)) (numbers_of (flat_map symbols_of (change_at gone_row id rows))) in
+    ∙ times_append n (numbers_of (symbols_of x)) (numbers_of (flat_map symbols_of (change_at gone_row id rows))) in
     omega (arith, a, b, rest)
 
 pub gone_less : (rows : List Row) (id : ℕ) (t : List ℕ) (n : ℕ) → Among (flat_map symbols_of (change_at gone_row id rows)) (t, n) → Among (flat_map symbols_of rows) (t, n)

@@ -254,13 +254,7 @@ impl Book {
     }
 
     // Logs a call of a worker with a reply that draws or frees no symbol.
-    fn append(
-        &mut self,
-        alloc: Global,
-        seat: u32,
-        call: Call,
-        reply: Reply,
-    ) -> Result<(), NoMemory>
+    fn append(&mut self, alloc: Global, seat: u32, call: Call, reply: Reply) -> Result<(), NoMemory>
         requires may { Allowed (rules_of self.old) seat call reply (state_of self.old) }
         requires works { Works (state_of self.old) seat }
         requires worker { is_sweep call ≡ false }

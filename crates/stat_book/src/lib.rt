@@ -4,6 +4,3 @@
 mod book;
 
 pub use book::Book;
-
-
-

@@ -27,7 +27,7 @@ loop-id-preserved c =
     let ids = c.args.ids.now in
     let id = get_or ids c.loop-id.id-index 0 in
     ended c c.if-is_overdue.all.items (elim c.if-is_overdue.branch [
-      then-is_overdue+in_ok-push w ↦
+      | then-is_overdue+in_ok-push w ↦
           overdue_push c.args.least c.args.rows.now (take c.loop-id.id-index ids) id c.loop-id.all.items c.if-is_overdue.all.items true (is_it c ∙ w.if-is_overdue.true) c.loop-id.invariant
           (ap (λ (all : Vec MetricId Global). all.items) w.all-is ∙ w.in_ok-push.ensures.items)
       | else-is_overdue w ↦

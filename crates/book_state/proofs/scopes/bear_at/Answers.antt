@@ -1,5 +1,4 @@
 use Rattle.std.proofs.Common.{◌≡◌, ℕ, List, [], ◌∷◌, ◌++◌, OnErr, map, set, refl, ap, ◌∙◌, sym}
-
 use Rattle.book_state.specs.Bearing.{has}
 use Rattle.book_state.specs.Scopes.{ScopeView, bearing}
 use Rattle.book_state.specs.ScopesKept.{row_shown}
