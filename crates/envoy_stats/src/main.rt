@@ -19,12 +19,14 @@ mod tests;
 mod writing;
 
 pub use laws::each_unopened_file_has_its_fault;
-pub use replay::{Outcome, quiet_stats};
+use name_map::HashKey;
+pub use replay::{Outcome, quiet_stats, quiet_stats_with};
 use stats_io::{FolderShelf, Shelf, Sink, StdSink};
 use std::alloc::Global;
 use std::io;
 use std::io::{Stderr, Stdout};
 use std::process::ExitCode;
+use std::random::RandomSource;
 use std::rt::Env;
 use tag_rules::{PatternMaker, RegexMaker};
 use telling::{OUT_OF_MEMORY, USAGE, say};
@@ -53,6 +55,7 @@ fn refuse<E: Sink>(err: &mut E, fault: io::Error) -> u8
 // The status of a call with these words, where they could be read.
 fn serve<K: PatternMaker, F: Shelf, O: Sink, E: Sink>(
     alloc: Global,
+    key: HashKey,
     words: io::Result<Vec<String>>,
     maker: &mut K,
     shelf: &mut F,
@@ -67,8 +70,16 @@ fn serve<K: PatternMaker, F: Shelf, O: Sink, E: Sink>(
         × IsUnreadable (E.state err.old) (E.state err.new) fault result) }
 {
     match words {
-        Ok(words) => quiet_stats(alloc, &words, maker, shelf, out, err).status,
+        Ok(words) => quiet_stats_with(alloc, key, &words, maker, shelf, out, err).status,
         Err(fault) => refuse(err, fault),
+    }
+}
+
+// The key of this run. Where the system draws none, the fixed one serves: only speed depends on it.
+fn drawn_key<R: RandomSource>(rt: &R) -> HashKey {
+    match HashKey::drawn(rt) {
+        Ok(key) => key,
+        Err(_) => HashKey::fixed(),
     }
 }
 
@@ -78,6 +89,7 @@ fn main(rt: HostRuntime) -> ExitCode {
     let mut out = StdSink::new(rt.stdout());
     let mut err = StdSink::new(rt.stderr());
     let words = words_of(&rt);
+    let key = drawn_key(&rt);
     let status = serve::<
         RegexMaker,
         FolderShelf<'_, HostRuntime>,
@@ -85,6 +97,7 @@ fn main(rt: HostRuntime) -> ExitCode {
         StdSink<Stderr>,
     >(
         rt.alloc(),
+        key,
         words,
         &mut maker,
         &mut shelf,

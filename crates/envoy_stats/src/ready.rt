@@ -13,6 +13,7 @@ use crate::telling::fault_lines;
 use crate::writing::worker_lines;
 use boot_load::Boot;
 use counter_store::Counters;
+use name_map::HashKey;
 use stat_defs::{FileEnd, FlushView, NoMemory, Report, Txt, WorkerEnd};
 use stats_io::Shelf;
 use std::alloc::Global;
@@ -75,9 +76,10 @@ fn ready_of(alloc: Global, runs: Runs, counters: Counters, prefix: Txt) -> Resul
     })
 }
 
-/// Reads the files, and makes what is to be written and said of them.
+/// Reads the files, and makes what is to be written and said of them. Counters are looked up under the key.
 pub fn prepare<F: Shelf>(
     alloc: Global,
+    key: HashKey,
     boot: Boot,
     names: &[String],
     shelf: &mut F,
@@ -95,7 +97,7 @@ pub fn prepare<F: Shelf>(
         buckets: _,
         view_rules: _,
     } = boot;
-    let mut counters = Counters::new(alloc, config.scopes.items(), matcher)?;
+    let mut counters = Counters::with_key(alloc, key, config.scopes.items(), matcher)?;
     let runs = read_files(alloc, shelf, names, &mut counters)?;
     ready_of(alloc, runs, counters, config.statsd_prefix)
 }

@@ -15,6 +15,7 @@ use crate::status;
 use crate::telling::{OUT_OF_MEMORY, USAGE, say};
 use crate::writing::write_output;
 use boot_load::{LoadFault, boot_line, load};
+use name_map::HashKey;
 use stat_defs::{NoMemory, Report};
 use stats_io::{Shelf, Sink};
 use statsd_text::TextFault;
@@ -103,6 +104,7 @@ fn finish<O: Sink, E: Sink>(alloc: Global, ready: Ready, out: &mut O, err: &mut 
 // `replay BOOT FILE..` of that bootstrap and those files.
 fn replay<K: PatternMaker, F: Shelf, O: Sink, E: Sink>(
     alloc: Global,
+    key: HashKey,
     boot: &str,
     files: &[String],
     maker: &mut K,
@@ -116,7 +118,7 @@ fn replay<K: PatternMaker, F: Shelf, O: Sink, E: Sink>(
         boot.now (map string_bytes files.now) result.status result.report }
 {
     match load(alloc, boot, maker, shelf) {
-        Ok(boot) => match prepare(alloc, boot, files, shelf) {
+        Ok(boot) => match prepare(alloc, key, boot, files, shelf) {
             Ok(ready) => finish(alloc, ready, out, err),
             Err(NoMemory) => give_up(err),
         },
@@ -138,9 +140,10 @@ fn replay<K: PatternMaker, F: Shelf, O: Sink, E: Sink>(
 /// - Status 6: memory was wanting.
 ///
 /// `err` is told each of these but 0, in a line, and every file that was not read whole has its line. A fault of `err` changes
-/// nothing else.
-pub fn quiet_stats<K: PatternMaker, F: Shelf, O: Sink, E: Sink>(
+/// nothing else. Names are looked up under the key, which only speed depends on.
+pub fn quiet_stats_with<K: PatternMaker, F: Shelf, O: Sink, E: Sink>(
     alloc: Global,
+    key: HashKey,
     words: &[String],
     maker: &mut K,
     shelf: &mut F,
@@ -165,5 +168,37 @@ pub fn quiet_stats<K: PatternMaker, F: Shelf, O: Sink, E: Sink>(
             report: None,
         };
     };
-    replay(alloc, command.boot, command.files, maker, shelf, out, err)
+    replay(
+        alloc,
+        key,
+        command.boot,
+        command.files,
+        maker,
+        shelf,
+        out,
+        err,
+    )
+}
+
+/// The same under the fixed key: what is written and said does not depend on it.
+pub fn quiet_stats<K: PatternMaker, F: Shelf, O: Sink, E: Sink>(
+    alloc: Global,
+    words: &[String],
+    maker: &mut K,
+    shelf: &mut F,
+    out: &mut O,
+    err: &mut E,
+) -> Outcome
+    // Status 1 is that of words that are no command: such a call says so and changes nothing else.
+    ensures usage { (result.status ≡ statuses.NO_COMMAND) ↔ ¬ IsCommand (map string_bytes words.now) }
+    ensures refused { ¬ IsCommand (map string_bytes words.now) → (result.report ≡ None)
+        × IsRefused (sight K.memory F.holds F.state F.S.state O.state E.state)
+        (world maker.old shelf.old out.old err.old) (world maker.new shelf.new out.new err.new) }
+    // What was loaded, read, reported, written and said for a command.
+    ensures replayed { (boot : List ℕ) → (files : List (List ℕ)) → IsReplay (map string_bytes words.now) boot files
+        → Replays (sight K.memory F.holds F.state F.S.state O.state E.state)
+        (world maker.old shelf.old out.old err.old) (world maker.new shelf.new out.new err.new)
+        boot files result.status result.report }
+{
+    quiet_stats_with(alloc, HashKey::fixed(), words, maker, shelf, out, err)
 }

@@ -2,10 +2,10 @@ use Rattle.envoy_stats.proofs.serve.Goals as goal
 
 pub returns-in-Ok-clause-called : goal.returns-in-Ok-clause-called
 returns-in-Ok-clause-called g c = rw (c.in-Ok.is) (
-  c.quiet_stats.result.report,
+  c.quiet_stats_with.result.report,
   record {
-    usage_status = rw c.deref.ensures.value at c.quiet_stats.ensures.usage;
-    refused = rw c.deref.ensures.value at c.quiet_stats.ensures.refused;
-    replayed = rw c.deref.ensures.value at c.quiet_stats.ensures.replayed;
+    usage_status = rw c.deref.ensures.value at c.quiet_stats_with.ensures.usage;
+    refused = rw c.deref.ensures.value at c.quiet_stats_with.ensures.refused;
+    replayed = rw c.deref.ensures.value at c.quiet_stats_with.ensures.replayed;
   },
 )

@@ -1,7 +1,7 @@
 use Rattle.std.proofs.Common.{map, string_bytes}
 use Rattle.envoy_stats.specs.World.{world, sight}
 use Rattle.envoy_stats.proofs.Replayed.{replay_is_no_usage}
-use Rattle.envoy_stats.proofs.replay.quiet_stats.Goals as goal
+use Rattle.envoy_stats.proofs.replay.quiet_stats_with.Goals as goal
 
 pub returns-clause-usage : goal.returns-clause-usage
 returns-clause-usage g c =
