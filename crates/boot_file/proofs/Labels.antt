@@ -10,8 +10,8 @@ use Rattle.std.proofs.lemmas.List.Elements.{All-take}
 use Rattle.std.proofs.lemmas.List.Sums.{AllPass-from_list_all, list_all-from_AllPass}
 use lib.Pointwise.{pointwise}
 use Rattle.stat_defs.specs.declared.configs.ScopeSpec.{ScopeSpec}
-use Rattle.stat_defs.specs.Names.{is_name_byte, IsScopePrefix}
-use Rattle.boot_file.specs.Scopes.{is_taken, without_dot}
+use Rattle.stat_defs.specs.Names.{is_name_byte, IsScopePrefix, without_dot}
+use Rattle.boot_file.specs.Scopes.{is_taken}
 
 none_alike : (found : List ScopeSpec) (label : List ℕ) → is_taken found label ≡ false
     → (k : ℕ) (d : ScopeSpec) → k < length found → (get_or found k d).label ≢ label

@@ -2,13 +2,13 @@
 -- `label` and `prefix`. A label has 1 to 32 letters, digits and low lines; all are different and none is `root`, and of
 -- two equal ones the later is wrong. A prefix has 0 to 255 printable bytes without spaces, of which one final dot is
 -- dropped; absent is empty.
-use Rattle.std.specs.Prelude.{ℕ, ◌+◌, ◌-◌, ◌==◌, Bool, not, ◌&&◌, ◌++◌, nat_le, length, take, List, [], ◌∷◌, codes, Option, Some, None, Result, Ok, Err, if◌then◌else◌}
-use Rattle.std.specs.List.{list_all, list_any, ends_with}
+use Rattle.std.specs.Prelude.{ℕ, ◌+◌, ◌==◌, Bool, not, ◌&&◌, ◌++◌, nat_le, length, List, [], ◌∷◌, codes, Option, Some, None, Result, Ok, Err, if◌then◌else◌}
+use Rattle.std.specs.List.{list_all, list_any}
 use lib.Pointwise.{pointwise}
 use Rattle.stat_defs.specs.declared.configs.ScopeSpec.{ScopeSpec}
 use Rattle.stat_defs.specs.declared.configs.TheConstants.{MAX_FLUSHES, MAX_FLUSH_EVERY, MAX_SCOPES}
 use Rattle.stat_defs.specs.declared.events.TheConstants.{MAX_LABEL_BYTES, MAX_NAME_BYTES}
-use Rattle.stat_defs.specs.Names.{is_label_byte, is_name_byte}
+use Rattle.stat_defs.specs.Names.{is_label_byte, is_name_byte, without_dot}
 use Rattle.serde_json.specs.Data.{Items, no_items, item, Data, string}
 use Rattle.boot_values.specs.declared.fault.BootFault.{BootFault}
 use Rattle.boot_values.specs.declared.fault.BootFault.TheVariants.{BadKey}
@@ -24,10 +24,6 @@ is_label text = nat_le 1 (length text) && (nat_le (length text) MAX_LABEL_BYTES 
 
 abbrev pub is_scope_prefix : List ℕ → Bool
 is_scope_prefix text = nat_le (length text) MAX_NAME_BYTES && list_all is_name_byte text
-
--- without one final dot
-abbrev pub without_dot : List ℕ → List ℕ
-without_dot text = if ends_with ◌==◌ text (46 ∷ []) then take (length text - 1) text else text
 
 abbrev pub is_taken : List ScopeSpec → List ℕ → Bool
 is_taken found label = list_any (λ s. pointwise ◌==◌ s.label label) found

@@ -6,13 +6,14 @@ ghost use Rattle.stat_defs.specs.Configs.{IsScopeSpec, AreScopes};
 ghost use Rattle.stat_defs.specs.Names as names;
 ghost use Rattle.stat_defs.specs.Names.{IsLabel, IsScopePrefix};
 ghost use Rattle.boot_values.specs.Agrees.{Agrees};
-ghost use Rattle.boot_file.specs.Scopes.{is_label, is_scope_prefix, without_dot, is_taken, label_at, prefix_at, scope_at, root, scopes_from, scopes_of};
+ghost use Rattle.boot_file.specs.Scopes.{is_label, is_scope_prefix, is_taken, label_at, prefix_at, scope_at, root, scopes_from, scopes_of};
 
 use crate::tags::has_name_bytes;
 use boot_values::{BootFault, Place, bad_part, items_at, member};
 use serde_json::Value;
 use stat_defs::{
     List, MAX_LABEL_BYTES, MAX_NAME_BYTES, MAX_SCOPES, NoMemory, ScopeSpec, Txt, is_label_byte,
+    without_dot,
 };
 use std::alloc::Global;
 
@@ -40,16 +41,6 @@ fn is_scope_prefix(text: &[u8]) -> bool
         return false;
     }
     has_name_bytes(text)
-}
-
-fn without_dot(text: &[u8]) -> &[u8]
-    ensures { result.now ≡ without_dot text.now }
-{
-    if text.ends_with(b".") {
-        &text[..text.len() - 1]
-    } else {
-        text
-    }
 }
 
 fn is_taken(found: &[ScopeSpec], label: &[u8]) -> bool

@@ -139,7 +139,8 @@ fn rule_at(
     fixed: Option<&Value>,
 ) -> Result<PlacedTag, BootFault>
     requires { IsLocalName tag_name }
-    ensures gives { Agrees result (rule_at i tag_name (option_map (λ v. view v.now) regex.entry) (option_map (λ v. view v.now) fixed.entry)) }
+    ensures gives { Agrees result (rule_at i tag_name
+        (option_map (λ v. view v.now) regex.entry) (option_map (λ v. view v.now) fixed.entry)) }
     ensures lawful { IfOk result (λ t. IsPlacedTag t) }
 {
     match regex {

@@ -1,4 +1,5 @@
--- The patterns of a configuration, in the order in which they are built (Envoy's statistics configuration reference; the order
+-- The patterns of a configuration, in the order in which they are built (Envoy's statistics configuration reference;
+-- the order
 -- and the paths are this project's own).
 use Rattle.std.specs.Prelude.{ℕ, List, [], ◌∷◌, ◌++◌, codes, length, map}
 use Rattle.std.specs.List.{range_with_len}

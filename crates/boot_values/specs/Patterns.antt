@@ -43,7 +43,8 @@ unfoldable pub shaped_at : Place → Data → Shape → Result Pattern BootFault
 shaped_at place d Exact = and_then (text_at place (codes ".exact") (member (Some d) (codes "exact"))) (λ t. Ok (pattern.Exact t))
 shaped_at place d Prefix = and_then (text_at place (codes ".prefix") (member (Some d) (codes "prefix"))) (λ t. Ok (pattern.Prefix t))
 shaped_at place d Suffix = and_then (text_at place (codes ".suffix") (member (Some d) (codes "suffix"))) (λ t. Ok (pattern.Suffix t))
-shaped_at place d Contains = and_then (text_at place (codes ".contains") (member (Some d) (codes "contains"))) (λ t. Ok (pattern.Contains t))
+shaped_at place d Contains = and_then (text_at place (codes ".contains") (member (Some d) (codes "contains")))
+    (λ t. Ok (pattern.Contains t))
 shaped_at place d SafeRegex =
     and_then (regex_text_at place (member (member (Some d) (codes "safe_regex")) (codes "regex"))) (λ t. Ok (pattern.SafeRegex t))
 

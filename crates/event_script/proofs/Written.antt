@@ -1,5 +1,5 @@
 -- What is written is read.
-use Rattle.std.proofs.Common.{◌≡◌, ◌≢◌, ◌≤◌, ◌+◌, ◌-◌, ◌==◌, ℕ, Bool, true, false, cond, List, [], ◌∷◌, ◌++◌, inl, inr, length, take, drop, codes, refl, sym, ap, ◌∙◌, subst, arith, All, append_assoc, length-append}
+use Rattle.std.proofs.Common.{◌≡◌, ◌≢◌, ◌≤◌, ◌<◌, ◌+◌, ◌-◌, ◌==◌, ℕ, Bool, true, false, cond, List, [], ◌∷◌, ◌++◌, inl, inr, length, take, drop, codes, refl, sym, ap, ◌∙◌, subst, arith, All, append_assoc, length-append}
 use Rattle.std.specs.List.{ends_with}
 use Rattle.std.specs.Str.{bytes_eq}
 use Rattle.std.proofs.lemmas.Slice.Eq.{ends_is, bytes_eq-Decides}
@@ -8,11 +8,12 @@ use Rattle.std.proofs.lemmas.List.{take_at, drop_at}
 use Rattle.std.proofs.lemmas.List.Folds.{list_all-append}
 use Rattle.stat_defs.specs.declared.events.Event.{Event}
 use Rattle.stat_defs.specs.declared.events.Event.TheVariants as event
-use Rattle.stat_defs.specs.Names.{IsLocalName, IsScopePrefix, is_name_byte}
+use Rattle.stat_defs.specs.Names.{IsLocalName, IsScopePrefix, is_name_byte, without_dot}
 use Rattle.stat_defs.specs.Events.{IsLawfulEvent, IsOpenedPrefix}
+use Rattle.stat_defs.specs.declared.events.TheConstants.{MAX_NAME_BYTES}
 use Rattle.stat_defs.specs.declared.reports.FileEnd.TheVariants as file
 use Rattle.stats_io.specs.declared.pulling.Pulled.TheVariants.{End}
-use Rattle.event_script.specs.Grammar.{without_dot, given_prefix, given_for, line_for, lines_for, IsLineOf, IsLawful, Lacks}
+use Rattle.event_script.specs.Grammar.{given_prefix, given_for, line_for, lines_for, IsLineOf, IsLawful, Lacks}
 use Rattle.event_script.specs.Script.{LinesGive, lines_until, File}
 use Rattle.event_script.specs.declared.limits.TheConstants.{MAX_LINE_BYTES, MAX_FILE_BYTES, MAX_EVENTS}
 use Rattle.event_script.proofs.Splits.{and_true}
@@ -99,9 +100,20 @@ opened given fits = by (bytes_eq (without_dot given) (codes "-")) refl
         }
     shorter false none = record { short = fits.short; bytes = fits.bytes }
 
+    room : (b : Bool) → has_dot given ≡ b → has_dot (cond b (take (length given - 1) given) given) ≡ true
+        → length (cond b (take (length given - 1) given) given) < MAX_NAME_BYTES
+    room true dot ends =
+        let all = subst IsLocalName (dotted given dot) fits in
+        omega (arith, all.short, length-append (take (length given - 1) given) (46 ∷ []))
+    room false none ends = let h = sym none ∙ ends in cc
+
     by : (b : Bool) → bytes_eq (without_dot given) (codes "-") ≡ b → IsOpenedPrefix (cond b [] (without_dot given))
-    by true e = (record { short = omega arith; bytes = refl }, λ same. cc)
-    by false e = (shorter (has_dot given) refl, λ same. let h = sym e ∙ (bytes_eq-Decides (without_dot given) (codes "-")).1 same in cc)
+    by true e = record { fits = record { short = omega arith; bytes = refl }; room_for_dot = λ ends. cc; not_dash = λ same. cc }
+    by false e = record {
+      fits = shorter (has_dot given) refl;
+      room_for_dot = room (has_dot given) refl;
+      not_dash = λ same. let h = sym e ∙ (bytes_eq-Decides (without_dot given) (codes "-")).1 same in cc;
+    }
 
 -- the line that is written for a lawful event says it, and is no longer than a line may be
 pub written : (e : Event) → IsLawful e → (length (line_for e) ≤ MAX_LINE_BYTES) × IsLineOf (line_for e) e

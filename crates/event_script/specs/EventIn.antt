@@ -1,4 +1,5 @@
--- The event of a line, found part by part. What it finds is what the lines of events say; this is how the reader goes about it.
+-- The event of a line, found part by part. What it finds is what the lines of events say; this is how the reader goes
+-- about it.
 use Rattle.std.specs.Prelude.{◌^◌, ◌==◌, ◌&&◌, nat_le, ◌-◌, ℕ, Bool, if◌then◌else◌, Option, None, Some, option_map, option_and_then, List, [], ◌∷◌, length, find, codes}
 use Rattle.std.specs.List.{list_all}
 use Rattle.std.specs.Str.{bytes_eq}
@@ -83,7 +84,8 @@ abbrev pub inc_in : List ℕ → Option Event
 inc_in text = metric_in (λ label name rest. option_map (λ n. event.Inc label name n) (read_number (2 ^ 32 - 1) rest)) text
 
 abbrev pub gauge_in : GaugeOp → List ℕ → Option Event
-gauge_in op text = metric_in (λ label name. part_then read_mode (λ mode rest. option_map (λ n. event.Gauge label name mode op n) (read_number (2 ^ 63 - 1) rest))) text
+gauge_in op text = metric_in (λ label name. part_then read_mode
+    (λ mode rest. option_map (λ n. event.Gauge label name mode op n) (read_number (2 ^ 63 - 1) rest))) text
 
 abbrev pub rec_in : List ℕ → Option Event
 rec_in text = metric_in (λ label name rest. option_map (λ v. event.Rec label name v) (read_number (2 ^ 64 - 1) rest)) text

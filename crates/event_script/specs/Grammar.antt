@@ -1,5 +1,5 @@
 -- The lines of an event file. This project's own.
-use Rattle.std.specs.Prelude.{◌≡◌, ◌≢◌, ◌<◌, ◌≤◌, ◌-◌, ◌^◌, ◌==◌, ℕ, if◌then◌else◌, List, [], ◌∷◌, ◌++◌, length, take, slice_index, codes}
+use Rattle.std.specs.Prelude.{◌≡◌, ◌≢◌, ◌<◌, ◌≤◌, ◌^◌, ◌==◌, ℕ, if◌then◌else◌, List, [], ◌∷◌, ◌++◌, length, slice_index, codes}
 use Rattle.std.specs.List.{flat_map, ends_with}
 use Rattle.std.specs.Str.{bytes_eq}
 use Rattle.std.specs.Fmt.{decimal}
@@ -9,7 +9,7 @@ use Rattle.stat_defs.specs.declared.events.GaugeOp.{GaugeOp}
 use Rattle.stat_defs.specs.declared.events.GaugeOp.TheVariants.{Add, Sub, Set}
 use Rattle.stat_defs.specs.declared.ids.Mode.{Mode}
 use Rattle.stat_defs.specs.declared.ids.Mode.TheVariants.{Uninit, Accumulate, Never}
-use Rattle.stat_defs.specs.Names.{IsLabel, IsLocalName}
+use Rattle.stat_defs.specs.Names.{IsLabel, IsLocalName, without_dot}
 use Rattle.stat_defs.specs.Events.{IsReadout}
 use Rattle.event_script.specs.declared.limits.TheConstants.{MAX_LINE_BYTES}
 
@@ -48,10 +48,6 @@ pub record IsRecLine (line label name : List ℕ) (v : ℕ) : Type 0 where
 pub record IsTextLine (line label name text : List ℕ) : Type 0 where
   pub text_fits : IsReadout text
   pub metric : IsMetricLine (codes "text") text line label name
-
--- without one final dot
-abbrev pub without_dot : List ℕ → List ℕ
-without_dot text = if ends_with ◌==◌ text (46 ∷ []) then take (length text - 1) text else text
 
 -- the prefix that a line gives: one final dot is dropped, and a `-` is then the empty prefix
 abbrev pub given_prefix : List ℕ → List ℕ

@@ -8,8 +8,10 @@ use Rattle.stats_io.specs.declared.pulling.Pulled.{Pulled}
 use Rattle.stats_io.specs.declared.pulling.Pulled.TheVariants.{End, TooMany, Failed}
 use Rattle.event_script.specs.Script.{LinesGive, lines_until, FileFrom}
 
--- the source, the number of the next line, the numbers of events and of bytes before it, the bytes that were taken and not yet
--- read, the number of all that were taken, the source's count of faults at the start, how the source stopped, and the end that
+-- the source, the number of the next line, the numbers of events and of bytes before it, the bytes that were taken and
+-- not yet
+-- read, the number of all that were taken, the source's count of faults at the start, how the source stopped, and the
+-- end that
 -- was answered
 pub record Reading (S : Type 0) : Type 0 where
   pub source : S

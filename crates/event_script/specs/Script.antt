@@ -38,8 +38,10 @@ GivesEvent e given Behind events end =
     ((rest : List Event) × (given < MAX_EVENTS) × (events ≡ e ∷ rest) × Behind rest)
     ⊎ ((MAX_EVENTS ≤ given) × (events ≡ []) × (end ≡ file.TooMany))
 
--- What the lines say, the first of them having that number, and so many events standing before it. A line is too long, and ends
--- the file; or it is no longer than a line may be, and passed over, or an event, or of no meaning, and ends the file. Where no
+-- What the lines say, the first of them having that number, and so many events standing before it. A line is too long,
+-- and ends
+-- the file; or it is no longer than a line may be, and passed over, or an event, or of no meaning, and ends the file.
+-- Where no
 -- line ends the file, it ends as the bytes stopped.
 abbrev pub LinesGive : ℕ → ℕ → List (List ℕ) → Pulled → List Event → FileEnd → Type 0
 LinesGive number given [] stop events end = (events ≡ []) × (end ≡ end_by stop)
@@ -50,20 +52,23 @@ LinesGive number given (line ∷ lines) stop events end =
     ⊎ (((e : Event) × IsLineOf line e × GivesEvent e given (λ rest. LinesGive (number + 1) (given + 1) lines stop rest end) events end)
     ⊎ (IsNoLine line × (events ≡ []) × (end ≡ file.BadLine number)))))
 
--- The same of the bytes of a file behind its first `offset` ones. Past the limit of a file only the bytes within it count, and
+-- The same of the bytes of a file behind its first `offset` ones. Past the limit of a file only the bytes within it
+-- count, and
 -- where no fault stands at one of them the file is too big.
 abbrev pub FileFrom : ℕ → ℕ → ℕ → List ℕ → Pulled → List Event → FileEnd → Type 0
 FileFrom number given offset bytes stop events end =
     (offset + length bytes ≤ MAX_FILE_BYTES → LinesGive number given (lines_until stop bytes) stop events end)
     × (MAX_FILE_BYTES < offset + length bytes → LinesGive number given (lines_until TooMany (take (MAX_FILE_BYTES - offset) bytes)) TooMany events end)
 
--- The events and the end of a file of these bytes. Its lines are numbered from 1; the fault at the least byte ends it: the byte
+-- The events and the end of a file of these bytes. Its lines are numbered from 1; the fault at the least byte ends it:
+-- the byte
 -- that the file has too many; the byte that a line has too many; the newline, or the end of the file, behind a line of no
 -- meaning, and behind the event that is one too many. Where two stand at one byte, the first of these ends it.
 abbrev pub File : List ℕ → List Event → FileEnd → Type 0
 File bytes events end = FileFrom 1 0 0 bytes End events end
 
--- The events of a file that could not be read on behind these bytes: those of the lines whose newline is there, where no fault
+-- The events of a file that could not be read on behind these bytes: those of the lines whose newline is there, where
+-- no fault
 -- stands at one of these bytes.
 abbrev pub FileToFault : List ℕ → List Event → Type 0
 FileToFault bytes events = FileFrom 1 0 0 bytes Failed events file.ReadFault

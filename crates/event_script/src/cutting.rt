@@ -140,7 +140,8 @@ pub fn read_on(
     ensures event { IfEvent result (place.old.number < place.new.number) }
     ensures lawful { All IsLawful (events_answered result) }
     ensures ends { IfEnded result (λ end. EndsBy stopped end) }
-    ensures reads { (events : List Event) (end : FileEnd) → FollowsAnswer result place.new.number place.new.given (lines_until stopped (drop place.new.at bytes.now)) stopped events end
+    ensures reads { (events : List Event) (end : FileEnd)
+        → FollowsAnswer result place.new.number place.new.given (lines_until stopped (drop place.new.at bytes.now)) stopped events end
         → LinesGive place.old.number place.old.given (lines_until stopped (drop place.old.at bytes.now)) stopped (events_answered result ++ events) end }
 {
     while let Some((said, count)) = said_first(alloc, &bytes[place.at..], stopped)? {

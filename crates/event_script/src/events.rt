@@ -9,7 +9,7 @@ use crate::parts::{
     label_first, label_last, metric_first, mode_first, name_last, text_last, word_first,
 };
 use crate::words::Word;
-use stat_defs::{Event, GaugeOp, NoMemory, Txt};
+use stat_defs::{Event, GaugeOp, NoMemory, Txt, without_dot};
 use std::alloc::Global;
 
 // A gauge's number is below 2^63.
@@ -38,7 +38,8 @@ fn inc_event(alloc: Global, text: &[u8]) -> Result<Option<(Event, &[u8])>, NoMem
 }
 
 fn gauge_event(alloc: Global, op: GaugeOp, text: &[u8]) -> Result<Option<(Event, &[u8])>, NoMemory>
-    ensures { IfOk result (λ found. MatchOption found (LacksLine (gauge_in op) text.now) (λ p. HasLine (gauge_in op) text.now p.0 p.1.now)) }
+    ensures { IfOk result (λ found. MatchOption found (LacksLine (gauge_in op) text.now)
+        (λ p. HasLine (gauge_in op) text.now p.0 p.1.now)) }
 {
     let Some((label, name, rest)) = metric_first(text) else {
         return Ok(None);
@@ -90,18 +91,6 @@ fn text_event(alloc: Global, text: &[u8]) -> Result<Option<(Event, &[u8])>, NoMe
     let name = Txt::of(alloc, name)?;
     let text = Txt::of(alloc, readout)?;
     Ok(Some((Event::SetText { label, name, text }, after)))
-}
-
-// Without one final dot.
-fn without_dot(text: &[u8]) -> &[u8]
-    ensures { result.now ≡ grammar.without_dot text.now }
-{
-    let length = text.len();
-    if length > 0 && text[length - 1] == b'.' {
-        &text[..length - 1]
-    } else {
-        text
-    }
 }
 
 // The prefix that an `open` line gives.

@@ -26,7 +26,8 @@ pub fn written_line_says_its_event()
 
 /// A file of the lines that are written for lawful events gives these events.
 pub fn written_events_are_read()
-    ensures { (events : List Event) → All IsLawful events → length events ≤ limits.MAX_EVENTS → length (lines_for events) ≤ limits.MAX_FILE_BYTES
+    ensures { (events : List Event) → All IsLawful events → length events ≤ limits.MAX_EVENTS
+        → length (lines_for events) ≤ limits.MAX_FILE_BYTES
         → File (lines_for events) events FileEnd.Whole }
 {}
 
@@ -37,7 +38,8 @@ pub fn line_says_lawful_events()
 
 /// A file has one list of events and one end.
 pub fn file_is_single_valued()
-    ensures { (bytes : List ℕ) (events others : List Event) (end other : FileEnd) → File bytes events end → File bytes others other → (events ≡ others) × (end ≡ other) }
+    ensures { (bytes : List ℕ) (events others : List Event) (end other : FileEnd) → File bytes events end
+        → File bytes others other → (events ≡ others) × (end ≡ other) }
 {}
 
 /// Every file has a list of events and an end: with the law above, exactly one. The bytes from any place in a file on have them
@@ -51,20 +53,23 @@ pub fn every_file_has_a_reading()
 /// The fault at the least byte stands: one that is found before a read fault is that of the whole file, whatever else the file
 /// holds.
 pub fn first_fault_stands()
-    ensures { (bytes more : List ℕ) (events : List Event) (end : FileEnd) → FileFrom 1 0 0 bytes Pulled.Failed events end → end ≢ FileEnd.ReadFault
+    ensures { (bytes more : List ℕ) (events : List Event) (end : FileEnd)
+        → FileFrom 1 0 0 bytes Pulled.Failed events end → end ≢ FileEnd.ReadFault
         → File (bytes ++ more) events end }
 {}
 
 /// Two calls in a row took and gave what one would have.
 pub fn moves_compose<S: Source>()
-    ensures { (a b c : Reading S) (got more : List ℕ) (events others : List Event) → Moves S.state a b got events → Moves S.state b c more others
+    ensures { (a b c : Reading S) (got more : List ℕ) (events others : List Event) → Moves S.state a b got events
+        → Moves S.state b c more others
         → Moves S.state a c (got ++ more) (events ++ others) }
 {}
 
 /// What a reader answered from its start to an end of the file is what there was to read of that file: the contract of
 /// [`Lines::next`](crate::Lines::next) gives the premises.
 pub fn answers_are_a_run<S: Source>()
-    ensures { (source : S) (now : Reading S) (faults : ℕ) (got : List ℕ) (events : List Event) (end : FileEnd) → Moves S.state (unread source faults) now got events
+    ensures { (source : S) (now : Reading S) (faults : ℕ) (got : List ℕ) (events : List Event) (end : FileEnd)
+        → Moves S.state (unread source faults) now got events
         → HasEnded S.state now end → (now.stopped ≡ Some Pulled.End → IsAtEnd (S.state now.source).left)
         → IsRun (S.state source).left end now.taken events }
 {}

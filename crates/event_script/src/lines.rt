@@ -127,7 +127,8 @@ impl<S: Source> Lines<S> {
     // The end that was answered, as it is answered again.
     #[inline(always)]
     fn last_end(&self) -> Option<Step>
-        ensures { MatchOption result (self.now.ended ≡ None) (λ step. (events_answered (Ok step) ≡ []) × (end_of (Ok step) ≡ self.now.ended)) }
+        ensures { MatchOption result (self.now.ended ≡ None)
+            (λ step. (events_answered (Ok step) ≡ []) × (end_of (Ok step) ≡ self.now.ended)) }
     {
         let Some(end) = self.ended else {
             return None;

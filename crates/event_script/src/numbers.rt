@@ -55,7 +55,8 @@ pub fn is_end(text: &[u8]) -> bool
 // Whether so many digits are a number: one at least, and no zero before others.
 fn is_numeral(text: &[u8], count: usize) -> bool
     requires { count ≤ length text.now }
-    ensures { MatchBool result ((1 ≤ count) × (slice_index text.now 0 ≡ 48 → count ≡ 1)) ((count ≡ 0) ⊎ ((slice_index text.now 0 ≡ 48) × (1 < count))) }
+    ensures { MatchBool result ((1 ≤ count) × (slice_index text.now 0 ≡ 48 → count ≡ 1))
+        ((count ≡ 0) ⊎ ((slice_index text.now 0 ≡ 48) × (1 < count))) }
 {
     if count == 0 {
         return false;
@@ -65,7 +66,8 @@ fn is_numeral(text: &[u8], count: usize) -> bool
 
 // The number that the first line is, at most `most`, and what stands behind it.
 pub fn number_last(text: &[u8], most: u64) -> Option<(u64, &[u8])>
-    ensures { MatchOption result (LacksLine (read_number most) text.now) (λ p. HasLine (read_number most) text.now p.0 p.1.now × (p.0 ≤ most)) }
+    ensures { MatchOption result (LacksLine (read_number most) text.now)
+        (λ p. HasLine (read_number most) text.now p.0 p.1.now × (p.0 ≤ most)) }
 {
     let Some((n, count)) = digits_first(text, most) else {
         return None;

@@ -8,17 +8,21 @@ ghost use Rattle.loglinear_bins.specs.Counts.{AreBinsOf, IsBinList, total, count
 /// What is added to a bin is added to its count and to the number of values, and every other count stays.
 /// So the bins of a list of values are, after `record`, those of the list with the value.
 pub fn record_law()
-    ensures count { (counts : List BinCount) (bin other : Bin) (n : ℕ) → count_of (added counts bin n) other ≡ count_of counts other + (if is_same bin other then n else 0) }
+    ensures count { (counts : List BinCount) (bin other : Bin) (n : ℕ)
+        → count_of (added counts bin n) other ≡ count_of counts other + (if is_same bin other then n else 0) }
     ensures total { (counts : List BinCount) (bin : Bin) (n : ℕ) → total (added counts bin n) ≡ total counts + n }
-    ensures values { (counts : List BinCount) (values : List ℕ) (v : ℕ) → AreBinsOf counts values → AreBinsOf (added counts (bin_of_value v) 1) (values ++ v ∷ []) }
+    ensures values { (counts : List BinCount) (values : List ℕ) (v : ℕ) → AreBinsOf counts values
+        → AreBinsOf (added counts (bin_of_value v) 1) (values ++ v ∷ []) }
 {}
 
 /// All counts of two histograms are added.
 /// So the bins of two lists of values are, after `merge`, those of both lists.
 pub fn merge_law()
-    ensures count { (counts others : List BinCount) (bin : Bin) → count_of (merged counts others) bin ≡ count_of counts bin + count_of others bin }
+    ensures count { (counts others : List BinCount) (bin : Bin)
+        → count_of (merged counts others) bin ≡ count_of counts bin + count_of others bin }
     ensures total { (counts others : List BinCount) → total (merged counts others) ≡ total counts + total others }
-    ensures values { (counts others : List BinCount) (values more : List ℕ) → AreBinsOf counts values → AreBinsOf others more → AreBinsOf (merged counts others) (values ++ more) }
+    ensures values { (counts others : List BinCount) (values more : List ℕ) → AreBinsOf counts values
+        → AreBinsOf others more → AreBinsOf (merged counts others) (values ++ more) }
 {}
 
 /// The bins of a list of values are a function of it: one value more is one more in its bin, each bin counts the values that it

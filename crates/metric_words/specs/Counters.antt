@@ -1,14 +1,22 @@
--- The rule of a counter bank's words (this project's own, after the counters of Envoy's design note `source/docs/stats.md`, which have a value and a pending increment).
+-- The rule of a counter bank's words (this project's own, after the counters of Envoy's design note
+-- `source/docs/stats.md`, which have a value and a pending increment).
 --
--- The word 2 * id is the value of the counter `id`, and the word 2 * id + 1 is what of it is pending: accepted, and not yet latched.
--- A worker's add of n is two steps, first n to the value and then n to the pending word, where its units count as accepted. The flusher's latch swaps the pending word with 0.
+-- The word 2 * id is the value of the counter `id`, and the word 2 * id + 1 is what of it is pending: accepted, and not
+-- yet latched.
+-- A worker's add of n is two steps, first n to the value and then n to the pending word, where its units count as
+-- accepted. The flusher's latch swaps the pending word with 0.
 -- The reader's reading loads the value.
 --
--- Why the ledger is exact at every moment of every interleaving. Each seat has the list of its own steps, which that seat's steps alone lengthen; it is kept for the proof alone, and the newest step stands first.
--- `Counted` is a fact of the words and of all these lists. It is what the table's rule `holds`, so it holds when the bank is made, and a step is only allowed where it keeps it, whatever the other seats did before.
--- So it holds at every moment, which is any point between two atomic steps, and the steps have one order, since all of them are sequentially consistent.
--- An add's first step raises the value and its seat's first steps by the same n, and its second step raises the pending word and the second steps alike.
--- A latch moves the whole pending word into the latches in one step. So an add that comes before the swap is in the latch, one that comes after it is pending, and none is in between.
+-- Why the ledger is exact at every moment of every interleaving. Each seat has the list of its own steps, which that
+-- seat's steps alone lengthen; it is kept for the proof alone, and the newest step stands first.
+-- `Counted` is a fact of the words and of all these lists. It is what the table's rule `holds`, so it holds when the
+-- bank is made, and a step is only allowed where it keeps it, whatever the other seats did before.
+-- So it holds at every moment, which is any point between two atomic steps, and the steps have one order, since all of
+-- them are sequentially consistent.
+-- An add's first step raises the value and its seat's first steps by the same n, and its second step raises the pending
+-- word and the second steps alike.
+-- A latch moves the whole pending word into the latches in one step. So an add that comes before the swap is in the
+-- latch, one that comes after it is pending, and none is in between.
 -- A load changes no word. A split or a join moves lists from view to view, and no sum over all lists can tell.
 -- No add wraps, since all workers together stay below 2^64.
 use Rattle.std.specs.Prelude.{◌≡◌, ℕ, zero, suc, ◌+◌, ◌*◌, ◌^◌, ◌<◌, ◌≤◌, Bool, true, false, ◌==◌, List, [], ◌∷◌, length, slice_index, All}
@@ -104,7 +112,8 @@ seconds id steps = total (second_by id) steps
 abbrev pub latches : ℕ → List CountStep → ℕ
 latches id steps = total (latch_by id) steps
 
--- the units of the add that has made its first step and not yet its second: those of the newest step, where that is a first step
+-- the units of the add that has made its first step and not yet its second: those of the newest step, where that is a
+-- first step
 abbrev pub under_way : ℕ → List CountStep → ℕ
 under_way id [] = 0
 under_way id (s ∷ ss) = first_by id s
@@ -118,7 +127,8 @@ abbrev pub Rises : ℕ → List CountStep → ℕ → Type 0
 Rises id [] top = Unit {0}
 Rises id (s ∷ ss) top = (seen_by id s top ≤ top) × Rises id ss (seen_by id s top)
 
--- What a seat of the bank is: it makes the steps of its role alone, its units on a counter keep their bound, its first steps are ahead of its second ones by the add under way, and its loads rise.
+-- What a seat of the bank is: it makes the steps of its role alone, its units on a counter keep their bound, its first
+-- steps are ahead of its second ones by the add under way, and its loads rise.
 pub record FitsBank (workers : ℕ) (words : List ℕ) (p : CountPart) : Type 0 where
   pub knows : p.workers ≡ workers
   pub kinds : All (λ s. role_of s.kind ≡ p.role) p.steps
@@ -126,14 +136,16 @@ pub record FitsBank (workers : ℕ) (words : List ℕ) (p : CountPart) : Type 0 
   pub ahead : (id : ℕ) → firsts id p.steps ≡ seconds id p.steps + under_way id p.steps
   pub loads : (id : ℕ) → Rises id p.steps (slice_index words (2 * id))
 
--- The rule. Each seat's steps stand in some view, and those of one worker or of the flusher in no two. The sums over all seats' first and second steps are the workers', and the latches are the flusher's.
+-- The rule. Each seat's steps stand in some view, and those of one worker or of the flusher in no two. The sums over
+-- all seats' first and second steps are the workers', and the latches are the flusher's.
 pub record Counted (key : BankKey) (s : State (Unit {0}) View) : Type 0 where
   pub wide : length s.words ≡ 2 * key.size
   pub narrow : key.workers * MAX_UNITS < 2 ^ 64
   pub workers : parts_total (λ p. worker_weight p.role) s.views ≡ key.workers
   pub flusher : parts_total (λ p. flusher_weight p.role) s.views ≡ 1
   pub value : (id : ℕ) → slice_index s.words (2 * id) ≡ parts_total (λ p. firsts id p.steps) s.views
-  pub pending : (id : ℕ) → slice_index s.words (2 * id + 1) + parts_total (λ p. latches id p.steps) s.views ≡ parts_total (λ p. seconds id p.steps) s.views
+  pub pending : (id : ℕ) → slice_index s.words (2 * id + 1) +
+      parts_total (λ p. latches id p.steps) s.views ≡ parts_total (λ p. seconds id p.steps) s.views
   pub each : AllParts (FitsBank key.workers s.words) s.views
 
 -- a seat that has made no step
@@ -181,7 +193,8 @@ SecondAdded st m r m' = (id : ℕ) → st.word ≡ 2 * id + 1 → m' ≡ (with_s
 abbrev pub HasAllWorkers : View → Type 0
 HasAllWorkers v = length (taken_parts v) ≡ (own_part v).workers
 
--- where the flusher has taken in all workers, its latches of this counter and the latch that finds r are together all second steps
+-- where the flusher has taken in all workers, its latches of this counter and the latch that finds r are together all
+-- second steps
 abbrev pub Latched : Step (Unit {0}) → Sat → ℕ → Sat → Type 0
 Latched st m r m' = (id : ℕ) → st.word ≡ 2 * id + 1 →
     (m' ≡ (with_step (step_of Latch id 0 r) m.0, m.1))

@@ -62,9 +62,11 @@ gauge_parts s = gauge_part s.flusher ∷ (map gauge_part s.workers.items ++ gaug
 abbrev pub SameWords : ℕ → List ℕ → List ℕ → Type 0
 SameWords size words copy = (length copy ≡ size) × ((id : ℕ) → id < size → slice_index copy id ≡ slice_index words id)
 
--- The words at the end: each is the net of all steps modulo 2^64; where one seat alone has written, the fold of its steps; and where each seat that wrote has a set as its newest write, the number of one of these.
+-- The words at the end: each is the net of all steps modulo 2^64; where one seat alone has written, the fold of its
+-- steps; and where each seat that wrote has a set as its newest write, the number of one of these.
 pub record IsGaugeLedger (size : ℕ) (seats : List GaugePart) (words : List ℕ) : Type 0 where
   pub words_length : length words ≡ size
   pub value : (id : ℕ) → id < size → slice_index words id ≡ total (λ p. net id p.steps) seats % 2 ^ 64
-  pub alone : (id : ℕ) → id < size → All (λ p. total (λ q. written id q.steps) seats ≡ written id p.steps → slice_index words id ≡ fold_of id p.steps) seats
+  pub alone : (id : ℕ) → id < size → All (λ p. total (λ q. written id q.steps) seats ≡ written id p.steps
+      → slice_index words id ≡ fold_of id p.steps) seats
   pub last : (id : ℕ) → id < size → (total (λ p. written id p.steps) seats ≡ 0) ⊎ Any (WroteLast id (slice_index words id)) seats

@@ -1,11 +1,16 @@
--- The rule of a gauge bank's words (this project's own, after the gauges of Envoy's design note `source/docs/stats.md`, which are added to, subtracted from and set).
+-- The rule of a gauge bank's words (this project's own, after the gauges of Envoy's design note `source/docs/stats.md`,
+-- which are added to, subtracted from and set).
 --
--- The word `id` is the gauge `id`, in two's complement. Each step is one atomic step on that word: an add, a subtraction, a swap for a set, or a load.
+-- The word `id` is the gauge `id`, in two's complement. Each step is one atomic step on that word: an add, a
+-- subtraction, a swap for a set, or a load.
 --
--- What holds at every moment of every interleaving, of the words and of all seats' step lists, which are kept as those of the counters:
--- the word is the net of all steps modulo 2^64, since a set counts its number less the word that it displaced, so that the steps before it cancel out.
+-- What holds at every moment of every interleaving, of the words and of all seats' step lists, which are kept as those
+-- of the counters:
+-- the word is the net of all steps modulo 2^64, since a set counts its number less the word that it displaced, so that
+-- the steps before it cancel out.
 -- Where one seat alone has written the gauge, its word is the fold of that seat's steps, since no other step came in between.
--- The seat that wrote last is some seat. Where its newest write is a set, the word is the number of that set; so where each seat that wrote has a set as its newest write, the word is the number of one of these.
+-- The seat that wrote last is some seat. Where its newest write is a set, the word is the number of that set; so where
+-- each seat that wrote has a set as its newest write, the word is the number of one of these.
 use Rattle.std.specs.Prelude.{◌≡◌, ℕ, zero, suc, ◌+◌, ◌-◌, ◌%◌, ◌^◌, ◌≤◌, Bool, true, false, ◌==◌, List, [], ◌∷◌, ◌⊎◌, length, slice_index}
 use Rattle.atomic_table.specs.Table.{State, Me, Step}
 use Rattle.seat_parts.specs.declared.Parts.{Parts}

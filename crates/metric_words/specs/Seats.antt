@@ -107,14 +107,17 @@ pub record HasWords (size : ℕ) (words values pending : List ℕ) : Type 0 wher
   pub even : (id : ℕ) → id < size → slice_index values id ≡ slice_index words (2 * id)
   pub odd : (id : ℕ) → id < size → slice_index pending id ≡ slice_index words (2 * id + 1)
 
--- The ledger at the end, for each counter: its value is the sum of the workers' first steps. What is pending and the latches are together the sum of their second steps, which is the same number.
+-- The ledger at the end, for each counter: its value is the sum of the workers' first steps. What is pending and the
+-- latches are together the sum of their second steps, which is the same number.
 -- No load found more than the value. Where the flusher's latches are all units that were accepted, nothing is pending.
 pub record IsLedger (size workers : ℕ) (s : WordSeats) (values pending : List ℕ) : Type 0 where
   pub values_length : length values ≡ size
   pub pending_length : length pending ≡ size
   pub value : (id : ℕ) → id < size → slice_index values id ≡ workers_total (λ p. firsts id p.steps) s
-  pub accepted : (id : ℕ) → id < size → slice_index pending id + latches id (flush_steps s.flusher) ≡ workers_total (λ p. seconds id p.steps) s
+  pub accepted : (id : ℕ) → id < size → slice_index pending id + latches id (flush_steps s.flusher) ≡
+      workers_total (λ p. seconds id p.steps) s
   pub even : (id : ℕ) → id < size → slice_index values id ≡ slice_index pending id + latches id (flush_steps s.flusher)
   pub units : (id : ℕ) → id < size → slice_index values id ≤ workers * MAX_UNITS
   pub loads : (id : ℕ) → id < size → Rises id (read_steps s.reader) (slice_index values id)
-  pub latched : (id : ℕ) → id < size → latches id (flush_steps s.flusher) ≡ workers_total (λ p. seconds id p.steps) s → slice_index pending id ≡ 0
+  pub latched : (id : ℕ) → id < size → latches id (flush_steps s.flusher) ≡ workers_total (λ p. seconds id p.steps) s
+      → slice_index pending id ≡ 0

@@ -66,7 +66,8 @@ impl CounterBank {
 
 fn read_out(closed: &Closed<(), Global>, size: usize, values: &mut Vec<u64>, pending: &mut Vec<u64>)
     requires words { IsFull closed.now.words × (slots_len closed.now.words ≡ 2 * size) }
-    requires room { (values.old.items ≡ []) × (pending.old.items ≡ []) × (size ≤ vec_capacity values.old) × (size ≤ vec_capacity pending.old) }
+    requires room { (values.old.items ≡ []) × (pending.old.items ≡ []) × (size ≤ vec_capacity values.old)
+        × (size ≤ vec_capacity pending.old) }
     ensures { HasWords size (slots_items closed.now.words) values.new.items pending.new.items }
 {
     for id in 0..size {

@@ -10,7 +10,8 @@ use std::alloc::Global;
 #[derive(Drop)]
 pub struct GaugeBank {
     pub(crate) table: Table<(), GaugeView, GaugeKey, Gauging, Global>,
-    ghost sized: { (table.shared.table_id.words ≡ table.shared.key.size) × (table.shared.table_id.slots ≡ 0) × (0 < table.shared.key.size) },
+    ghost sized: { (table.shared.table_id.words ≡ table.shared.key.size) × (table.shared.table_id.slots ≡ 0)
+        × (0 < table.shared.key.size) },
 }
 
 pub(crate) type GaugePlace = Seat<(), GaugeView>;

@@ -25,8 +25,10 @@ pub struct FlushSeat {
     ghost leads: { (0 < length seat.me.0.parts) × (length seat.me.1 ≡ 0) },
     ghost role: { flusher_weight (own_part seat.me.0).role ≡ 1 },
     ghost others: { total (λ p. worker_weight p.role) (taken_parts seat.me.0) ≡ length (taken_parts seat.me.0) },
-    ghost kinds: { (id : ℕ) → (firsts id (own_steps seat.me.0) ≡ 0) × (seconds id (own_steps seat.me.0) ≡ 0) × (total (λ p. latches id p.steps) (taken_parts seat.me.0) ≡ 0) },
-    ghost even: { (id : ℕ) → total (λ p. firsts id p.steps) (taken_parts seat.me.0) ≡ total (λ p. seconds id p.steps) (taken_parts seat.me.0) },
+    ghost kinds: { (id : ℕ) → (firsts id (own_steps seat.me.0) ≡ 0) × (seconds id (own_steps seat.me.0) ≡ 0)
+        × (total (λ p. latches id p.steps) (taken_parts seat.me.0) ≡ 0) },
+    ghost even: { (id : ℕ) → total (λ p. firsts id p.steps) (taken_parts seat.me.0) ≡
+        total (λ p. seconds id p.steps) (taken_parts seat.me.0) },
 }
 
 /// The reader's seat, which loads.
@@ -35,7 +37,8 @@ pub struct ReadSeat {
     pub(crate) seat: Place,
     ghost alone: { (length seat.me.0.parts ≡ 1) × (length seat.me.1 ≡ 0) },
     ghost role: { reader_weight (own_part seat.me.0).role ≡ 1 },
-    ghost kinds: { (id : ℕ) → (firsts id (own_steps seat.me.0) ≡ 0) × (seconds id (own_steps seat.me.0) ≡ 0) × (latches id (own_steps seat.me.0) ≡ 0) },
+    ghost kinds: { (id : ℕ) → (firsts id (own_steps seat.me.0) ≡ 0) × (seconds id (own_steps seat.me.0) ≡ 0)
+        × (latches id (own_steps seat.me.0) ≡ 0) },
 }
 
 /// All seats of a bank: one for each worker, in the order of their numbers, one for the flusher, and one for the reader.

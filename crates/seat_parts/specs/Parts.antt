@@ -1,6 +1,8 @@
 -- Views as lists of parts, one part for each seat that a table was made with (this project's own).
--- The part of a seat that steps alone is the one part of its view. A seat that took others in has theirs behind its own, and a seat that was taken in has none.
--- So each part stands in exactly one view, however seats are split and joined, and a sum over all parts of all views speaks of all seats that the table was made with.
+-- The part of a seat that steps alone is the one part of its view. A seat that took others in has theirs behind its
+-- own, and a seat that was taken in has none.
+-- So each part stands in exactly one view, however seats are split and joined, and a sum over all parts of all views
+-- speaks of all seats that the table was made with.
 use Rattle.std.specs.Prelude.{ℕ, ◌+◌, List, [], ◌∷◌, ◌++◌, All}
 use Rattle.std.specs.List.{Any}
 use Rattle.seat_parts.specs.declared.Parts.{Parts}

@@ -1,6 +1,8 @@
--- What an event and a key may hold (the event file is this project's own; scopes, kinds and modes: Envoy's design note on statistics).
-use Rattle.std.specs.Prelude.{◌≡◌, ◌≢◌, ◌<◌, ◌^◌, ℕ, true, List, codes}
-use Rattle.std.specs.List.{list_all}
+-- What an event and a key may hold (the event file is this project's own; scopes, kinds and modes: Envoy's design note
+-- on statistics).
+use Rattle.std.specs.Prelude.{◌≡◌, ◌≢◌, ◌<◌, ◌^◌, ◌==◌, ℕ, true, List, [], ◌∷◌, length, codes}
+use Rattle.std.specs.List.{list_all, ends_with}
+use Rattle.stat_defs.specs.declared.events.TheConstants.{MAX_NAME_BYTES}
 use Rattle.stat_defs.specs.declared.events.Event.{Event}
 use Rattle.stat_defs.specs.declared.events.Event.TheVariants as event
 use Rattle.stat_defs.specs.declared.events.Key.{Key}
@@ -14,9 +16,11 @@ use Rattle.stat_defs.specs.Names.{is_printable_byte, IsLabel, IsLocalName, IsSco
 abbrev pub IsReadout : List ℕ → Type 0
 IsReadout text = list_all is_printable_byte text ≡ true
 
--- an opening's prefix, which is never `-`, since a line says the empty prefix so
-abbrev pub IsOpenedPrefix : List ℕ → Type 0
-IsOpenedPrefix prefix = IsScopePrefix prefix × (prefix ≢ codes "-")
+-- an opening's prefix is written in at most 255 bytes: behind a final dot with one dot more, and `-` for the empty one
+pub record IsOpenedPrefix (prefix : List ℕ) : Type 0 where
+  pub fits : IsScopePrefix prefix
+  pub room_for_dot : ends_with ◌==◌ prefix (46 ∷ []) ≡ true → length prefix < MAX_NAME_BYTES
+  pub not_dash : prefix ≢ codes "-"
 
 -- a counter's units have 32 bits, a gauge's number has 63, and a histogram's value 64
 abbrev pub IsLawfulEvent : Event → Type 0

@@ -1,6 +1,6 @@
 -- Labels, names, prefixes and tokens (Envoy's design note on statistics; the bytes allowed in them are this project's own).
-use Rattle.std.specs.Prelude.{◌≡◌, ◌≤◌, ℕ, Bool, true, ◌||◌, ◌&&◌, ◌==◌, nat_le, List, [], ◌∷◌, ◌++◌, length}
-use Rattle.std.specs.List.{list_all, slice_split}
+use Rattle.std.specs.Prelude.{◌≡◌, ◌≤◌, ◌-◌, ℕ, Bool, true, if◌then◌else◌, ◌||◌, ◌&&◌, ◌==◌, nat_le, List, [], ◌∷◌, ◌++◌, length, take}
+use Rattle.std.specs.List.{list_all, slice_split, ends_with}
 use Rattle.stat_defs.specs.declared.events.TheConstants.{MAX_LABEL_BYTES, MAX_NAME_BYTES}
 
 -- a letter, a digit or a low line
@@ -21,7 +21,8 @@ pub record IsLabel (label : List ℕ) : Type 0 where
   pub short : length label ≤ MAX_LABEL_BYTES
   pub bytes : list_all is_label_byte label ≡ true
 
--- a metric's name in its scope has 1 to 255 printable bytes without spaces; so have a tag's name and the prefix of StatsD lines
+-- a metric's name in its scope has 1 to 255 printable bytes without spaces; so have a tag's name and the prefix of
+-- StatsD lines
 pub record IsLocalName (name : List ℕ) : Type 0 where
   pub not_empty : 1 ≤ length name
   pub short : length name ≤ MAX_NAME_BYTES
@@ -37,6 +38,10 @@ pub record IsFullName (name : List ℕ) : Type 0 where
   pub not_empty : 1 ≤ length name
   pub short : length name ≤ 511
   pub bytes : list_all is_name_byte name ≡ true
+
+-- without one final dot
+abbrev pub without_dot : List ℕ → List ℕ
+without_dot text = if ends_with ◌==◌ text (46 ∷ []) then take (length text - 1) text else text
 
 -- the full name: prefix, dot, name; the name alone where the prefix is empty
 abbrev pub full : List ℕ → List ℕ → List ℕ

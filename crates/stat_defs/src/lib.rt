@@ -29,7 +29,7 @@ pub use ids::{Kind, MetricId, Mode, ScopeId};
 pub use lists::{List, Numbers, Words};
 pub use memory::NoMemory;
 pub use metrics::{Life, Metric, Tag, Tagged};
-pub use names::{is_label_byte, is_name_byte};
+pub use names::{is_label_byte, is_name_byte, without_dot};
 pub use reports::{
     Delta, FileEnd, FlushRecord, LastFlush, Part, ReadRecord, Reading, Report, WorkerEnd,
 };

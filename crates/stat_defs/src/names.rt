@@ -1,4 +1,4 @@
-//! The bytes of labels and names.
+//! The bytes of labels, names and prefixes.
 ghost use Rattle.std.specs.Prelude.{◌≡◌};
 ghost use Rattle.stat_defs.specs.Names as names;
 
@@ -14,4 +14,15 @@ pub fn is_name_byte(b: u8) -> bool
     ensures { result ≡ names.is_name_byte b }
 {
     (b'!'..=b'~').contains(&b)
+}
+
+/// The text without its last dot, where it ends in one.
+pub fn without_dot(text: &[u8]) -> &[u8]
+    ensures { result.now ≡ names.without_dot text.now }
+{
+    if text.ends_with(b".") {
+        &text[..text.len() - 1]
+    } else {
+        text
+    }
 }

@@ -33,4 +33,5 @@ BeginsAtMostOne = (m n : ℕ) (xs ys : List ℕ) → spelling m ++ xs ≡ spelli
 
 -- a law: where a spelling was written, a reader's one answer is that number, whatever follows
 abbrev pub IsReadAgain : Type 0
-IsReadAgain = (n : ℕ) (rest : List ℕ) (answer : Option (ℕ × ℕ)) → n < 2 ^ 32 → Takes (spelling n ++ rest) answer → answer ≡ Some (n, length (spelling n))
+IsReadAgain = (n : ℕ) (rest : List ℕ) (answer : Option (ℕ × ℕ)) → n < 2 ^ 32 → Takes (spelling n ++ rest) answer
+    → answer ≡ Some (n, length (spelling n))

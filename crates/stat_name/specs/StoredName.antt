@@ -38,7 +38,8 @@ pub record BeginsWithName (bytes : List ℕ) (numbers : List ℕ) : Type 0 where
 -- what a reader answers: a name whose stored form the bytes begin with, and the length of that form; nothing where
 -- they begin with the stored form of no name
 abbrev pub Reads : List ℕ → Option (List ℕ × ℕ) → Type 0
-Reads bytes answer = MatchOption answer ((numbers : List ℕ) → BeginsWithName bytes numbers → ⊥) (λ r. BeginsWithName bytes r.0 × (r.1 ≡ length (stored r.0)))
+Reads bytes answer = MatchOption answer ((numbers : List ℕ) → BeginsWithName bytes numbers → ⊥)
+    (λ r. BeginsWithName bytes r.0 × (r.1 ≡ length (stored r.0)))
 
 -- a law: no stored form is a prefix of another one
 abbrev pub BeginsAtMostOneName : Type 0
@@ -46,4 +47,5 @@ BeginsAtMostOneName = (one other : List ℕ) (xs ys : List ℕ) → stored one +
 
 -- a law: where a name was written, a reader's one answer is that name, whatever follows
 abbrev pub IsNameReadAgain : Type 0
-IsNameReadAgain = (numbers : List ℕ) (rest : List ℕ) (answer : Option (List ℕ × ℕ)) → IsName numbers → All (λ n. n < 2 ^ 32) numbers → Reads (stored numbers ++ rest) answer → answer ≡ Some (numbers, length (stored numbers))
+IsNameReadAgain = (numbers : List ℕ) (rest : List ℕ) (answer : Option (List ℕ × ℕ)) → IsName numbers →
+    All (λ n. n < 2 ^ 32) numbers → Reads (stored numbers ++ rest) answer → answer ≡ Some (numbers, length (stored numbers))

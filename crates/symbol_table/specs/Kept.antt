@@ -24,7 +24,8 @@ AllUsed slots n = (i : ℕ) → i < n → (slot : Slot) × (slice_get slots i �
 pub record Indexed (b : Inside) : Type 0 where
   pub found : (token : List ℕ) (n : ℕ) → get (pointwise nat_eq) b.index token ≡ Some n
       → (i : ℕ) × (slot : Slot) × (n ≡ i + 1) × (slice_get b.slots.items i ≡ Some slot) × (slot.token ≡ token) × (0 < slot.uses)
-  pub listed : (i : ℕ) (slot : Slot) → slice_get b.slots.items i ≡ Some slot → 0 < slot.uses → get (pointwise nat_eq) b.index slot.token ≡ Some (i + 1)
+  pub listed : (i : ℕ) (slot : Slot) → slice_get b.slots.items i ≡ Some slot → 0 < slot.uses
+      → get (pointwise nat_eq) b.index slot.token ≡ Some (i + 1)
   pub used : AllUsed b.slots.items b.free_from
 
 pub record Kept (b : Inside) : Type 0 where

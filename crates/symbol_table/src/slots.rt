@@ -87,7 +87,8 @@ pub fn write_slot(slots: &mut Vec<Slot>, at: usize, slot: Slot)
 pub fn add_use(slots: &mut Vec<Slot>, at: usize)
     requires within { at < length slots.old.items }
     requires room { (slot : TheSlot) → slice_get slots.old.items at ≡ Some slot → slot.uses + 1 < 2 ^ 32 }
-    ensures { (slot : TheSlot) → slice_get slots.old.items at ≡ Some slot → Changed slots.old.items slots.new.items at (record slot { uses = slot.uses + 1 }) }
+    ensures { (slot : TheSlot) → slice_get slots.old.items at ≡ Some slot
+        → Changed slots.old.items slots.new.items at (record slot { uses = slot.uses + 1 }) }
 {
     let slot = &mut slots[at];
     slot.uses += 1;
@@ -97,7 +98,8 @@ pub fn add_use(slots: &mut Vec<Slot>, at: usize)
 pub fn drop_use(slots: &mut Vec<Slot>, at: usize) -> bool
     requires within { at < length slots.old.items }
     requires some { (slot : TheSlot) → slice_get slots.old.items at ≡ Some slot → 0 < slot.uses }
-    ensures changed { (slot : TheSlot) → slice_get slots.old.items at ≡ Some slot → Changed slots.old.items slots.new.items at (record slot { uses = slot.uses - 1 }) }
+    ensures changed { (slot : TheSlot) → slice_get slots.old.items at ≡ Some slot
+        → Changed slots.old.items slots.new.items at (record slot { uses = slot.uses - 1 }) }
     ensures last { (slot : TheSlot) → slice_get slots.old.items at ≡ Some slot → result ≡ (slot.uses == 1) }
 {
     let slot = &mut slots[at];

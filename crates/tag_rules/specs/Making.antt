@@ -29,7 +29,8 @@ Makes text old new (Ok pattern) = (pattern ≡ text) × (new ≡ after_making (t
 Makes text old new (Err Refused) = Refuses text old new × (new.made ≡ old.made)
 Makes text old new (Err NoMemory) = new ≡ old
 
--- `regex` refuses the text: its grammar does not read it, or the text is a pattern that is not compiled, which is for its size
+-- `regex` refuses the text: its grammar does not read it, or the text is a pattern that is not compiled, which is for
+-- its size
 abbrev pub IsRefusedText : List ℕ → Type 0
 IsRefusedText text = (error : Error) × (error ≢ OutOfMemory) × IsRefusal default_config text error × IsRightKind default_config text error
 

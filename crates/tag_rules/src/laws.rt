@@ -24,7 +24,8 @@ pub fn config_law()
 
 /// The bounds of every histogram rise under a lawful configuration.
 pub fn bounds_law()
-    ensures { (config : Config) → IsConfig config → (name : List ℕ) → IsStrictlyIncreasing (map (λ bound. bound.halves) (bounds_for config.buckets name)) }
+    ensures { (config : Config) → IsConfig config → (name : List ℕ)
+        → IsStrictlyIncreasing (map (λ bound. bound.halves) (bounds_for config.buckets name)) }
 {}
 
 /// A full name is a text.

@@ -21,6 +21,7 @@ FillIsFind = (cached filled held : List Held) (one : Held) → SameHeld cached h
 
 -- an acknowledgement: the seat keeps the entries of live scopes, and the cache dropped the scopes of the others
 abbrev pub DropIsAcknowledgement : Type 0
-DropIsAcknowledgement = (cached left held : List Held) (released : List ScopeId) (stays : Held → Bool) → SameHeld cached held → HasDifferentKeys held
+DropIsAcknowledgement = (cached left held : List Held) (released : List ScopeId) (stays : Held → Bool)
+    → SameHeld cached held → HasDifferentKeys held
     → All (λ one. stays one ≡ not (is_of released one)) held
     → ((key : Key) → held_under key left ≡ held_without released (held_under key cached)) → SameHeld left (filter stays held)

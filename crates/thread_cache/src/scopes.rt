@@ -88,7 +88,8 @@ pub(crate) fn drop_scope(scopes: &mut Scopes, scope: ScopeId) -> u64
 
 // Drops these scopes, and answers how stale the table is then.
 pub(crate) fn drop_scopes(scopes: &mut Scopes, released: &[ScopeId], stale: u64) -> u64
-    ensures live { (s : ScopeId) → is_live scopes.new.entries s ≡ (not (list_any (λ r. r.0 == s.0) released.now) && is_live scopes.old.entries s) }
+    ensures live { (s : ScopeId) → is_live scopes.new.entries s ≡ (not (list_any
+        (λ r. r.0 == s.0) released.now) && is_live scopes.old.entries s) }
     ensures listed { (s : ScopeId) → is_listed scopes.new.entries s ≡ is_listed scopes.old.entries s }
     ensures idle { result ≡ 0 → (stale ≡ 0) × ((s : ScopeId) → is_live scopes.new.entries s ≡ is_live scopes.old.entries s) }
     ensures spare { spare scopes.old ≤ spare scopes.new }

@@ -79,7 +79,8 @@ fn add_by_four<R: Threads + Sync>(
 ) -> Four
     requires apart { (apart ≤ 16) × (size_of bank.now ≡ 64) }
     requires ready { IsReady bank.now four.0 0 × IsReady bank.now four.1 0 × IsReady bank.now four.2 0 × IsReady bank.now four.3 0 }
-    ensures { (worker_bank result.0 ≡ bank_id bank.now) × (worker_bank result.1 ≡ bank_id bank.now) × (worker_bank result.2 ≡ bank_id bank.now) × (worker_bank result.3 ≡ bank_id bank.now) }
+    ensures { (worker_bank result.0 ≡ bank_id bank.now) × (worker_bank result.1 ≡ bank_id bank.now)
+        × (worker_bank result.2 ≡ bank_id bank.now) × (worker_bank result.3 ≡ bank_id bank.now) }
 {
     let (first, second, third, fourth) = four;
     let ((first, second), (third, fourth)) = join(

@@ -64,7 +64,8 @@ fn call_by_four<R: Threads + Sync>(
     times: u32,
 ) -> Four
     requires { IsGaugeReady bank.now four.0 × IsGaugeReady bank.now four.1 × IsGaugeReady bank.now four.2 × IsGaugeReady bank.now four.3 }
-    ensures { (gauge_bank result.0 ≡ gauges_id bank.now) × (gauge_bank result.1 ≡ gauges_id bank.now) × (gauge_bank result.2 ≡ gauges_id bank.now) × (gauge_bank result.3 ≡ gauges_id bank.now) }
+    ensures { (gauge_bank result.0 ≡ gauges_id bank.now) × (gauge_bank result.1 ≡ gauges_id bank.now)
+        × (gauge_bank result.2 ≡ gauges_id bank.now) × (gauge_bank result.3 ≡ gauges_id bank.now) }
 {
     let (first, second, third, fourth) = four;
     let ((first, second), (third, fourth)) = join(
