@@ -26,7 +26,7 @@ prefix_of scopes label = option_map (λ scope. scope.prefix) (find (λ scope. by
 abbrev pub full_in : List ScopeSpec → List ℕ → List ℕ → Option (List ℕ)
 full_in scopes label name = option_map (λ prefix. full prefix name) (prefix_of scopes label)
 
--- the full name that an event means; so far increments alone have lines
+-- the full name that an increment means; another event means no counter
 abbrev pub meant : Rules → Event → Option (List ℕ)
 meant rules (Inc label name n) = full_in rules.scopes label name
 meant rules other = None

@@ -1,6 +1,5 @@
 //! The pairs of label and name that were seen, with their verdicts.
 ghost use Rattle.std.specs.Prelude.{◌≡◌, ◌++◌, ◌∷◌, ◌<◌, ◌^◌, ◌⊎◌, [], None, IfSome};
-ghost use Rattle.std.specs.Hash as fed;
 ghost use Rattle.std.specs.Cmp.Rules.{hashing};
 ghost use Rattle.std.proofs.Common.{rules};
 ghost use Rattle.indexmap.specs.IndexMap.{get, spare};
@@ -17,17 +16,15 @@ pub(crate) struct ScopedName {
     pub(crate) name: Txt,
 }
 
-// Each text is hashed as a whole, as `str` is: byte by byte would be one step of the hasher for each byte.
+// Label and name are hashed, each as a whole: byte by byte would be one step of the hasher for each byte.
 impl Hash for ScopedName {
-    ghost hash_input = { λ pair. fed.str pair.label ++ fed.str pair.name };
+    ghost hash_input = { λ pair. pair.label ∷ pair.name ∷ [] };
 
     ghost respects_eq = { Prim.search (hashing, rules) };
 
     fn hash<H: Hasher>(&self, state: &mut H) {
         state.write(self.label.bytes());
-        state.write_u8(255);
         state.write(self.name.bytes());
-        state.write_u8(255);
     }
 }
 
