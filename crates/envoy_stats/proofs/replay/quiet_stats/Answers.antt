@@ -1,7 +1,7 @@
 use Rattle.envoy_stats.proofs.replay.quiet_stats.Goals as goal
 
-pub returns-clause-call : goal.returns-clause-call
-returns-clause-call c = record {
+pub returns : goal.returns
+returns c = record {
   usage_status = c.quiet_stats_with.ensures.usage;
   refused = c.quiet_stats_with.ensures.refused;
   replayed = c.quiet_stats_with.ensures.replayed;
