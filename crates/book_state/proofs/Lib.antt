@@ -14,6 +14,8 @@ pub mod Finds
 pub mod Safety
 pub mod Staying
 pub mod Growing
+pub mod OwnCalls
+pub mod Holding
 pub mod Entering
 pub mod Storing
 pub mod Applying
