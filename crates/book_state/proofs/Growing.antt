@@ -1,5 +1,5 @@
 -- A log with one entry more, and a chain with one link more.
-use Rattle.std.proofs.Common.{◌≡◌, ◌≢◌, ◌≤◌, ℕ, zero, suc, ◌==◌, Bool, true, false, cond, ◌&&◌, Option, option_map, option_and_then, List, [], ◌∷◌, ◌++◌, slice_get, length, refl, ap, sym, ◌∙◌, subst, arith, inl, inr, append_assoc, append-nil}
+use Rattle.std.proofs.Common.{◌≡◌, ◌≢◌, ◌≤◌, ℕ, zero, suc, ◌==◌, Bool, true, false, cond, ◌&&◌, Option, option_map, List, [], ◌∷◌, ◌++◌, slice_get, length, refl, ap, sym, ◌∙◌, subst, arith, inl, inr, append_assoc, append-nil}
 use Rattle.std.specs.List.{list_all}
 use Rattle.std.specs.Option.{option_map_or}
 use Rattle.std.proofs.lemmas.Bool.Decides.{Decides-eqb}
@@ -66,7 +66,7 @@ module _ (rules : NameRules) where
   other_place f (suc i) zero (x ∷ seats) other = refl
   other_place f (suc i) (suc j) (x ∷ seats) other = other_place f i j seats (λ e. other (ap suc e))
 
-  on_other : (f : Seat → Seat) (by seat : ℕ) (s : State) → seat ≢ by → seat_of (on_seat f by s) seat ≡ seat_of s seat
+  pub on_other : (f : Seat → Seat) (by seat : ℕ) (s : State) → seat ≢ by → seat_of (on_seat f by s) seat ≡ seat_of s seat
   on_other f zero seat s other = refl
   on_other f (suc i) zero s other = refl
   on_other f (suc i) (suc j) s other = other_place f i j s.seats (λ e. other (ap suc e))
@@ -110,7 +110,7 @@ module _ (rules : NameRules) where
       ap (λ o. option_map_or (λ (row : Seat). row.held) o [])
       (ap (λ (s : State). seat_of s seat) (replayed workers log e) ∙ left_seat (replay rules workers log) seat e other)
 
-  releases_of : (f : Seat → Seat) (by : ℕ) (s : State) → (on_seat f by s).releases ≡ s.releases
+  pub releases_of : (f : Seat → Seat) (by : ℕ) (s : State) → (on_seat f by s).releases ≡ s.releases
   releases_of f zero s = refl
   releases_of f (suc at) s = refl
 
@@ -208,11 +208,12 @@ link_on workers seat events verdicts entries e v made so_far more = record {
   entries_are = ap (λ (l : List Own). l ++ made) so_far.entries_are;
 }
 
--- what an event makes hangs on the seat alone
 finds_alike : (seat : ℕ) (s t : State) (key : Key) (e : Event) (v : Verdict) (made : List Own) → seat_of s seat ≡ seat_of t seat
     → Finds key e v (held_verdict s seat key) made → Finds key e v (held_verdict t seat key) made
-finds_alike seat s t key e v made same finds = subst (λ (o : Option Seat). Finds key e v (option_and_then (λ row. option_map (λ h. h.verdict) (held_under key row.held)) o) made) same finds
+finds_alike seat s t key e v made same finds =
+    subst (λ (o : Option Seat). Finds key e v (option_map (λ h. h.verdict) (held_under key (option_map_or (λ (row : Seat). row.held) o []))) made) same finds
 
+-- what an event makes hangs on the seat alone
 makes_alike : (seat : ℕ) (s t : State) (e : Event) (v : Verdict) (made : List Own) → seat_of s seat ≡ seat_of t seat → Makes seat s e v made → Makes seat t e v made
 makes_alike seat s t (event.OpenScope label prefix) v made same makes = makes
 makes_alike seat s t (event.Release label) v made same makes = makes

@@ -15,6 +15,7 @@ pub mod Safety
 pub mod Staying
 pub mod Growing
 pub mod OwnCalls
+pub mod SeatStays
 pub mod Holding
 pub mod Entering
 pub mod Storing

@@ -8,16 +8,14 @@ use Rattle.stat_defs.specs.declared.history.Verdict.TheVariants as verdict
 use Rattle.stat_defs.specs.declared.history.Call.TheVariants as call
 use Rattle.stat_defs.specs.declared.history.Reply.{Reply}
 use Rattle.stat_defs.specs.declared.history.Reply.TheVariants as reply
-use Rattle.stat_defs.specs.declared.history.Entry.{Entry}
 use Rattle.stat_defs.specs.Keys.{Held}
-use Rattle.book_state.specs.State.{NameRules, Scope, Seat, State, seat_of}
+use Rattle.book_state.specs.State.{NameRules, Scope, Seat, State, seat_of, held_in}
 use Rattle.book_state.specs.Finding.{scope_of}
 use Rattle.book_state.specs.Step.{effect, on_seat, on_metric, found, made, hold, acknowledged, ended, is_live, Works}
-use Rattle.book_state.specs.Log.{replay, held_by}
 use Rattle.book_state.specs.Follows.{verdict_of}
 use Rattle.book_state.specs.SeatLaws.{is_held}
 use Rattle.book_state.proofs.Lists.{some_same, not_some, true_false, get_change_same}
-use Rattle.book_state.proofs.Growing.{replayed, same_seats}
+use Rattle.book_state.proofs.Growing.{same_seats}
 
 -- the seat that is changed
 pub at_seat : (f : Seat → Seat) (seat : ℕ) (s : State) → seat_of (on_seat f seat s) seat ≡ option_map f (seat_of s seat)
@@ -80,49 +78,37 @@ module _ (rules : NameRules) (s : State) (seat : ℕ) where
   own_text id text _ = refl
 
 -- what a row holds
-abbrev held_in : Option Seat → List Held
-held_in o = option_map_or (λ (row : Seat). row.held) o []
+abbrev row_held : Option Seat → List Held
+row_held o = option_map_or (λ (row : Seat). row.held) o []
 
-module _ (rules : NameRules) (workers seat : ℕ) (log : List Entry) where
-  -- the row after one entry more
-  next_row : (e : Entry) → seat_of (replay rules workers (log ++ e ∷ [])) seat ≡ seat_of (effect rules e.seat e.call e.reply (replay rules workers log)) seat
-  next_row e = ap (λ (s : State). seat_of s seat) (replayed rules workers log e)
-
-  pub held_found : (key : Key) (r : Reply) (v : Verdict) → Works (replay rules workers log) seat → verdict_of r ≡ Some v → is_held v ≡ true
-      → held_by rules workers seat (log ++ record { seat = seat; call = call.Find key; reply = r } ∷ [])
-      ≡ held_by rules workers seat log ++ record { key = key; scope = scope_of (replay rules workers log) key; verdict = v } ∷ []
-  held_found key r v works told held = by_row (seat_of (replay rules workers log) seat) refl works where
+module _ (rules : NameRules) (s : State) (seat : ℕ) where
+  pub held_found : (key : Key) (r : Reply) (v : Verdict) → Works s seat → verdict_of r ≡ Some v → is_held v ≡ true
+      → held_in (effect rules seat (call.Find key) r s) seat ≡ held_in s seat ++ record { key = key; scope = scope_of s key; verdict = v } ∷ []
+  held_found key r v works told held = by_row (seat_of s seat) refl works where
     one : Held
-    one = record { key = key; scope = scope_of (replay rules workers log) key; verdict = v }
+    one = record { key = key; scope = scope_of s key; verdict = v }
 
-    by_row : (o : Option Seat) → seat_of (replay rules workers log) seat ≡ o → IsSomeAnd o (λ row. (row.ended ≡ false) × Unit {0})
-        → held_by rules workers seat (log ++ record { seat = seat; call = call.Find key; reply = r } ∷ []) ≡ held_by rules workers seat log ++ one ∷ []
+    by_row : (o : Option Seat) → seat_of s seat ≡ o → IsSomeAnd o (λ row. (row.ended ≡ false) × Unit {0})
+        → held_in (effect rules seat (call.Find key) r s) seat ≡ held_in s seat ++ one ∷ []
     by_row None is works = absurd works
     by_row (Some row) is works =
-        ap held_in (next_row (record { seat = seat; call = call.Find key; reply = r }) ∙ own_find rules (replay rules workers log) seat row key r v is told)
-        ∙ (ap (λ (b : Bool). (if b then hold key (scope_of (replay rules workers log) key) v row else row).held) held
-        ∙ ap (λ (o : Option Seat). held_in o ++ one ∷ []) (sym is))
+        ap row_held (own_find rules s seat row key r v is told)
+        ∙ (ap (λ (b : Bool). (if b then hold key (scope_of s key) v row else row).held) held
+        ∙ ap (λ (o : Option Seat). row_held o ++ one ∷ []) (sym is))
 
-  pub held_passed : (key : Key) (r : Reply) (v : Verdict) → verdict_of r ≡ Some v → is_held v ≡ false
-      → held_by rules workers seat (log ++ record { seat = seat; call = call.Find key; reply = r } ∷ []) ≡ held_by rules workers seat log
-  held_passed key r v told none = ap held_in (next_row (record { seat = seat; call = call.Find key; reply = r }) ∙ own_passed rules (replay rules workers log) seat key r v told none)
+  pub held_passed : (key : Key) (r : Reply) (v : Verdict) → verdict_of r ≡ Some v → is_held v ≡ false → held_in (effect rules seat (call.Find key) r s) seat ≡ held_in s seat
+  held_passed key r v told none = ap row_held (own_passed rules s seat key r v told none)
 
-  filtered : (scopes : List Scope) (tag : ℕ) (o : Option Seat) → held_in (option_map (acknowledged scopes tag) o) ≡ filter (λ h. is_live scopes h.scope) (held_in o)
+  filtered : (scopes : List Scope) (tag : ℕ) (o : Option Seat) → row_held (option_map (acknowledged scopes tag) o) ≡ filter (λ h. is_live scopes h.scope) (row_held o)
   filtered scopes tag None = refl
   filtered scopes tag (Some row) = refl
 
-  pub held_acked : (tag : ℕ) → held_by rules workers seat (log ++ record { seat = seat; call = call.Ack; reply = reply.Acked tag } ∷ [])
-      ≡ filter (λ h. is_live (replay rules workers log).scopes h.scope) (held_by rules workers seat log)
-  held_acked tag =
-      ap held_in (next_row (record { seat = seat; call = call.Ack; reply = reply.Acked tag })
-      ∙ at_seat (acknowledged (replay rules workers log).scopes tag) seat (replay rules workers log))
-      ∙ filtered (replay rules workers log).scopes tag (seat_of (replay rules workers log) seat)
+  pub held_acked : (tag : ℕ) → held_in (effect rules seat call.Ack (reply.Acked tag) s) seat ≡ filter (λ h. is_live s.scopes h.scope) (held_in s seat)
+  held_acked tag = ap row_held (at_seat (acknowledged s.scopes tag) seat s) ∙ filtered s.scopes tag (seat_of s seat)
 
-  none_left : (o : Option Seat) → held_in (option_map ended o) ≡ []
+  none_left : (o : Option Seat) → row_held (option_map ended o) ≡ []
   none_left None = refl
   none_left (Some row) = refl
 
-  pub held_ended : held_by rules workers seat (log ++ record { seat = seat; call = call.End; reply = reply.Ended } ∷ []) ≡ []
-  held_ended =
-      ap held_in (next_row (record { seat = seat; call = call.End; reply = reply.Ended }) ∙ at_seat ended seat (replay rules workers log))
-      ∙ none_left (seat_of (replay rules workers log) seat)
+  pub held_ended : held_in (effect rules seat call.End reply.Ended s) seat ≡ []
+  held_ended = ap row_held (at_seat ended seat s) ∙ none_left (seat_of s seat)

@@ -1,5 +1,5 @@
 -- The entries of a worker's seat are those of its events in order, and then one End. This project's own.
-use Rattle.std.specs.Prelude.{◌≡◌, ◌⊎◌, ℕ, ◌≤◌, ◌==◌, if◌then◌else◌, Option, Some, None, option_map, option_and_then, List, [], ◌∷◌, ◌++◌}
+use Rattle.std.specs.Prelude.{◌≡◌, ◌⊎◌, ℕ, ◌≤◌, ◌==◌, if◌then◌else◌, Option, Some, None, option_map, List, [], ◌∷◌, ◌++◌}
 use Rattle.std.specs.Option.{option_map_or, IsSomeAnd}
 use Rattle.stat_defs.specs.declared.ids.Kind.{Kind}
 use Rattle.stat_defs.specs.declared.ids.Kind.TheVariants as kind
@@ -16,7 +16,7 @@ use Rattle.stat_defs.specs.declared.history.Reply.{Reply}
 use Rattle.stat_defs.specs.declared.history.Reply.TheVariants as reply
 use Rattle.stat_defs.specs.declared.history.Entry.{Entry}
 use Rattle.stat_defs.specs.Keys.{held_under}
-use Rattle.book_state.specs.State.{NameRules, State, seat_of}
+use Rattle.book_state.specs.State.{NameRules, State, seat_of, held_in}
 use Rattle.book_state.specs.Step.{effect}
 use Rattle.book_state.specs.Log.{empty}
 
@@ -50,7 +50,7 @@ abbrev pub tag_of : State → ℕ → ℕ
 tag_of s seat = option_map_or (λ row. row.tag) (seat_of s seat) 0
 
 abbrev pub held_verdict : State → ℕ → Key → Option Verdict
-held_verdict s seat key = option_and_then (λ row. option_map (λ h. h.verdict) (held_under key row.held)) (seat_of s seat)
+held_verdict s seat key = option_map (λ h. h.verdict) (held_under key (held_in s seat))
 
 -- one entry: this call, and the reply that tells the verdict
 abbrev pub MakesOne : Call → Verdict → List Own → Type 0

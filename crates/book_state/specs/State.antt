@@ -1,6 +1,7 @@
 -- The state of a book as plain lists, and what is asked of it (Envoy's design note on statistics: scopes, shared metrics,
 -- symbols; retired metrics and worker seats are this project's own).
 use Rattle.std.specs.Prelude.{◌≡◌, ℕ, zero, suc, ◌+◌, ◌&&◌, ◌||◌, nat_eq, nat_le, not, Bool, true, false, Option, Some, None, List, [], ◌∷◌, map, slice_get, count_by, if◌then◌else◌}
+use Rattle.std.specs.Option.{option_map_or}
 use Rattle.std.specs.List.{list_all, list_any, position_from, flat_map, zip}
 use Rattle.stat_defs.specs.declared.ids.Kind.{Kind}
 use Rattle.stat_defs.specs.declared.ids.Kind.TheVariants.{Histogram}
@@ -98,6 +99,10 @@ Uses s token n = (at : ℕ) × (slice_get (symbols_in s) at ≡ Some (token, n))
 abbrev pub seat_of : State → ℕ → Option Seat
 seat_of s zero = None
 seat_of s (suc at) = slice_get s.seats at
+
+-- what the seat holds
+abbrev pub held_in : State → ℕ → List Held
+held_in s seat = option_map_or (λ row. row.held) (seat_of s seat) []
 
 -- every worker that has not ended has acknowledged this release
 abbrev pub all_acknowledged : List Seat → ℕ → Bool

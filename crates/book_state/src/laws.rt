@@ -1,6 +1,6 @@
 //! Laws of logs, which hold without any call. Each function does nothing.
 ghost use Rattle.book_state.specs.Laws.{LogGrows, OthersLeave, OwnEnds, OwnGrow, ChainGrows};
-ghost use Rattle.book_state.specs.SeatLaws.{OwnCalls, HeldAfter, LegalSeats};
+ghost use Rattle.book_state.specs.SeatLaws.{OwnCalls, HeldAfter, SeatStays, MayCall, LegalSeats};
 ghost use Rattle.book_state.specs.SafeLaws.{LegalIsSafe, MetricsStay};
 
 /// A law: a log with one entry more gives the effect of that entry, and is legal where the log was and the entry is a step.
@@ -37,9 +37,21 @@ pub fn own_calls_change_a_seat()
     ensures { OwnCalls }
 {}
 
-/// A law: the same, of what a seat holds after a log with its own call as one entry more.
+/// A law: the same, of what a seat holds.
 pub fn a_seat_holds_what_it_found()
     ensures { HeldAfter }
+{}
+
+/// A law: a seat works until its own end, keeps its tag until its own acknowledgement, which gives it the tag that it tells,
+/// and only a release adds to the releases.
+pub fn a_seat_stays()
+    ensures { SeatStays }
+{}
+
+/// A law: a working seat may find what it does not hold, acknowledge where its tag is below the releases, and set the text
+/// of an accepted text readout that it holds.
+pub fn a_seat_may_call()
+    ensures { MayCall }
 {}
 
 /// A law: after a legal log a seat has acknowledged no more releases than there were, and holds no key twice. Among the
