@@ -17,3 +17,4 @@ pub mod MetricsKept
 pub mod Stored
 pub mod StateKept
 pub mod SeatLaws
+pub mod Tried

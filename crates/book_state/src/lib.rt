@@ -9,6 +9,8 @@ mod scopes;
 mod seats;
 mod state;
 mod tables;
+#[cfg(test)]
+mod tests;
 mod worked;
 
 pub use laws::{
