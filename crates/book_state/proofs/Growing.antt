@@ -237,11 +237,13 @@ module _ (rules : NameRules) (workers seat : ℕ) where
   chain_none log others = record { applied = []; chain = tt; events_are = refl; verdicts_are = refl; entries_are = none_own rules (empty workers) seat log others }
 
   module _ (events : List Event) (verdicts : List Verdict) (log more : List Entry) where
+    same_own : AreOfOthers seat more → own rules seat (empty workers) (log ++ more) ≡ own rules seat (empty workers) log
+    same_own others =
+        own_more rules (empty workers) seat log more
+        ∙ (ap (λ (l : List Own). own rules seat (empty workers) log ++ l) (none_own rules (replay rules workers log) seat more others) ∙ append-nil (own rules seat (empty workers) log))
+
     pub chain_others : FollowsSoFar rules workers seat events verdicts log → AreOfOthers seat more → FollowsSoFar rules workers seat events verdicts (log ++ more)
-    chain_others so_far others = subst (λ (l : List Own). AreOfEvents workers seat events verdicts l)
-        (sym (own_more rules (empty workers) seat log more
-        ∙ (ap (λ (l : List Own). own rules seat (empty workers) log ++ l) (none_own rules (replay rules workers log) seat more others) ∙ append-nil (own rules seat (empty workers) log))))
-        so_far
+    chain_others so_far others = subst (λ (l : List Own). AreOfEvents workers seat events verdicts l) (sym (same_own others)) so_far
 
     pub chain_event : (e : Event) (v : Verdict) → FollowsSoFar rules workers seat events verdicts log
         → MakesAcked seat (replay rules workers log) e v (own rules seat (replay rules workers log) more)
@@ -261,4 +263,13 @@ module _ (rules : NameRules) (workers seat : ℕ) where
       last = last;
       ends = ends;
       own_are = own_more rules (empty workers) seat log more ∙ ap (λ (l : List Own). own rules seat (empty workers) log ++ l) made;
+    }
+
+    pub chain_left : Follows rules workers seat events verdicts log → AreOfOthers seat more → Follows rules workers seat events verdicts (log ++ more)
+    chain_left follows others = record {
+      entries = follows.entries;
+      of_events = follows.of_events;
+      last = follows.last;
+      ends = follows.ends;
+      own_are = same_own others ∙ follows.own_are;
     }

@@ -1,7 +1,7 @@
 -- The parts of the tried log are steps one after another.
-use Rattle.std.proofs.Common.{◌≡◌, [], ◌∷◌, List, All, refl, arith, inl, inr}
+use Rattle.std.proofs.Common.{◌≡◌, [], ◌∷◌, List, refl, arith, inl, inr}
 use Rattle.std.specs.Prelude.{codes}
-use Rattle.std.proofs.lemmas.List.Elements.{All-nil, All-cons}
+use Rattle.std.specs.List.{AllByRecursion}
 use Rattle.stat_defs.specs.declared.configs.TagSpec.{TagSpec}
 use Rattle.book_state.specs.Log.{empty, Run}
 use Rattle.book_state.specs.Stored.{drawing, IsLawfulCall}
@@ -43,20 +43,23 @@ module _ (tags : List TagSpec) where
   unfolding drawing
   sweeps_runs = ((refl, refl), tt)
 
-pub retires_lawful : All (λ entry. IsLawfulCall entry.call) retires
-retires_lawful =
-    All-cons _ _ _ (record { short = omega arith; bytes = refl })
-    (All-cons _ _ _ (record { short = omega arith; bytes = refl })
-    (All-cons _ _ _ (record { not_empty = omega arith; short = omega arith; bytes = refl }) (All-cons _ _ _ tt (All-cons _ _ _ tt (All-cons _ _ _ tt (All-nil _))))))
+pub retires_lawful : AllByRecursion (λ entry. IsLawfulCall entry.call) retires
+retires_lawful = (
+  record { short = omega arith; bytes = refl },
+  (record { short = omega arith; bytes = refl }, (record { not_empty = omega arith; short = omega arith; bytes = refl }, (tt, (tt, (tt, tt))))),
+)
 
-pub revives_lawful : All (λ entry. IsLawfulCall entry.call) revives
-revives_lawful =
-    All-cons _ _ _ (record { short = omega arith; bytes = refl })
-    (All-cons _ _ _ (record { not_empty = omega arith; short = omega arith; bytes = refl })
-    (All-cons _ _ _ tt (All-cons _ _ _ tt (All-cons _ _ _ (record { not_empty = omega arith; short = omega arith; bytes = refl }) (All-cons _ _ _ tt (All-nil _))))))
+pub revives_lawful : AllByRecursion (λ entry. IsLawfulCall entry.call) revives
+revives_lawful = (
+  record { short = omega arith; bytes = refl },
+  (
+    record { not_empty = omega arith; short = omega arith; bytes = refl },
+    (tt, (tt, (record { not_empty = omega arith; short = omega arith; bytes = refl }, (tt, tt)))),
+  ),
+)
 
-pub again_lawful : All (λ entry. IsLawfulCall entry.call) retires_again
-again_lawful = All-cons _ _ _ tt (All-cons _ _ _ tt (All-cons _ _ _ tt (All-nil _)))
+pub again_lawful : AllByRecursion (λ entry. IsLawfulCall entry.call) retires_again
+again_lawful = (tt, (tt, (tt, tt)))
 
-pub sweeps_lawful : All (λ entry. IsLawfulCall entry.call) sweeps_up
-sweeps_lawful = All-cons _ _ _ tt (All-nil _)
+pub sweeps_lawful : AllByRecursion (λ entry. IsLawfulCall entry.call) sweeps_up
+sweeps_lawful = (tt, tt)

@@ -61,3 +61,6 @@ pub record ChainGrows : Type 0 where
   pub ended : (rules : NameRules) (workers seat : ℕ) (events : List Event) (verdicts : List Verdict) (log more : List Entry) (last : Own)
       → FollowsSoFar rules workers seat events verdicts log → own rules seat (replay rules workers log) more ≡ last ∷ [] → last.call ≡ call.End
       → Follows rules workers seat events verdicts (log ++ more)
+  -- entries of other seats may stand behind it
+  pub left : (rules : NameRules) (workers seat : ℕ) (events : List Event) (verdicts : List Verdict) (log more : List Entry)
+      → Follows rules workers seat events verdicts log → AreOfOthers seat more → Follows rules workers seat events verdicts (log ++ more)

@@ -25,8 +25,8 @@ pub fn own_entries_grow()
 {}
 
 /// A law: what a seat did follows its events. Before its first event it has no entry, entries of other seats are no event of
-/// it, each event makes the seat's own entries among those that are added, and the last is its end. What an event may make
-/// is judged at the state of the whole log.
+/// it, each event makes the seat's own entries among those that are added, and the last is its end, behind which entries of
+/// other seats may stand. What an event may make is judged at the state of the whole log.
 pub fn a_chain_grows()
     ensures { ChainGrows }
 {}
