@@ -22,4 +22,3 @@ pub mod Storing
 pub mod Applying
 pub mod Stepping
 pub mod Naming
-pub mod Trying

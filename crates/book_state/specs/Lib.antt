@@ -17,4 +17,3 @@ pub mod MetricsKept
 pub mod Stored
 pub mod StateKept
 pub mod SeatLaws
-pub mod Tried

@@ -9,8 +9,6 @@ mod scopes;
 mod seats;
 mod state;
 mod tables;
-#[cfg(test)]
-mod tests;
 mod worked;
 
 pub use laws::{
