@@ -1,6 +1,5 @@
 -- What an entry that is applied tells, and what is stored after it.
-use Rattle.std.proofs.Common.{◌≡◌, ◌≢◌, ℕ, zero, suc, ◌+◌, ◌<◌, ◌≤◌, ◌^◌, not, Bool, true, false, Option, Some, None, List, [], ◌∷◌, ◌++◌, map, length, slice_get, refl, ap, sym, ◌∙◌, subst, arith, append-nil}
-use Rattle.std.specs.Option.{IsSomeAnd}
+use Rattle.std.proofs.Common.{◌≡◌, ℕ, zero, suc, ◌≤◌, Bool, false, List, [], ◌∷◌, map, length, refl, ap, sym, ◌∙◌, subst, arith}
 use Rattle.stat_defs.specs.declared.events.Key.{Key}
 use Rattle.stat_defs.specs.declared.history.Call.{Call}
 use Rattle.stat_defs.specs.declared.history.Call.TheVariants as call
@@ -9,13 +8,10 @@ use Rattle.stat_defs.specs.declared.history.Reply.TheVariants as reply
 use Rattle.stat_defs.specs.declared.history.Entry.{Entry}
 use Rattle.stat_defs.specs.declared.ids.MetricId.{MetricId}
 use Rattle.stat_defs.specs.declared.ids.ScopeId.{ScopeId}
-use Rattle.book_state.specs.State.{NameRules, Row, Seat, State, live_scope, known, seat_of, is_gone}
-use Rattle.book_state.specs.Finding.{scope_of, name_of, is_full, is_over_limit}
-use Rattle.book_state.specs.Step.{effect, Allowed, Tells, Working, Works, on_seat, hold, change_at}
-use Rattle.book_state.specs.RunState.{IsRunState}
-use Rattle.book_state.specs.Stored.{StateView, Stored, IsStored, IsNext, IsAlike, IsNoted, IsLawfulCall, MakesOf, drawing, after_entry, released_by, seat_stored}
-use Rattle.book_state.proofs.Lists.{not_some, some_at, map-change_at, within_some}
-use Rattle.book_state.proofs.Entering.{next_run}
+use Rattle.book_state.specs.State.{NameRules, Seat, State}
+use Rattle.book_state.specs.Step.{effect, Allowed, Working, on_seat, change_at}
+use Rattle.book_state.specs.Stored.{StateView, IsNext, IsAlike, IsNoted, drawing, after_entry, released_by, seat_stored}
+use Rattle.book_state.proofs.Lists.{map-change_at, within_some}
 
 module _ (v : StateView) (e : Entry) (c : Call) (r : Reply) (call_is : e.call ≡ c) (reply_is : e.reply ≡ r) where
   pub allowed_at : (n : IsNext v e) → Allowed n.rules e.seat c r v.state

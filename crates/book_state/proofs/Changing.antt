@@ -1,9 +1,8 @@
 -- Rows of a table that change at some places.
-use Rattle.std.proofs.Common.{◌≡◌, ◌≢◌, ℕ, zero, suc, ◌+◌, ◌-◌, ◌<◌, ◌≤◌, nat_eq, nat_le, not, ◌||◌, Bool, true, false, cond, Option, Some, None, List, [], ◌∷◌, ◌++◌, map, filter, length, slice_get, All, refl, ap, sym, ◌∙◌, subst, arith, inl, inr, add-zero, length-append}
+use Rattle.std.proofs.Common.{◌≡◌, ℕ, zero, suc, ◌+◌, ◌-◌, ◌<◌, ◌≤◌, nat_eq, nat_le, not, ◌||◌, Bool, true, false, cond, Option, Some, None, List, [], ◌∷◌, ◌++◌, map, filter, length, slice_get, All, refl, ap, sym, ◌∙◌, subst, arith, inl, inr, add-zero, length-append}
 use Rattle.std.proofs.lemmas.List.Elements.{All-cons, All-head, All-tail, All-weaker}
 use Rattle.std.proofs.lemmas.List.{length-map, map_push}
 use Rattle.std.specs.Option.{option_map, option_map_or, IsSomeAnd}
-use Rattle.std.specs.List.{count_by}
 use Rattle.stat_defs.specs.declared.ids.Kind.{Kind}
 use Rattle.stat_defs.specs.declared.ids.Kind.TheVariants.{Histogram}
 use Rattle.stat_defs.specs.declared.ids.MetricId.{MetricId}
@@ -16,7 +15,7 @@ use Rattle.book_state.specs.State.{is_gone, same_kind, histograms_in, ids_from}
 use Rattle.book_state.specs.Step.{change_at}
 use Rattle.book_state.specs.Bearing.{has}
 use Rattle.book_state.specs.declared.limits.TheConstants.{MAX_METRICS}
-use Rattle.book_state.specs.Metrics.{metric_of, change_all, lose, found_again, names_from, is_overdue, overdue_at, overdue_among, gone_at, swept_row, IsNamed}
+use Rattle.book_state.specs.Metrics.{metric_of, change_all, lose, names_from, is_overdue, overdue_at, overdue_among, gone_at, swept_row, IsNamed}
 use Rattle.book_state.specs.MetricsKept.{IsIndexed}
 use Rattle.book_state.proofs.Releasing.{same_number, other_number, or_parts}
 use Rattle.book_state.proofs.Lists.{eq_or, not_some, some_same, true_false, get_map, same_at_all, get_within, some_at, length-change_at, get_change_same, get_change_other, count_cons, count_push}

@@ -1,5 +1,5 @@
 -- The state after one entry more, whichever names are admitted.
-use Rattle.std.proofs.Common.{◌≡◌, ℕ, zero, suc, List, [], ◌∷◌, ◌++◌, map, true, refl, ap, sym, ◌∙◌, subst}
+use Rattle.std.proofs.Common.{◌≡◌, ℕ, List, [], ◌∷◌, ◌++◌, refl, ap, sym, ◌∙◌, subst}
 use Rattle.stat_defs.specs.declared.configs.TagSpec.{TagSpec}
 use Rattle.stat_defs.specs.declared.metrics.Tagged.{Tagged}
 use Rattle.stat_defs.specs.declared.history.Call.{Call}

@@ -31,7 +31,7 @@ use Rattle.book_state.proofs.Moves.{same_goes, same_grows, same_keeps, live_with
 accepted_same : (a b : MetricId) → verdict.Accepted a ≡ verdict.Accepted b → a ≡ b
 accepted_same a b e = cc
 
-same_kind_is : (a b : Kind) → same_kind a b ≡ true → a ≡ b
+pub same_kind_is : (a b : Kind) → same_kind a b ≡ true → a ≡ b
 same_kind_is Counter Counter e = refl
 same_kind_is Gauge Gauge e = refl
 same_kind_is Histogram Histogram e = refl

@@ -1,10 +1,17 @@
 -- A log with one entry more, and a chain with one link more.
-use Rattle.std.proofs.Common.{◌≡◌, ◌≢◌, ℕ, zero, suc, ◌==◌, Bool, true, false, cond, ◌&&◌, List, [], ◌∷◌, ◌++◌, slice_get, length, refl, ap, sym, ◌∙◌, subst, append_assoc, append-nil}
+use Rattle.std.proofs.Common.{◌≡◌, ◌≢◌, ◌≤◌, ℕ, zero, suc, ◌==◌, Bool, true, false, cond, ◌&&◌, Option, option_map, List, [], ◌∷◌, ◌++◌, slice_get, length, refl, ap, sym, ◌∙◌, subst, arith, inl, inr, append_assoc, append-nil}
 use Rattle.std.specs.List.{list_all}
 use Rattle.std.specs.Option.{option_map_or}
 use Rattle.std.proofs.lemmas.Bool.Decides.{Decides-eqb}
+use Rattle.std.proofs.lemmas.List.Elements.{All-head, All-tail}
+use Rattle.stat_defs.specs.declared.ids.Kind.TheVariants as kind
+use Rattle.stat_defs.specs.declared.ids.Mode.TheVariants.{Uninit}
+use Rattle.stat_defs.specs.declared.events.Key.{Key}
 use Rattle.stat_defs.specs.declared.events.Event.{Event}
+use Rattle.stat_defs.specs.declared.events.Event.TheVariants as event
 use Rattle.stat_defs.specs.declared.history.Verdict.{Verdict}
+use Rattle.stat_defs.specs.declared.history.Verdict.TheVariants as verdict
+use Rattle.stat_defs.specs.Keys.{held_under}
 use Rattle.stat_defs.specs.declared.history.Call.{Call}
 use Rattle.stat_defs.specs.declared.history.Call.TheVariants as call
 use Rattle.stat_defs.specs.declared.history.Reply.{Reply}
@@ -12,24 +19,25 @@ use Rattle.stat_defs.specs.declared.history.Reply.TheVariants as reply
 use Rattle.stat_defs.specs.declared.history.Entry.{Entry}
 use Rattle.stat_defs.specs.declared.configs.ScopeSpec.{ScopeSpec}
 use Rattle.book_state.specs.State.{NameRules, State, Seat, seat_of}
-use Rattle.book_state.specs.Step.{effect, Allowed, change_at, on_seat, on_metric, found, made}
+use Rattle.book_state.specs.Step.{effect, Allowed, change_at, on_seat, on_metric, found, made, hold, acknowledged, ended}
 use Rattle.book_state.specs.Finding.{scope_of}
 use Rattle.book_state.specs.Log.{empty, openings, fits_seat, replay_from, replay, Run, Legal, held_by}
-use Rattle.book_state.specs.Follows.{Own, own, Applied, FollowsSoFar, MakesAcked, after_all, state_after, entries_of}
-use Rattle.book_state.specs.Laws.{own_entry}
-use Rattle.book_state.proofs.Lists.{length-change_at}
+use Rattle.book_state.specs.Follows.{Own, own, key_in, tag_of, held_verdict, Finds, Makes, MakesAcked, Applied, AreOfEvents, FollowsSoFar, Follows, after_all, state_after, entries_of}
+use Rattle.book_state.specs.Laws.{AreOfOthers, own_end, own_entry}
+use Rattle.book_state.proofs.Lists.{length-change_at, true_false}
 
 pub same_seats : (s t : State) (seat : ℕ) → s.seats ≡ t.seats → seat_of s seat ≡ seat_of t seat
 same_seats s t zero same = refl
 same_seats s t (suc at) same = ap (λ (seats : List Seat). slice_get seats at) same
 
 module _ (rules : NameRules) where
-  replayed_from : (s : State) (log : List Entry) (e : Entry) → replay_from rules s (log ++ e ∷ []) ≡ effect rules e.seat e.call e.reply (replay_from rules s log)
-  replayed_from s [] e = refl
-  replayed_from s (x ∷ log) e = replayed_from (effect rules x.seat x.call x.reply s) log e
+  -- the replay of a log with more entries
+  pub replayed_on : (s : State) (log more : List Entry) → replay_from rules s (log ++ more) ≡ replay_from rules (replay_from rules s log) more
+  replayed_on s [] more = refl
+  replayed_on s (x ∷ log) more = replayed_on (effect rules x.seat x.call x.reply s) log more
 
   pub replayed : (workers : ℕ) (log : List Entry) (e : Entry) → replay rules workers (log ++ e ∷ []) ≡ effect rules e.seat e.call e.reply (replay rules workers log)
-  replayed workers log e = replayed_from (empty workers) log e
+  replayed workers log e = replayed_on (empty workers) log (e ∷ [])
 
   pub runs_on : (s : State) (log : List Entry) (e : Entry) → Run rules s log → Allowed rules e.seat e.call e.reply (replay_from rules s log) → Run rules s (log ++ e ∷ [])
   runs_on s [] e run may = (may, tt)
@@ -58,7 +66,7 @@ module _ (rules : NameRules) where
   other_place f (suc i) zero (x ∷ seats) other = refl
   other_place f (suc i) (suc j) (x ∷ seats) other = other_place f i j seats (λ e. other (ap suc e))
 
-  on_other : (f : Seat → Seat) (by seat : ℕ) (s : State) → seat ≢ by → seat_of (on_seat f by s) seat ≡ seat_of s seat
+  pub on_other : (f : Seat → Seat) (by seat : ℕ) (s : State) → seat ≢ by → seat_of (on_seat f by s) seat ≡ seat_of s seat
   on_other f zero seat s other = refl
   on_other f (suc i) zero s other = refl
   on_other f (suc i) (suc j) s other = other_place f i j s.seats (λ e. other (ap suc e))
@@ -102,12 +110,36 @@ module _ (rules : NameRules) where
       ap (λ o. option_map_or (λ (row : Seat). row.held) o [])
       (ap (λ (s : State). seat_of s seat) (replayed workers log e) ∙ left_seat (replay rules workers log) seat e other)
 
-  own_on : (seat : ℕ) (s : State) (log : List Entry) (e : Entry) → own rules seat s (log ++ e ∷ []) ≡ own rules seat s log ++ own rules seat (replay_from rules s log) (e ∷ [])
-  own_on seat s [] e = refl
-  own_on seat s (x ∷ log) e = own_step (x.seat == seat) _ _ _ _ (own_on seat (effect rules x.seat x.call x.reply s) log e) where
-    own_step : (b : Bool) (o : Own) (all some more : List Own) → all ≡ some ++ more → cond b (o ∷ all) all ≡ cond b (o ∷ some) some ++ more
-    own_step true o all some more e = ap (λ (l : List Own). o ∷ l) e
-    own_step false o all some more e = e
+  pub releases_of : (f : Seat → Seat) (by : ℕ) (s : State) → (on_seat f by s).releases ≡ s.releases
+  releases_of f zero s = refl
+  releases_of f (suc at) s = refl
+
+  -- there are no fewer releases after an entry
+  pub releases_grow : (by : ℕ) (c : Call) (r : Reply) (s : State) → s.releases ≤ (effect rules by c r s).releases
+  releases_grow by (call.OpenScope label prefix) (reply.Opened id) s = omega arith
+  releases_grow by (call.Release label) (reply.Released id) s = omega arith
+  releases_grow by (call.Find key) (reply.Made id numbers) s =
+      let e = releases_of (hold key (scope_of s key) (verdict.Accepted id)) by (record s { metrics = s.metrics ++ made rules s key numbers ∷ [] }) in omega (arith, e)
+  releases_grow by (call.Find key) (reply.Found id) s =
+      let e = releases_of (hold key (scope_of s key) (verdict.Accepted id)) by (on_metric (found (scope_of s key) key.mode) id.0 s) in omega (arith, e)
+  releases_grow by (call.Find key) reply.Rejected s = let e = releases_of (hold key (scope_of s key) verdict.Rejected) by s in omega (arith, e)
+  releases_grow by (call.SetText id text) reply.TextSet s = omega arith
+  releases_grow by call.Ack (reply.Acked tag) s = let e = releases_of (acknowledged s.scopes tag) by s in omega (arith, e)
+  releases_grow by call.Sweep (reply.Swept n) s = omega arith
+  releases_grow by call.End reply.Ended s = let e = releases_of ended by s in omega (arith, e)
+  releases_grow by _ _ s = omega arith
+
+  -- what other seats do
+  pub left_seats : (s : State) (seat : ℕ) (more : List Entry) → AreOfOthers seat more → seat_of (replay_from rules s more) seat ≡ seat_of s seat
+  left_seats s seat [] others = refl
+  left_seats s seat (e ∷ more) others =
+      left_seats (effect rules e.seat e.call e.reply s) seat more (All-tail (λ entry. seat ≢ entry.seat) e more others)
+      ∙ left_seat s seat e (All-head (λ entry. seat ≢ entry.seat) e more others)
+
+  pub left_held_all : (workers seat : ℕ) (log more : List Entry) → AreOfOthers seat more → held_by rules workers seat (log ++ more) ≡ held_by rules workers seat log
+  left_held_all workers seat log more others =
+      ap (λ o. option_map_or (λ (row : Seat). row.held) o [])
+      (ap (λ (s : State). seat_of s seat) (replayed_on (empty workers) log more) ∙ left_seats (replay rules workers log) seat more others)
 
   not_same : (a b : ℕ) → a ≢ b → (b == a) ≡ false
   not_same a b other = by_case (b == a) refl where
@@ -115,15 +147,43 @@ module _ (rules : NameRules) where
     by_case true e = absurd (other (sym ((Decides-eqb b a).0 e)))
     by_case false e = refl
 
-  pub left_entries : (workers seat : ℕ) (log : List Entry) (e : Entry) → seat ≢ e.seat → own rules seat (empty workers) (log ++ e ∷ []) ≡ own rules seat (empty workers) log
-  left_entries workers seat log e other =
-      own_on seat (empty workers) log e
-      ∙ (ap (λ (b : Bool). own rules seat (empty workers) log ++ cond b (own_entry rules workers log e ∷ []) []) (not_same seat e.seat other) ∙ append-nil (own rules seat (empty workers) log))
+  pub none_own : (s : State) (seat : ℕ) (more : List Entry) → AreOfOthers seat more → own rules seat s more ≡ []
+  none_own s seat [] others = refl
+  none_own s seat (e ∷ more) others =
+      let rest = none_own (effect rules e.seat e.call e.reply s) seat more (All-tail (λ entry. seat ≢ entry.seat) e more others) in
+      ap (λ (t : Bool). cond t (own_entry rules s e ∷ own rules seat (own_entry rules s e).after more) (own rules seat (own_entry rules s e).after more))
+      (not_same seat e.seat (All-head (λ entry. seat ≢ entry.seat) e more others))
+      ∙ rest
 
-  pub own_entries : (workers : ℕ) (log : List Entry) (e : Entry) → own rules e.seat (empty workers) (log ++ e ∷ []) ≡ own rules e.seat (empty workers) log ++ own_entry rules workers log e ∷ []
-  own_entries workers log e =
-      own_on e.seat (empty workers) log e
-      ∙ ap (λ (b : Bool). own rules e.seat (empty workers) log ++ cond b (own_entry rules workers log e ∷ []) []) ((Decides-eqb e.seat e.seat).1 refl)
+  pub own_more : (s : State) (seat : ℕ) (log more : List Entry) → own rules seat s (log ++ more) ≡ own rules seat s log ++ own rules seat (replay_from rules s log) more
+  own_more s seat [] more = refl
+  own_more s seat (x ∷ log) more = own_step (x.seat == seat) _ _ _ _ (own_more (effect rules x.seat x.call x.reply s) seat log more) where
+    own_step : (b : Bool) (o : Own) (all some more : List Own) → all ≡ some ++ more → cond b (o ∷ all) all ≡ cond b (o ∷ some) some ++ more
+    own_step true o all some more e = ap (λ (l : List Own). o ∷ l) e
+    own_step false o all some more e = e
+
+  pub own_one : (s : State) (e : Entry) → own rules e.seat s (e ∷ []) ≡ own_entry rules s e ∷ []
+  own_one s e = ap (λ (t : Bool). cond t (own_entry rules s e ∷ []) []) ((Decides-eqb e.seat e.seat).1 refl)
+
+  -- the seat stands after its own last entry as after the whole log
+  abbrev IsAtEnd : ℕ → State → State → Type 0
+  IsAtEnd seat s t = (seat_of s seat ≡ seat_of t seat) × (s.releases ≤ t.releases)
+
+  ends_with : (seat : ℕ) (s t : State) (log : List Entry) → IsAtEnd seat s t → IsAtEnd seat (after_all s (own rules seat t log)) (replay_from rules t log)
+  ends_with seat s t [] is = is
+  ends_with seat s t (x ∷ log) is = end_step (x.seat == seat) refl (ends_with seat next next log (refl, omega arith))
+      (λ other. ends_with seat s next log (is.0 ∙ sym (left_seat t seat x other), (let more = releases_grow x.seat x.call x.reply t in let was = is.1 in omega (arith, more, was)))) where
+        next : State
+        next = effect rules x.seat x.call x.reply t
+
+        end_step : (b : Bool) → (x.seat == seat) ≡ b → IsAtEnd seat (after_all next (own rules seat next log)) (replay_from rules next log)
+            → (seat ≢ x.seat → IsAtEnd seat (after_all s (own rules seat next log)) (replay_from rules next log))
+            → IsAtEnd seat (after_all s (cond b (own_entry rules t x ∷ own rules seat next log) (own rules seat next log))) (replay_from rules next log)
+        end_step true e here other = here
+        end_step false e here other = other (λ same. true_false (sym ((Decides-eqb x.seat seat).1 (sym same)) ∙ e))
+
+  pub own_ends : (workers seat : ℕ) (log : List Entry) → IsAtEnd seat (own_end rules workers seat log) (replay rules workers log)
+  own_ends workers seat log = ends_with seat (empty workers) (empty workers) log (refl, omega arith)
 
 after_both : (s : State) (xs ys : List Own) → after_all s (xs ++ ys) ≡ after_all (after_all s xs) ys
 after_both s [] ys = refl
@@ -133,9 +193,9 @@ chain_state : (s : State) (applied : List Applied) → state_after s applied ≡
 chain_state s [] = refl
 chain_state s (a ∷ before) = ap (λ (t : State). after_all t a.made) (chain_state s before) ∙ sym (after_both s (entries_of before) a.made)
 
-pub link_on : (workers seat : ℕ) (events : List Event) (verdicts : List Verdict) (entries : List Own) (e : Event) (v : Verdict) (made : List Own)
-    → FollowsSoFar workers seat events verdicts entries → MakesAcked seat (after_all (empty workers) entries) e v made
-    → FollowsSoFar workers seat (events ++ e ∷ []) (verdicts ++ v ∷ []) (entries ++ made)
+link_on : (workers seat : ℕ) (events : List Event) (verdicts : List Verdict) (entries : List Own) (e : Event) (v : Verdict) (made : List Own)
+    → AreOfEvents workers seat events verdicts entries → MakesAcked seat (after_all (empty workers) entries) e v made
+    → AreOfEvents workers seat (events ++ e ∷ []) (verdicts ++ v ∷ []) (entries ++ made)
 link_on workers seat events verdicts entries e v made so_far more = record {
   applied = record { event = e; verdict = v; made = made } ∷ so_far.applied;
   chain = (
@@ -147,3 +207,69 @@ link_on workers seat events verdicts entries e v made so_far more = record {
   verdicts_are = ap (λ (l : List Verdict). l ++ v ∷ []) so_far.verdicts_are;
   entries_are = ap (λ (l : List Own). l ++ made) so_far.entries_are;
 }
+
+finds_alike : (seat : ℕ) (s t : State) (key : Key) (e : Event) (v : Verdict) (made : List Own) → seat_of s seat ≡ seat_of t seat
+    → Finds key e v (held_verdict s seat key) made → Finds key e v (held_verdict t seat key) made
+finds_alike seat s t key e v made same finds =
+    subst (λ (o : Option Seat). Finds key e v (option_map (λ h. h.verdict) (held_under key (option_map_or (λ (row : Seat). row.held) o []))) made) same finds
+
+-- what an event makes hangs on the seat alone
+makes_alike : (seat : ℕ) (s t : State) (e : Event) (v : Verdict) (made : List Own) → seat_of s seat ≡ seat_of t seat → Makes seat s e v made → Makes seat t e v made
+makes_alike seat s t (event.OpenScope label prefix) v made same makes = makes
+makes_alike seat s t (event.Release label) v made same makes = makes
+makes_alike seat s t (event.Inc label name n) v made same makes = finds_alike seat s t (key_in label kind.Counter Uninit name) (event.Inc label name n) v made same makes
+makes_alike seat s t (event.Gauge label name mode op n) v made same makes =
+    finds_alike seat s t (key_in label kind.Gauge mode name) (event.Gauge label name mode op n) v made same makes
+makes_alike seat s t (event.Rec label name n) v made same makes = finds_alike seat s t (key_in label kind.Histogram Uninit name) (event.Rec label name n) v made same makes
+makes_alike seat s t (event.SetText label name text) v made same makes =
+    finds_alike seat s t (key_in label kind.Text Uninit name) (event.SetText label name text) v made same makes
+
+acked_alike : (seat : ℕ) (s t : State) (e : Event) (v : Verdict) (made : List Own) → seat_of s seat ≡ seat_of t seat → t.releases ≤ s.releases
+    → MakesAcked seat s e v made → MakesAcked seat t e v made
+acked_alike seat s t e v made same few (inl makes) =
+    let tags : tag_of s seat ≡ tag_of t seat = ap (λ o. option_map_or (λ (row : Seat). row.tag) o 0) same in
+    let due = makes.0 in
+    inl (omega (arith, tags, due, few), makes_alike seat s t e v made same makes.1)
+acked_alike seat s t e v made same few (inr acked) = inr acked
+
+module _ (rules : NameRules) (workers seat : ℕ) where
+  pub chain_none : (log : List Entry) → AreOfOthers seat log → FollowsSoFar rules workers seat [] [] log
+  chain_none log others = record { applied = []; chain = tt; events_are = refl; verdicts_are = refl; entries_are = none_own rules (empty workers) seat log others }
+
+  module _ (events : List Event) (verdicts : List Verdict) (log more : List Entry) where
+    same_own : AreOfOthers seat more → own rules seat (empty workers) (log ++ more) ≡ own rules seat (empty workers) log
+    same_own others =
+        own_more rules (empty workers) seat log more
+        ∙ (ap (λ (l : List Own). own rules seat (empty workers) log ++ l) (none_own rules (replay rules workers log) seat more others) ∙ append-nil (own rules seat (empty workers) log))
+
+    pub chain_others : FollowsSoFar rules workers seat events verdicts log → AreOfOthers seat more → FollowsSoFar rules workers seat events verdicts (log ++ more)
+    chain_others so_far others = subst (λ (l : List Own). AreOfEvents workers seat events verdicts l) (sym (same_own others)) so_far
+
+    pub chain_event : (e : Event) (v : Verdict) → FollowsSoFar rules workers seat events verdicts log
+        → MakesAcked seat (replay rules workers log) e v (own rules seat (replay rules workers log) more)
+        → FollowsSoFar rules workers seat (events ++ e ∷ []) (verdicts ++ v ∷ []) (log ++ more)
+    chain_event e v so_far makes =
+        let made : List Own = own rules seat (replay rules workers log) more in
+        let at = own_ends rules workers seat log in
+        subst (λ (l : List Own). AreOfEvents workers seat (events ++ e ∷ []) (verdicts ++ v ∷ []) l) (sym (own_more rules (empty workers) seat log more))
+        (link_on workers seat events verdicts (own rules seat (empty workers) log) e v made so_far
+        (acked_alike seat (replay rules workers log) (own_end rules workers seat log) e v made (sym at.0) at.1 makes))
+
+    pub chain_ended : (last : Own) → FollowsSoFar rules workers seat events verdicts log → own rules seat (replay rules workers log) more ≡ last ∷ [] → last.call ≡ call.End
+        → Follows rules workers seat events verdicts (log ++ more)
+    chain_ended last so_far made ends = record {
+      entries = own rules seat (empty workers) log;
+      of_events = so_far;
+      last = last;
+      ends = ends;
+      own_are = own_more rules (empty workers) seat log more ∙ ap (λ (l : List Own). own rules seat (empty workers) log ++ l) made;
+    }
+
+    pub chain_left : Follows rules workers seat events verdicts log → AreOfOthers seat more → Follows rules workers seat events verdicts (log ++ more)
+    chain_left follows others = record {
+      entries = follows.entries;
+      of_events = follows.of_events;
+      last = follows.last;
+      ends = follows.ends;
+      own_are = same_own others ∙ follows.own_are;
+    }

@@ -14,6 +14,9 @@ pub mod Finds
 pub mod Safety
 pub mod Staying
 pub mod Growing
+pub mod OwnCalls
+pub mod SeatStays
+pub mod Holding
 pub mod Entering
 pub mod Storing
 pub mod Applying

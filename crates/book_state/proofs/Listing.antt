@@ -1,13 +1,11 @@
 -- The index of the names that are not gone.
-use Rattle.std.proofs.Common.{◌≡◌, ℕ, ◌+◌, ◌<◌, ◌&&◌, not, Bool, true, false, cond, Option, Some, None, List, [], ◌∷◌, ◌++◌, map, length, nat_eq, refl, ap, sym, ◌∙◌, arith, add-zero}
-use Rattle.std.specs.Cmp.Lexicographic.{pointwise}
+use Rattle.std.proofs.Common.{◌≡◌, ℕ, ◌+◌, ◌&&◌, not, Bool, true, false, cond, Option, Some, List, [], ◌∷◌, map, refl, ap}
 use Rattle.std.specs.Map.{lookup}
 use Rattle.std.specs.List.{position_from}
 use Rattle.stat_defs.specs.declared.ids.Kind.{Kind}
 use Rattle.stat_defs.specs.declared.ids.Kind.TheVariants.{Counter, Gauge, Histogram, Text}
 use Rattle.stat_defs.specs.declared.ids.MetricId.{MetricId}
 use Rattle.stat_defs.specs.declared.metrics.Metric.{Metric}
-use Rattle.book_state.specs.declared.tables.NameKey.{NameKey}
 use Rattle.book_state.specs.contracts.tables.NameKeyPartialEq.TheImpl as key_eq
 use Rattle.book_state.specs.State.{is_gone, same_kind, same_text, ids_from}
 use Rattle.book_state.specs.Metrics.{names_from}

@@ -28,17 +28,17 @@ live_within [] k e = absurd (true_false (sym e))
 live_within (x ∷ scopes) zero e = omega arith
 live_within (x ∷ scopes) (suc k) e = omega (arith, live_within scopes k e)
 
-live_pushed : (scopes : List Scope) (x : Scope) (k : ℕ) → k < length scopes → is_live (scopes ++ x ∷ []) k ≡ is_live scopes k
+pub live_pushed : (scopes : List Scope) (x : Scope) (k : ℕ) → k < length scopes → is_live (scopes ++ x ∷ []) k ≡ is_live scopes k
 live_pushed scopes x k within = ap (λ (o : Option Scope). option_map_or (λ scope. scope.live) o false) (get_push_before scopes x k (λ e. omega (arith, within, e)))
 
-live_other : (scopes : List Scope) (id k : ℕ) → k ≢ id → is_live (change_at closed id scopes) k ≡ is_live scopes k
+pub live_other : (scopes : List Scope) (id k : ℕ) → k ≢ id → is_live (change_at closed id scopes) k ≡ is_live scopes k
 live_other scopes id k other = ap (λ (o : Option Scope). option_map_or (λ scope. scope.live) o false) (get_change_other closed id scopes k other)
 
 closed_dead : (o : Option Scope) → option_map_or (λ (scope : Scope). scope.live) (option_map closed o) false ≡ true → ⊥
 closed_dead None e = true_false (sym e)
 closed_dead (Some scope) e = true_false (sym e)
 
-live_closed : (scopes : List Scope) (id k : ℕ) → is_live (change_at closed id scopes) k ≡ true → k ≢ id
+pub live_closed : (scopes : List Scope) (id k : ℕ) → is_live (change_at closed id scopes) k ≡ true → k ≢ id
 live_closed scopes id k live same = closed_dead (slice_get scopes id)
     (ap (λ (o : Option Scope). option_map_or (λ scope. scope.live) o false)
     (sym (get_change_same closed id scopes) ∙ ap (λ (j : ℕ). slice_get (change_at closed id scopes) j) (sym same)) ∙ live)

@@ -1,5 +1,5 @@
 -- What is read of a stored state: full names, tags, and the state before the first entry.
-use Rattle.std.proofs.Common.{◌≡◌, ℕ, zero, suc, ◌-◌, ◌+◌, ◌<◌, ◌&&◌, Bool, true, false, Option, Some, None, unwrap_or, List, [], ◌∷◌, ◌++◌, cond, map, length, slice_get, replicate, All, refl, ap, sym, ◌∙◌, subst, arith, length-append}
+use Rattle.std.proofs.Common.{◌≡◌, ℕ, zero, suc, ◌-◌, ◌+◌, ◌<◌, ◌&&◌, Bool, true, false, Option, Some, None, unwrap_or, List, [], ◌∷◌, cond, map, length, slice_get, replicate, refl, ap, sym, ◌∙◌, subst, arith, length-append}
 use Rattle.std.proofs.lemmas.List.{length-replicate}
 use Rattle.std.proofs.lemmas.List.Folds.{list_all-append}
 use Rattle.std.proofs.lemmas.List.Elements.{All-nil}
@@ -8,21 +8,19 @@ use Rattle.stat_defs.specs.Names.{IsScopePrefix, IsLocalName, IsFullName, full, 
 use Rattle.stat_defs.specs.declared.events.Key.{Key}
 use Rattle.stat_defs.specs.declared.ids.MetricId.{MetricId}
 use Rattle.stat_defs.specs.declared.metrics.Metric.{Metric}
-use Rattle.stat_defs.specs.declared.metrics.Life.{Life}
 use Rattle.stat_defs.specs.declared.history.Reply.{Reply}
 use Rattle.stat_defs.specs.declared.history.Reply.TheVariants as reply
 use Rattle.book_state.specs.declared.seats.SeatRow.{SeatRow}
-use Rattle.book_state.specs.State.{Scope, Seat, State, live_in, live_scope, ids_from, seat_of}
+use Rattle.book_state.specs.State.{Scope, Seat, State, live_in, live_scope, ids_from}
 use Rattle.book_state.specs.Finding.{scope_of, name_of}
-use Rattle.book_state.specs.Step.{Working, Works}
+use Rattle.book_state.specs.Step.{Works}
 use Rattle.book_state.specs.Follows.{tag_of}
 use Rattle.book_state.specs.Log.{empty}
 use Rattle.book_state.specs.Scopes.{ScopeView, scope_of_view}
 use Rattle.book_state.specs.Stored.{Stored, IsStored, MakesOf, numbers_in, seat_row, seat_stored}
-use Rattle.book_state.proofs.Lists.{not_some, some_at, some_same, get_map, get_within, all_at, map-replicate}
+use Rattle.book_state.proofs.Lists.{not_some, some_at, get_map, get_within, all_at, map-replicate}
 use Rattle.book_state.proofs.LiveScopes.{scope_at}
 use Rattle.book_state.proofs.Safety.{empty_run}
-use Rattle.book_state.proofs.Storing.{scope_count}
 
 pub full_is_full : (prefix name : List ℕ) → IsScopePrefix prefix → IsLocalName name → IsFullName (full prefix name)
 full_is_full [] name scope named = record { not_empty = named.not_empty; short = omega (arith, named.short); bytes = named.bytes }

@@ -1,9 +1,7 @@
 -- A legal log is safe.
-use Rattle.std.proofs.Common.{◌≡◌, cond, zip, ℕ, zero, suc, ◌<◌, nat_le, Bool, true, false, Option, Some, List, [], ◌∷◌, length, take, slice_get, replicate, ◌++◌, All, refl, ap, sym, ◌∙◌, subst, arith}
+use Rattle.std.proofs.Common.{◌≡◌, cond, zip, ℕ, zero, suc, ◌<◌, nat_le, Bool, true, false, Option, Some, List, [], ◌∷◌, length, take, slice_get, replicate, All, refl, ap, sym, subst, arith}
 use Rattle.std.proofs.lemmas.Bool.Decides.{nat_tests}
 use Rattle.std.specs.Option.{IsSomeAnd}
-use Rattle.std.specs.List.{flat_map}
-use Rattle.stat_defs.specs.declared.events.Key.{Key}
 use Rattle.stat_defs.specs.declared.ids.MetricId.{MetricId}
 use Rattle.stat_defs.specs.declared.metrics.Life.{Life}
 use Rattle.stat_defs.specs.declared.metrics.Life.TheVariants.{Live, Retired, Gone}
@@ -19,13 +17,13 @@ use Rattle.symbol_table.specs.Drawing.{InUse}
 use Rattle.book_state.specs.declared.limits.TheConstants.{MAX_METRICS}
 use Rattle.book_state.specs.State.{NameRules, Row, Held, Seat, State, Uses, symbols_of, is_gone, live_scope, known, seat_of}
 use Rattle.book_state.specs.Finding.{scope_of, name_of, is_full, is_over_limit}
-use Rattle.book_state.specs.Step.{effect, made, Allowed, Working}
+use Rattle.book_state.specs.Step.{effect, Allowed, Working}
 use Rattle.book_state.specs.Log.{empty, replay_from, replay, Run}
 use Rattle.book_state.specs.Safe.{IsThere, NamesSafe, IsSafe, DrawsUnused}
-use Rattle.book_state.specs.RunState.{Apart, IsAbove, IsHeld, IsSeat, IsRunState}
+use Rattle.book_state.specs.RunState.{IsAbove, IsHeld, IsSeat, IsRunState}
 use Rattle.book_state.specs.SafeLaws.{NamesMetric, HoldsMetrics, AfterLegal, LegalIsSafe}
-use Rattle.book_state.proofs.Lists.{not_some, some_at, some_same, get_within, get_push_last, get_push_before}
-use Rattle.book_state.proofs.Members.{Among, among_flat, flat_among, all_each}
+use Rattle.book_state.proofs.Lists.{not_some, some_at, some_same, get_within}
+use Rattle.book_state.proofs.Members.{Among, among_flat, all_each}
 use Rattle.book_state.proofs.Numbering.{draws_unused}
 use Rattle.book_state.proofs.Moves.{opened_kept, released_kept, swept_kept, text_kept}
 use Rattle.book_state.proofs.Finds.{scope_is_live, known_at, tells_made, tells_found, rejected_kept, made_kept, found_kept, acknowledged_kept, ended_kept}
@@ -54,7 +52,7 @@ step_kept rules by call.End reply.Ended s is may = ended_kept s by is
 step_kept rules by _ _ s is may = is
 
 -- the state before the first entry
-replicated : (n j : ℕ) (x y : Seat) → slice_get (replicate n x) j ≡ Some y → x ≡ y
+pub replicated : (n j : ℕ) (x y : Seat) → slice_get (replicate n x) j ≡ Some y → x ≡ y
 replicated zero j x y e = absurd (not_some y e)
 replicated (suc n) zero x y e = some_same x y e
 replicated (suc n) (suc j) x y e = replicated n j x y e

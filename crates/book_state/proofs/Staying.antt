@@ -11,6 +11,7 @@ use Rattle.book_state.specs.Finding.{scope_of}
 use Rattle.book_state.specs.Step.{effect, change_at, on_seat, on_metric, found, made, left_to, released, overdue, swept}
 use Rattle.book_state.specs.Log.{empty, replay_from, replay}
 use Rattle.book_state.specs.SafeLaws.{IsSameMetric, MetricsStay}
+use Rattle.book_state.proofs.Growing.{replayed_on}
 use Rattle.book_state.proofs.Lists.{eq_or, get_change_same, get_change_other, get_map, get_within, get_push_before}
 use Rattle.book_state.proofs.Releasing.{others}
 
@@ -77,10 +78,6 @@ module _ (rules : NameRules) where
       let once = step_still e.seat e.call e.reply s id row here in
       let rest = run_still (effect rules e.seat e.call e.reply s) log id once.0 once.1 in
       (rest.0, rest.1, same_twice row once.0 rest.0 once.2 rest.2)
-
-  replayed_on : (s : State) (log more : List Entry) → replay_from rules s (log ++ more) ≡ replay_from rules (replay_from rules s log) more
-  replayed_on s [] more = refl
-  replayed_on s (e ∷ log) more = replayed_on (effect rules e.seat e.call e.reply s) log more
 
 pub metrics_stay : MetricsStay
 metrics_stay rules workers log more id row here =

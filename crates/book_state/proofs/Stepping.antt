@@ -1,5 +1,5 @@
 -- What is stored after each call's entry.
-use Rattle.std.proofs.Common.{◌≡◌, ℕ, zero, suc, ◌+◌, ◌-◌, ◌<◌, ◌≤◌, ◌^◌, nat_le, not, ◌&&◌, ◌==◌, Bool, true, false, Option, Some, None, unwrap_or, inl, inr, length-append, List, [], ◌∷◌, ◌++◌, map, length, slice_get, All, refl, ap, sym, ◌∙◌, subst, arith, add-one}
+use Rattle.std.proofs.Common.{◌≡◌, ℕ, zero, suc, ◌+◌, ◌-◌, ◌<◌, ◌≤◌, ◌^◌, nat_le, not, ◌&&◌, ◌==◌, Bool, true, false, Option, Some, None, unwrap_or, inl, inr, length-append, List, [], ◌∷◌, ◌++◌, map, length, slice_get, All, refl, ap, sym, ◌∙◌, subst, arith}
 use Rattle.std.proofs.lemmas.Bool.Decides.{nat_tests}
 use Rattle.std.specs.Option.{option_map, option_map_or, IsSomeAnd}
 use Rattle.std.specs.List.{list_all, list_any}
@@ -9,25 +9,23 @@ use Rattle.stat_defs.specs.declared.ids.Kind.TheVariants.{Text}
 use Rattle.stat_defs.specs.declared.metrics.Life.TheVariants.{Live}
 use Rattle.stat_defs.specs.declared.history.Verdict.{Verdict}
 use Rattle.stat_defs.specs.declared.history.Verdict.TheVariants as verdict
-use Rattle.stat_defs.specs.Names.{IsScopePrefix, IsLocalName, IsFullName, full, is_name_byte}
 use Rattle.stat_defs.specs.declared.events.Key.{Key}
 use Rattle.stat_defs.specs.declared.metrics.Metric.{Metric}
 use Rattle.stat_defs.specs.declared.history.Call.TheVariants as call
-use Rattle.stat_defs.specs.declared.history.Reply.{Reply}
 use Rattle.stat_defs.specs.declared.history.Reply.TheVariants as reply
 use Rattle.stat_defs.specs.declared.history.Entry.{Entry}
 use Rattle.stat_defs.specs.declared.ids.MetricId.{MetricId}
 use Rattle.stat_defs.specs.declared.ids.ScopeId.{ScopeId}
 use Rattle.book_state.specs.declared.limits.TheConstants.{MAX_METRICS}
 use Rattle.book_state.specs.declared.metrics.MetricRow.{MetricRow}
-use Rattle.book_state.specs.State.{NameRules, Scope, Row, Held, Seat, State, live_in, live_scope, known_in, known, metrics_of, is_gone, same_kind, bears, seat_of}
+use Rattle.book_state.specs.State.{Scope, Row, Held, Seat, State, live_in, live_scope, known_in, known, is_gone, same_kind, bears}
 use Rattle.book_state.specs.Finding.{scope_of, name_of, is_full, is_over_limit}
-use Rattle.book_state.specs.Step.{effect, change_at, closed, released, found, made, on_seat, hold, acknowledged, ended, swept, Working, accepts, holds_text}
+use Rattle.book_state.specs.Step.{change_at, found, made, on_seat, hold, acknowledged, ended, swept, Working, accepts, holds_text}
 use Rattle.book_state.specs.Bearing.{has, bears_at}
 use Rattle.book_state.specs.Scopes.{ScopeView, scope_of_view, opened, emptied, bearing}
 use Rattle.book_state.specs.Metrics.{metric_of, stored, change_all, lose, found_again, with_text, is_past, swept_row}
 use Rattle.book_state.specs.Stored.{StateView, Stored, IsStored, IsNext, IsLawfulCall, after_entry, drawing, seat_stored, has_passed, fresh_metric}
-use Rattle.book_state.proofs.Lists.{true_false, both, some_at, some_same, get_map, get_within, within_some, map-change_at}
+use Rattle.book_state.proofs.Lists.{true_false, both, some_at, get_map, get_within, map-change_at}
 use Rattle.book_state.proofs.LiveScopes.{scope_at}
 use Rattle.book_state.proofs.Finds.{KnownAt, Makes, known_at, tells_made, tells_found}
 use Rattle.book_state.proofs.Members.{one_of}

@@ -1,29 +1,27 @@
 -- What is stored after each entry.
 use Rattle.std.proofs.Common.{◌≡◌, ◌≢◌, ℕ, zero, suc, ◌+◌, ◌<◌, ◌≤◌, ◌^◌, ◌||◌, ◌&&◌, not, nat_eq, nat_le, Bool, true, false, cond, Option, Some, None, List, [], ◌∷◌, ◌++◌, map, length, slice_get, All, refl, ap, sym, ◌∙◌, subst, arith, inl, inr, ◌⊎◌, length-append}
 use Rattle.std.proofs.lemmas.List.{length-map, map_push}
-use Rattle.std.proofs.lemmas.List.Elements.{All-push, All-map}
+use Rattle.std.proofs.lemmas.List.Elements.{All-push}
 use Rattle.std.specs.List.{list_all}
 use Rattle.std.specs.Option.{option_map, option_map_or}
 use Rattle.stat_defs.specs.Names.{IsScopePrefix}
-use Rattle.stat_defs.specs.declared.events.Key.{Key}
 use Rattle.stat_defs.specs.declared.ids.Mode.{Mode}
-use Rattle.stat_defs.specs.declared.ids.ScopeId.{ScopeId}
 use Rattle.stat_defs.specs.declared.metrics.Metric.{Metric}
 use Rattle.stat_defs.specs.declared.metrics.Life.{Life}
 use Rattle.stat_defs.specs.declared.metrics.Life.TheVariants.{Live, Retired, Gone}
 use Rattle.book_state.specs.declared.metrics.MetricRow.{MetricRow}
-use Rattle.book_state.specs.State.{NameRules, Scope, Row, Seat, State, bears, metrics_of, all_acknowledged}
-use Rattle.book_state.specs.Step.{change_at, closed, released, found, made, overdue, swept, on_seat}
+use Rattle.book_state.specs.State.{Scope, Row, Seat, State, bears, metrics_of, all_acknowledged}
+use Rattle.book_state.specs.Step.{change_at, closed, released, found, overdue, swept}
 use Rattle.book_state.specs.Bearing.{has, NoDoubles, bears_at}
-use Rattle.book_state.specs.RunState.{IsRow, IsRunState}
+use Rattle.book_state.specs.RunState.{IsRunState}
 use Rattle.book_state.specs.Scopes.{ScopeView, scope_of_view, opened, emptied, bearing}
-use Rattle.book_state.specs.Metrics.{metric_of, stored, change_all, lose, found_again, with_text, is_past, is_overdue, swept_row}
+use Rattle.book_state.specs.Metrics.{metric_of, stored, change_all, lose, found_again, is_past, is_overdue, swept_row}
 use Rattle.book_state.specs.Stored.{Stored, IsStored, BearsListed, IsAlike, seat_stored, has_passed}
-use Rattle.book_state.proofs.Lists.{eq_or, not_some, some_same, true_false, not_true, get_within, get_push_last, get_push_before, get_map, map_some, get_change_same, get_change_other, length-change_at, map-change_at, all_at, all_change}
+use Rattle.book_state.proofs.Lists.{eq_or, some_same, not_true, get_push_last, get_push_before, map_some, get_change_same, get_change_other, length-change_at, map-change_at, all_change}
 use Rattle.book_state.proofs.LiveScopes.{shown_bearing}
 use Rattle.book_state.proofs.Moves.{live_within}
 use Rattle.book_state.proofs.Members.{any_push}
-use Rattle.book_state.proofs.Finds.{apart_push, bearers_apart, bearer_new}
+use Rattle.book_state.proofs.Finds.{bearers_apart, bearer_new}
 use Rattle.book_state.proofs.Releasing.{released_all, bears_at_other, bears_at_gone, same_number, other_number}
 
 or_true : (a : Bool) → (a || true) ≡ true

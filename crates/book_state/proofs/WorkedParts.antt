@@ -35,7 +35,7 @@ pub follows_log : (events : List Event) (verdicts : List Verdict) (log : List En
     → Follows plain 1 1 events verdicts log
 follows_log events verdicts log applied last chain are told ends own_are = record {
   entries = entries_of applied;
-  so_far = record { applied = applied; chain = chain; events_are = are; verdicts_are = told; entries_are = refl };
+  of_events = record { applied = applied; chain = chain; events_are = are; verdicts_are = told; entries_are = refl };
   last = last;
   ends = ends;
   own_are = own_are;

@@ -1,6 +1,6 @@
 -- The entries of a worker's seat are those of its events in order, and then one End. This project's own.
-use Rattle.std.specs.Prelude.{◌≡◌, ◌⊎◌, ℕ, ◌≤◌, ◌==◌, if◌then◌else◌, Option, Some, None, option_map, option_and_then, List, [], ◌∷◌, ◌++◌}
-use Rattle.std.specs.Option.{option_map_or}
+use Rattle.std.specs.Prelude.{◌≡◌, ◌⊎◌, ℕ, ◌≤◌, ◌==◌, if◌then◌else◌, Option, Some, None, option_map, List, [], ◌∷◌, ◌++◌}
+use Rattle.std.specs.Option.{option_map_or, IsSomeAnd}
 use Rattle.stat_defs.specs.declared.ids.Kind.{Kind}
 use Rattle.stat_defs.specs.declared.ids.Kind.TheVariants as kind
 use Rattle.stat_defs.specs.declared.ids.Mode.{Mode}
@@ -16,7 +16,7 @@ use Rattle.stat_defs.specs.declared.history.Reply.{Reply}
 use Rattle.stat_defs.specs.declared.history.Reply.TheVariants as reply
 use Rattle.stat_defs.specs.declared.history.Entry.{Entry}
 use Rattle.stat_defs.specs.Keys.{held_under}
-use Rattle.book_state.specs.State.{NameRules, State, seat_of}
+use Rattle.book_state.specs.State.{NameRules, State, seat_of, held_in}
 use Rattle.book_state.specs.Step.{effect}
 use Rattle.book_state.specs.Log.{empty}
 
@@ -50,7 +50,7 @@ abbrev pub tag_of : State → ℕ → ℕ
 tag_of s seat = option_map_or (λ row. row.tag) (seat_of s seat) 0
 
 abbrev pub held_verdict : State → ℕ → Key → Option Verdict
-held_verdict s seat key = option_and_then (λ row. option_map (λ h. h.verdict) (held_under key row.held)) (seat_of s seat)
+held_verdict s seat key = option_map (λ h. h.verdict) (held_under key (held_in s seat))
 
 -- one entry: this call, and the reply that tells the verdict
 abbrev pub MakesOne : Call → Verdict → List Own → Type 0
@@ -69,22 +69,22 @@ Finds key e v (Some held) made = (v ≡ held) × SetsText e v made
 Finds key e v None (o ∷ made) = (o.call ≡ call.Find key) × (verdict_of o.reply ≡ Some v) × SetsText e v made
 Finds key e v None [] = ⊥
 
--- the key that an event looks for
+-- the key that an event looks for; an opening and a release look for none
 abbrev pub key_in : List ℕ → Kind → Mode → List ℕ → Key
 key_in label k mode name = record { label = label; kind = k; mode = mode; name = name }
+
+abbrev pub event_key : Event → Option Key
+event_key (event.Inc label name n) = Some (key_in label kind.Counter Uninit name)
+event_key (event.Gauge label name mode op n) = Some (key_in label kind.Gauge mode name)
+event_key (event.Rec label name n) = Some (key_in label kind.Histogram Uninit name)
+event_key (event.SetText label name text) = Some (key_in label kind.Text Uninit name)
+event_key _ = None
 
 -- what an event makes from a state on in which no acknowledgement is due
 abbrev pub Makes : ℕ → State → Event → Verdict → List Own → Type 0
 Makes seat s (event.OpenScope label prefix) v made = MakesOne (call.OpenScope label prefix) v made
 Makes seat s (event.Release label) v made = MakesOne (call.Release label) v made
-Makes seat s (event.Inc label name n) v made = let key = key_in label kind.Counter Uninit name in
-    Finds key (event.Inc label name n) v (held_verdict s seat key) made
-Makes seat s (event.Gauge label name mode op n) v made = let key = key_in label kind.Gauge mode name in
-    Finds key (event.Gauge label name mode op n) v (held_verdict s seat key) made
-Makes seat s (event.Rec label name n) v made = let key = key_in label kind.Histogram Uninit name in
-    Finds key (event.Rec label name n) v (held_verdict s seat key) made
-Makes seat s (event.SetText label name text) v made = let key = key_in label kind.Text Uninit name in
-    Finds key (event.SetText label name text) v (held_verdict s seat key) made
+Makes seat s e v made = IsSomeAnd (event_key e) (λ key. Finds key e v (held_verdict s seat key) made)
 
 -- an acknowledgement stands first where there are releases above the seat's tag, and may stand first wherever it is a step
 abbrev pub MakesAcked : ℕ → State → Event → Verdict → List Own → Type 0
@@ -127,18 +127,22 @@ abbrev pub IsChain : ℕ → State → List Applied → Type 0
 IsChain seat s [] = Unit {0}
 IsChain seat s (a ∷ before) = IsChain seat s before × MakesAcked seat (state_after s before) a.event a.verdict a.made
 
--- what the seat has done so far: these events with these verdicts
-pub record FollowsSoFar (workers seat : ℕ) (events : List Event) (verdicts : List Verdict) (entries : List Own) : Type 0 where
+-- these entries are those of the seat's events, with their verdicts
+pub record AreOfEvents (workers seat : ℕ) (events : List Event) (verdicts : List Verdict) (entries : List Own) : Type 0 where
   pub applied : List Applied
   pub chain : IsChain seat (empty workers) applied
   pub events_are : events ≡ events_of applied
   pub verdicts_are : verdicts ≡ verdicts_of applied
   pub entries_are : entries ≡ entries_of applied
 
+-- the seat's entries in the log are those of its events so far
+abbrev pub FollowsSoFar : NameRules → ℕ → ℕ → List Event → List Verdict → List Entry → Type 0
+FollowsSoFar rules workers seat events verdicts log = AreOfEvents workers seat events verdicts (own rules seat (empty workers) log)
+
 -- the seat's entries in the log are those of its events, and then one End
 pub record Follows (rules : NameRules) (workers seat : ℕ) (events : List Event) (verdicts : List Verdict) (log : List Entry) : Type 0 where
   pub entries : List Own
-  pub so_far : FollowsSoFar workers seat events verdicts entries
+  pub of_events : AreOfEvents workers seat events verdicts entries
   pub last : Own
   pub ends : last.call ≡ call.End
   pub own_are : own rules seat (empty workers) log ≡ entries ++ last ∷ []

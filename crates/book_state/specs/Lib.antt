@@ -16,3 +16,4 @@ pub mod Metrics
 pub mod MetricsKept
 pub mod Stored
 pub mod StateKept
+pub mod SeatLaws

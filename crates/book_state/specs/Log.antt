@@ -1,13 +1,12 @@
 -- What a log comes to: its state, whether it is legal, and what each seat holds. This project's own.
 use Rattle.std.specs.Prelude.{◌≡◌, ℕ, suc, ◌==◌, ◌&&◌, if◌then◌else◌, nat_le, Bool, true, false, List, [], ◌∷◌, ◌++◌, replicate}
 use Rattle.std.specs.List.{list_all}
-use Rattle.std.specs.Option.{option_map_or}
 use Rattle.stat_defs.specs.declared.history.Call.{Call}
 use Rattle.stat_defs.specs.declared.history.Call.TheVariants as call
 use Rattle.stat_defs.specs.declared.history.Reply.TheVariants as reply
 use Rattle.stat_defs.specs.declared.history.Entry.{Entry}
 use Rattle.stat_defs.specs.declared.configs.ScopeSpec.{ScopeSpec}
-use Rattle.book_state.specs.State.{NameRules, State, Held, seat_of}
+use Rattle.book_state.specs.State.{NameRules, State, Held, held_in}
 use Rattle.book_state.specs.Step.{effect, Allowed}
 
 -- no scope, no metric, and a seat for each worker
@@ -50,4 +49,4 @@ pub record Legal (rules : NameRules) (scopes : List ScopeSpec) (workers : ℕ) (
 
 -- what a seat holds after a log
 abbrev pub held_by : NameRules → ℕ → ℕ → List Entry → List Held
-held_by rules workers seat log = option_map_or (λ row. row.held) (seat_of (replay rules workers log) seat) []
+held_by rules workers seat log = held_in (replay rules workers log) seat

@@ -1,8 +1,7 @@
 -- The metrics as they are stored: of each metric's bearers their number. This project's own.
-use Rattle.std.specs.Prelude.{◌≡◌, ℕ, ◌+◌, ◌-◌, nat_le, not, if◌then◌else◌, Bool, true, false, Option, None, Some, List, [], ◌∷◌, map, filter, slice_get, length}
+use Rattle.std.specs.Prelude.{◌≡◌, ℕ, ◌+◌, ◌-◌, nat_le, if◌then◌else◌, Bool, true, false, Option, None, Some, List, [], ◌∷◌, map, filter, slice_get, length}
 use Rattle.std.specs.Option.{option_map_or}
 use Rattle.stat_defs.specs.declared.ids.MetricId.{MetricId}
-use Rattle.stat_defs.specs.declared.ids.Kind.{Kind}
 use Rattle.stat_defs.specs.declared.ids.Mode.{Mode}
 use Rattle.stat_defs.specs.declared.metrics.Life.{Life}
 use Rattle.stat_defs.specs.declared.metrics.Life.TheVariants.{Live, Retired, Gone}

@@ -1,19 +1,15 @@
 -- The state of a book as plain lists, and what is asked of it (Envoy's design note on statistics: scopes, shared metrics,
 -- symbols; retired metrics and worker seats are this project's own).
-use Rattle.std.specs.Prelude.{◌≡◌, ℕ, zero, suc, ◌+◌, ◌&&◌, ◌||◌, nat_eq, nat_le, not, Bool, true, false, Option, Some, None, List, [], ◌∷◌, map, slice_get, count_by, find, if◌then◌else◌}
+use Rattle.std.specs.Prelude.{◌≡◌, ℕ, zero, suc, ◌+◌, ◌&&◌, ◌||◌, nat_eq, nat_le, not, Bool, true, false, Option, Some, None, List, [], ◌∷◌, map, slice_get, count_by, if◌then◌else◌}
+use Rattle.std.specs.Option.{option_map_or}
 use Rattle.std.specs.List.{list_all, list_any, position_from, flat_map, zip}
-use Rattle.std.specs.Cmp.Lexicographic.{pointwise}
 use Rattle.stat_defs.specs.declared.ids.Kind.{Kind}
-use Rattle.stat_defs.specs.declared.ids.Kind.TheVariants.{Counter, Gauge, Histogram, Text}
+use Rattle.stat_defs.specs.declared.ids.Kind.TheVariants.{Histogram}
 use Rattle.stat_defs.specs.declared.ids.MetricId.{MetricId}
-use Rattle.stat_defs.specs.declared.ids.Mode.{Mode}
-use Rattle.stat_defs.specs.declared.ids.Mode.TheVariants.{Uninit, Accumulate, Never}
 use Rattle.stat_defs.specs.declared.metrics.Life.{Life}
 use Rattle.stat_defs.specs.declared.metrics.Life.TheVariants.{Gone}
 use Rattle.stat_defs.specs.declared.metrics.Metric.{Metric}
 use Rattle.stat_defs.specs.declared.metrics.Tagged.{Tagged}
-use Rattle.stat_defs.specs.declared.events.Key.{Key}
-use Rattle.stat_defs.specs.declared.history.Verdict.{Verdict}
 use Rattle.stat_defs.specs.Names.{tokens}
 pub use Rattle.stat_defs.specs.Keys.{same_text, same_kind, Held}
 
@@ -103,6 +99,10 @@ Uses s token n = (at : ℕ) × (slice_get (symbols_in s) at ≡ Some (token, n))
 abbrev pub seat_of : State → ℕ → Option Seat
 seat_of s zero = None
 seat_of s (suc at) = slice_get s.seats at
+
+-- what the seat holds
+abbrev pub held_in : State → ℕ → List Held
+held_in s seat = option_map_or (λ row. row.held) (seat_of s seat) []
 
 -- every worker that has not ended has acknowledged this release
 abbrev pub all_acknowledged : List Seat → ℕ → Bool

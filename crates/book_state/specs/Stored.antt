@@ -1,6 +1,6 @@
 -- The state of a book as it is stored. This project's own.
-use Rattle.std.specs.Prelude.{◌≡◌, ℕ, ◌≤◌, ◌^◌, ◌&&◌, ◌||◌, nat_le, Bool, true, Some, List, [], ◌∷◌, ◌++◌, length, map, All, slice_get}
-use Rattle.std.specs.List.{list_all}
+use Rattle.std.specs.Prelude.{◌≡◌, ℕ, ◌≤◌, ◌^◌, ◌||◌, nat_le, Bool, true, Some, List, [], ◌∷◌, ◌++◌, length, map, All, slice_get}
+use Rattle.std.specs.List.{flat_map}
 use Rattle.stat_defs.specs.Names.{IsLocalName, IsScopePrefix}
 use Rattle.stat_defs.specs.declared.configs.TagSpec.{TagSpec}
 use Rattle.stat_defs.specs.declared.history.Call.{Call}
@@ -15,7 +15,7 @@ use Rattle.stat_defs.specs.declared.ids.ScopeId.{ScopeId}
 use Rattle.tag_rules.specs.Tagging.{tagged}
 use Rattle.book_state.specs.declared.metrics.MetricRow.{MetricRow}
 use Rattle.book_state.specs.declared.seats.SeatRow.{SeatRow}
-use Rattle.book_state.specs.State.{NameRules, Scope, Seat, State}
+use Rattle.book_state.specs.State.{NameRules, Seat, State}
 use Rattle.book_state.specs.Step.{effect, Allowed}
 use Rattle.book_state.specs.Bearing.{has, NoDoubles, bears_at}
 use Rattle.book_state.specs.RunState.{IsRunState}
@@ -26,6 +26,10 @@ use Rattle.book_state.specs.Metrics.{stored}
 abbrev pub released_by : Call → Reply → List ScopeId
 released_by (call.Release label) (reply.Released id) = id ∷ []
 released_by _ _ = []
+
+-- the scopes released in a log, in order
+abbrev pub released_in : List Entry → List ScopeId
+released_in log = flat_map (λ entry. released_by entry.call entry.reply) log
 
 -- what callers see of a stored state: the tag rules, the state, and the scopes released so far, in order
 pub record StateView : Type 0 where

@@ -1,5 +1,5 @@
-use Rattle.book_state.proofs.Growing.{own_entries, link_on}
+use Rattle.book_state.proofs.Growing.{chain_none, chain_others, chain_event, chain_ended, chain_left}
 use Rattle.book_state.proofs.laws.a_chain_grows.Goals as goal
 
 pub returns : goal.returns
-returns c = record { entries = own_entries; events = link_on }
+returns c = record { none = chain_none; others = chain_others; events = chain_event; ended = chain_ended; left = chain_left }

@@ -1,5 +1,4 @@
-use Rattle.std.proofs.Common.{◌≡◌, ℕ, List, [], ◌∷◌, ◌++◌, OnErr, map, set, refl, ap, ◌∙◌, sym}
-use Rattle.book_state.specs.Bearing.{has}
+use Rattle.std.proofs.Common.{◌≡◌, map, refl, ◌∙◌}
 use Rattle.book_state.specs.Scopes.{ScopeView, bearing}
 use Rattle.book_state.specs.ScopesKept.{row_shown}
 use Rattle.book_state.proofs.Lists.{map-set_read, change_same, on_err, get_map, get_read}

@@ -1,4 +1,4 @@
-use Rattle.std.proofs.Common.{◌≡◌, ℕ, ◌-◌, ◌<◌, Bool, length, refl, arith}
+use Rattle.std.proofs.Common.{ℕ, ◌-◌, ◌<◌, Bool, length, refl, arith}
 use Rattle.book_state.specs.Stored.{seat_row}
 use Rattle.book_state.proofs.Lists.{map-set_read}
 use Rattle.book_state.proofs.seats.set_tag.Goals as goal

@@ -1,4 +1,4 @@
-use Rattle.std.proofs.Common.{IsUtf8, subst, sym, ◌∙◌}
+use Rattle.std.proofs.Common.{IsUtf8, subst, sym}
 use Rattle.tag_rules.proofs.Readable.{name_is_text}
 use Rattle.book_state.proofs.state.new_metric.Goals as goal
 

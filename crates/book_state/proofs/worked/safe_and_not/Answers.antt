@@ -1,10 +1,10 @@
-use Rattle.std.proofs.Common.{◌≡◌, ℕ, zero, suc, take, [], ◌∷◌, drop, false, refl, sym, arith}
+use Rattle.std.proofs.Common.{◌≡◌, ℕ, [], ◌∷◌, drop, false, refl, sym, arith}
 use Rattle.std.specs.Prelude.{codes}
 use Rattle.std.proofs.lemmas.Slice.Eq.{bytes_eq-Decides}
 use Rattle.book_state.specs.State.{Seat}
-use Rattle.book_state.specs.Log.{replay, Legal}
+use Rattle.book_state.specs.Log.{Legal}
 use Rattle.book_state.specs.Worked.{plain, root_alone, held_through_q}
-use Rattle.book_state.specs.SafeWorked.{given_again, number_unseen}
+use Rattle.book_state.specs.SafeWorked.{given_again}
 use Rattle.book_state.proofs.Lists.{true_false}
 use Rattle.book_state.proofs.Computed.{drawn_all}
 use Rattle.book_state.proofs.WorkedParts.{legal_log, retired_first}

@@ -1,4 +1,4 @@
-use Rattle.std.proofs.Common.{◌≡◌, ◌+◌, ◌<◌, ◌^◌, false, refl, ap, sym, ◌∙◌, subst, List, ℕ, Option, length, map, slice_get}
+use Rattle.std.proofs.Common.{◌≡◌, ◌+◌, ◌<◌, ◌^◌, false, refl, ap, sym, ◌∙◌, subst, List, map, slice_get}
 use Rattle.std.specs.Option.{IsSomeAnd}
 use Rattle.book_state.specs.declared.metrics.MetricRow.{MetricRow}
 use Rattle.book_state.specs.State.{is_gone}

@@ -1,4 +1,4 @@
-use Rattle.std.proofs.Common.{◌≡◌, List, map, ap, ◌∙◌}
+use Rattle.std.proofs.Common.{List, map, ap, ◌∙◌}
 use Rattle.std.specs.Map.{lookup}
 use Rattle.book_state.specs.contracts.tables.NameKeyPartialEq.TheImpl as key_eq
 use Rattle.book_state.specs.declared.metrics.MetricRow.{MetricRow}

@@ -1,7 +1,5 @@
-use Rattle.std.proofs.Common.{◌≡◌, List, All, false, map, slice_get, sym, subst}
-use Rattle.std.specs.Option.{IsSomeAnd}
+use Rattle.std.proofs.Common.{List, All, map, sym, subst}
 use Rattle.book_state.specs.declared.metrics.MetricRow.{MetricRow}
-use Rattle.book_state.specs.State.{is_gone}
 use Rattle.book_state.specs.Metrics.{metric_of}
 use Rattle.book_state.specs.MetricsKept.{IsIndexed}
 use Rattle.book_state.proofs.Changing.{There, all_within, lost_indexed}

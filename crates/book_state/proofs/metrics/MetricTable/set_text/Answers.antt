@@ -1,4 +1,4 @@
-use Rattle.std.proofs.Common.{◌≡◌, refl, ap, sym, ◌∙◌, subst, List, ◌<◌, ℕ, length, map}
+use Rattle.std.proofs.Common.{refl, ap, sym, ◌∙◌, subst, List, ◌<◌, length, map}
 use Rattle.book_state.specs.declared.metrics.MetricRow.{MetricRow}
 use Rattle.book_state.specs.Step.{change_at}
 use Rattle.book_state.specs.Metrics.{metric_of, with_text}

@@ -1,5 +1,4 @@
-use Rattle.std.proofs.Common.{◌≡◌, refl, sym, ap, ◌∙◌}
-use Rattle.book_state.specs.ScopesKept.{Kept}
+use Rattle.std.proofs.Common.{refl}
 use Rattle.book_state.proofs.Lists.{by_answer}
 use Rattle.book_state.proofs.LiveScopes.{bearing_kept, same_kept}
 use Rattle.book_state.proofs.scopes.ScopeTable.bear.Goals as goal

@@ -1,4 +1,3 @@
-use Rattle.std.proofs.Common.{refl}
 use Rattle.book_state.proofs.Applying.{noted_find}
 use Rattle.book_state.proofs.state.BookState.find.Goals as goal
 

@@ -1,4 +1,4 @@
-use Rattle.std.proofs.Common.{◌≡◌, List, ap, ◌∙◌}
+use Rattle.std.proofs.Common.{List, ap, ◌∙◌}
 use Rattle.stat_defs.specs.declared.metrics.Metric.{Metric}
 use Rattle.book_state.specs.State.{known_in, known}
 use Rattle.book_state.specs.Stored.{StateView}

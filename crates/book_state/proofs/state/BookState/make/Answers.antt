@@ -1,26 +1,20 @@
-use Rattle.std.proofs.Common.{◌≡◌, ℕ, ◌+◌, ◌<◌, ◌≤◌, ◌^◌, ◌-◌, List, [], ◌∷◌, ◌++◌, Some, None, Bool, true, false, map, length, All, refl, ap, sym, ◌∙◌, subst, arith, append-nil, rules}
-use Rattle.std.proofs.lemmas.List.{length-map}
+use Rattle.std.proofs.Common.{◌≡◌, [], ◌∷◌, ◌++◌, Some, map, length, refl, ap, sym, ◌∙◌, subst, append-nil}
 use Rattle.stat_defs.specs.declared.history.Call.TheVariants as call
 use Rattle.stat_defs.specs.declared.history.Reply.TheVariants as reply
-use Rattle.stat_defs.specs.declared.ids.ScopeId.{ScopeId}
-use Rattle.std.specs.List.{list_all}
 use Rattle.book_state.specs.State.{live_scope}
 use Rattle.book_state.specs.Step.{change_at}
 use Rattle.book_state.specs.Scopes.{bearing}
-use Rattle.book_state.specs.Metrics.{change_all, lose, with_text}
-use Rattle.book_state.proofs.Changing.{There}
-use Rattle.book_state.specs.Stored.{StateView, Stored, IsStored, has_passed, IsNext, IsNoted, after_entry, drawing, seat_row}
+use Rattle.book_state.specs.Stored.{StateView, IsStored, IsNext, after_entry}
 use Rattle.book_state.specs.StateKept.{shown, stored_in}
 use Rattle.book_state.proofs.Entering.{kept_with, seen_with}
-use Rattle.book_state.proofs.Applying.{released_at, noted_open, noted_release, noted_find}
-use Rattle.stat_defs.specs.declared.ids.Kind.{Kind}
+use Rattle.book_state.proofs.Applying.{released_at}
 use Rattle.stat_defs.specs.declared.metrics.Metric.{Metric}
 use Rattle.book_state.specs.State.{known_in}
 use Rattle.book_state.specs.Finding.{name_of}
 use Rattle.book_state.specs.Metrics.{metric_of}
 use Rattle.book_state.specs.Stored.{numbers_in, fresh_metric}
 use Rattle.book_state.proofs.Naming.{makes_of}
-use Rattle.book_state.proofs.Stepping.{ack_within, acked_stored, end_within, ended_stored, swept_stored, text_stored, text_within, open_free, open_next, open_stored, release_live, borne_there, release_stored, find_within, found_room, found_stored, make_new, make_room, made_stored}
+use Rattle.book_state.proofs.Stepping.{find_within, make_new, made_stored}
 use Rattle.book_state.proofs.state.BookState.make.Goals as goal
 
 pub make-requires-clause-scope : goal.make-requires-clause-scope

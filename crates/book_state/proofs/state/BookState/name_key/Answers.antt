@@ -1,4 +1,4 @@
-use Rattle.std.proofs.Common.{◌≡◌, Some, List, ap, sym, ◌∙◌, subst}
+use Rattle.std.proofs.Common.{◌≡◌, Some, ap, sym, ◌∙◌, subst}
 use Rattle.stat_defs.specs.Names.{IsFullName}
 use Rattle.book_state.specs.State.{live_scope}
 use Rattle.book_state.specs.Finding.{name_of}

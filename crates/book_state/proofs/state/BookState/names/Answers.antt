@@ -1,5 +1,4 @@
 use Rattle.std.proofs.Common.{◌≡◌, List, IfOk, ap, ◌∙◌, subst}
-use Rattle.stat_defs.specs.declared.metrics.Metric.{Metric}
 use Rattle.stat_defs.specs.declared.ids.MetricId.{MetricId}
 use Rattle.book_state.specs.State.{names_of, names_in}
 use Rattle.book_state.specs.Stored.{StateView}

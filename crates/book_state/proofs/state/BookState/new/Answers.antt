@@ -1,4 +1,3 @@
-use Rattle.std.proofs.Common.{◌≡◌, ap, ◌∙◌}
 use Rattle.book_state.proofs.Naming.{empty_stored}
 use Rattle.book_state.proofs.state.BookState.new.Goals as goal
 

@@ -1,10 +1,7 @@
-use Rattle.std.proofs.Common.{◌≡◌, ℕ, ◌+◌, ◌<◌, ◌≤◌, ◌^◌, ◌-◌, List, [], ◌∷◌, ◌++◌, Some, None, Bool, true, false, map, length, All, refl, ap, sym, ◌∙◌, subst, arith, append-nil, rules}
-use Rattle.stat_defs.specs.declared.history.Call.TheVariants as call
-use Rattle.stat_defs.specs.declared.history.Reply.TheVariants as reply
-use Rattle.book_state.specs.Stored.{StateView, IsNext, IsNoted, after_entry, drawing}
+use Rattle.std.proofs.Common.{◌++◌, length, refl, ap, sym, ◌∙◌, subst, append-nil}
+use Rattle.book_state.specs.Stored.{StateView, IsNext, IsNoted, after_entry}
 use Rattle.book_state.specs.StateKept.{shown, stored_in}
 use Rattle.book_state.proofs.Entering.{next_run, kept_with, seen_with}
-use Rattle.book_state.proofs.Applying.{allowed_at, effect_at, released_at}
 use Rattle.book_state.proofs.Storing.{alike_stored}
 use Rattle.book_state.proofs.state.BookState.note.Goals as goal
 

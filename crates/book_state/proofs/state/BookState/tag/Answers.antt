@@ -1,4 +1,4 @@
-use Rattle.std.proofs.Common.{◌≡◌, ℕ, ◌-◌, List, map, slice_get, ap, sym, ◌∙◌, subst}
+use Rattle.std.proofs.Common.{◌≡◌, ◌-◌, List, map, slice_get, ap, sym, ◌∙◌, subst}
 use Rattle.std.specs.Option.{IsSomeAnd}
 use Rattle.book_state.specs.declared.seats.SeatRow.{SeatRow}
 use Rattle.book_state.specs.Step.{Works}
