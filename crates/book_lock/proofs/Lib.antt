@@ -1,0 +1,5 @@
+mod Logs
+mod Keeps
+mod Deals
+mod Ends
+mod Tries
