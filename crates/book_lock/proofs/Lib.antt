@@ -3,3 +3,4 @@ mod Keeps
 mod Deals
 mod Ends
 mod Tries
+pub mod Uses

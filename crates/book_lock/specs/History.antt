@@ -1,5 +1,5 @@
 -- The history of a book under a lock, as each of the lock's seats knows it (this project's own).
-use Rattle.std.specs.Prelude.{◌≡◌, ◌≢◌, ℕ, zero, suc, ◌<◌, ◌≤◌, true, false, ◌==◌, List, [], ◌∷◌, ◌++◌, length, drop, filter, All}
+use Rattle.std.specs.Prelude.{◌≡◌, ◌≢◌, ℕ, ◌<◌, ◌≤◌, true, false, ◌==◌, List, [], ◌∷◌, ◌++◌, length, drop, filter, replicate, All}
 use Rattle.stat_defs.specs.declared.history.Entry.{Entry}
 use Rattle.stat_defs.specs.Books.{BookHistory, releases_in}
 use Rattle.book_lock.specs.declared.view.LockKind.{LockKind}
@@ -74,8 +74,7 @@ missed word p = with_step (step_of Take word) p
 
 -- so many takes that found the turn taken
 abbrev pub tried : ℕ → LockPart → LockPart
-tried zero p = p
-tried (suc n) p = missed 1 (tried n p)
+tried misses p = record p { steps = replicate misses (step_of Take 1) ++ p.steps }
 
 -- the number of the releases of this log is published
 abbrev pub published : List Entry → LockPart → LockPart

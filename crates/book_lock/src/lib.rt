@@ -20,4 +20,6 @@ pub use lock::{BookLock, LockSeat};
 pub use view::{LockKey, LockKind, LockPart, LockStep, LockView};
 
 #[cfg(test)]
+mod fake_book;
+#[cfg(test)]
 mod tests;
