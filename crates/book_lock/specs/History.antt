@@ -27,9 +27,11 @@ with_log log history = record { config = history.config; workers = history.worke
 abbrev pub first_history : LockPart → BookHistory
 first_history p = record { config = p.config; workers = p.workers; log = p.first }
 
--- What is true of a seat at every moment, where the lock was made with a book of the history `first`, and `log` is the log so far:
+-- What is true of a seat at every moment, where the lock was made with a book of the history `first`, and
+-- `log` is the log so far:
 -- the log begins with the one that the seat found or left last, and has no further entry of its number;
--- past the entries that the lock was made with, its entries are those that its calls made, in order, each once;
+-- past the entries that the lock was made with, its entries are those that its calls made, in order, each
+-- once;
 -- and there are as many releases as it saw, which are those of the log that it knows, or more.
 pub record SeatHistory (first : BookHistory) (log : List Entry) (p : LockPart) : Type 0 where
   pub made_with : first_history p ≡ first
@@ -38,7 +40,8 @@ pub record SeatHistory (first : BookHistory) (log : List Entry) (p : LockPart) :
   pub seen : p.seen ≤ releases_in log
   pub fewest : releases_in p.known ≤ p.seen
 
--- What a seat finds when it enters: the log that it knows, then entries of others alone, with no fewer releases than it saw.
+-- What a seat finds when it enters: the log that it knows, then entries of others alone, with no fewer
+-- releases than it saw.
 pub record Finds (p : LockPart) (found : BookHistory) : Type 0 where
   pub config : found.config ≡ p.config
   pub workers : found.workers ≡ p.workers
@@ -51,7 +54,8 @@ pub record MayLeave (p : LockPart) (history : BookHistory) : Type 0 where
   pub workers : history.workers ≡ p.workers
   pub log : GoesOn (λ entry. entry.seat ≡ p.number) p.known history.log
 
--- The history of the last book: its log goes on from the first one by entries of the lock's seats, of which each knows its own.
+-- The history of the last book: its log goes on from the first one by entries of the lock's seats, of which
+-- each knows its own.
 pub record IsOneHistory (first : BookHistory) (seats : ℕ) (parts : List LockPart) (last : BookHistory) : Type 0 where
   pub config : last.config ≡ first.config
   pub workers : last.workers ≡ first.workers
@@ -76,9 +80,14 @@ missed word p = with_step (step_of Take word) p
 abbrev pub tried : ℕ → LockPart → LockPart
 tried misses p = record p { steps = replicate misses (step_of Take 1) ++ p.steps }
 
+-- a seat entered, after some tries, and found this log
+abbrev pub Entered : List Entry → LockPart → LockPart → Type 0
+Entered log p q = (misses : ℕ) × (q ≡ took log (tried misses p))
+
 -- the number of the releases of this log is published
 abbrev pub published : List Entry → LockPart → LockPart
-published log p = with_step (step_of Publish (releases_in log)) (record p { known = log; made = p.made ++ past p.known log; seen = releases_in log })
+published log p = with_step (step_of Publish (releases_in log))
+    (record p { known = log; made = p.made ++ past p.known log; seen = releases_in log })
 
 abbrev pub gave : LockPart → LockPart
 gave p = with_step (step_of Give 0) (record p { holds = false })

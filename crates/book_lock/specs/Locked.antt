@@ -1,15 +1,25 @@
 -- The rule of a lock's words and slot (this project's own).
 --
--- Word 0 is the turn, 1 while a seat has it. Word 1 is the number of releases in the log. The one slot has the book while no seat has the turn.
--- A seat takes the turn by a compare-and-exchange of 0 for 1, and takes the book out of the slot. It gives the book back into the slot, stores the number of its releases, and then stores 0 as the turn.
+-- Word 0 is the turn, 1 while a seat has it. Word 1 is the number of releases in the log. The one slot has
+-- the book while no seat has the turn.
+-- A seat takes the turn by a compare-and-exchange of 0 for 1, and takes the book out of the slot. It gives
+-- the book back into the slot, stores the number of its releases, and then stores 0 as the turn.
 -- A seat that only wants the number of releases loads word 1.
 --
--- Why there is one history at every moment of every interleaving. `Locked` is a fact of the words, of the book at home and of what all seats know. It holds when the lock is made, and a step is only allowed where it keeps it, whatever the other seats did before.
--- The turn is the number of seats that hold, so at most one holds, and where it is 0 the book is at home with the log so far.
--- A take that finds 0 gets this very book. Its log is the one that the seat left last and then entries of other numbers, since no other seat may leave entries of this number, and no two seats have one number.
--- The seat that holds makes the log longer at its publish: to all others it is then the log that they knew with further entries of the holder's number, and to the holder it is its own.
--- So word 1 is the number of releases of the log so far at every moment, and never falls: a load finds at least what its seat saw before. No seat can tell that the book itself comes home a step later, at the give, since the turn is 1 until then.
--- A split or a join moves parts from view to view, and no sum over all parts and no fact of each part can tell.
+-- Why there is one history at every moment of every interleaving. `Locked` is a fact of the words, of the
+-- book at home and of what all seats know. It holds when the lock is made, and a step is only allowed where
+-- it keeps it, whatever the other seats did before.
+-- The turn is the number of seats that hold, so at most one holds, and where it is 0 the book is at home
+-- with the log so far.
+-- A take that finds 0 gets this very book. Its log is the one that the seat left last and then entries of
+-- other numbers, since no other seat may leave entries of this number, and no two seats have one number.
+-- The seat that holds makes the log longer at its publish: to all others it is then the log that they knew
+-- with further entries of the holder's number, and to the holder it is its own.
+-- So word 1 is the number of releases of the log so far at every moment, and never falls: a load finds at
+-- least what its seat saw before. No seat can tell that the book itself comes home a step later, at the
+-- give, since the turn is 1 until then.
+-- A split or a join moves parts from view to view, and no sum over all parts and no fact of each part can
+-- tell.
 use Rattle.std.specs.Prelude.{◌≡◌, ◌≢◌, ℕ, zero, suc, ◌<◌, ◌≤◌, Bool, true, false, ◌==◌, List, [], ◌∷◌, length, slice_index, Option, Some}
 use mathlib.Core.Option.{some}
 use lib.ListN.{get_elem?}

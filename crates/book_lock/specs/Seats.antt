@@ -38,10 +38,14 @@ module _ {B : Type 0} where
   abbrev pub HasBook : TableId → LockSeat B → Type 0
   HasBook id s = (seat_lock s ≡ id) × (s.place.me.1 ≡ (0, None) ∷ []) × ((seat_part s).holds ≡ true)
 
-  -- by what a try gave: a fact of the book, or of the word
-  abbrev pub MatchTry : Try B → (B → Type 0) → (ℕ → Type 0) → Type 0
-  MatchTry (Held held) P Q = P held.book
-  MatchTry (Busy word) P Q = Q word
+  -- where a try got the book, a fact of the book, and else of the word that it found
+  abbrev pub OnHeld : Try B → (B → Type 0) → Type 0
+  OnHeld (Held held) P = P held.book
+  OnHeld (Busy word) P = Unit {0}
+
+  abbrev pub OnBusy : Try B → (ℕ → Type 0) → Type 0
+  OnBusy (Held held) P = Unit {0}
+  OnBusy (Busy word) P = P word
 
   -- the seats of a new lock, in the order of their numbers from 0 on
   pub record AreNew (id : TableId) (first : BookHistory) (count : ℕ) (seats : List (LockSeat B)) : Type 0 where

@@ -1,7 +1,8 @@
-//! How a seat comes to the book, leaves it, and asks for the number of releases. None of these calls takes memory.
-ghost use Rattle.std.specs.Prelude.{◌≡◌, ℕ, ◌≤◌};
-ghost use Rattle.book_lock.specs.History.{Finds, MayLeave, took, missed, tried, left, loaded};
-ghost use Rattle.book_lock.specs.Seats.{lock_id, seat_lock, seat_part, AtRest, HasBook, MatchTry};
+//! How a seat comes to the book, leaves it, and asks for the number of releases. None of these calls takes
+//! memory.
+ghost use Rattle.std.specs.Prelude.{◌≡◌, ◌≤◌};
+ghost use Rattle.book_lock.specs.History.{Finds, MayLeave, Entered, took, missed, left, loaded};
+ghost use Rattle.book_lock.specs.Seats.{lock_id, seat_lock, seat_part, AtRest, HasBook, OnHeld, OnBusy};
 
 use crate::held::{Held, Try};
 use crate::lock::{BookLock, LockSeat};
@@ -14,7 +15,8 @@ use std::thread::yield_now;
 /// Tries of one call of `enter` before it lets other threads run between its tries.
 const SPINS: u32 = 64;
 
-// Between two tries the processor pauses, and once the spins are used up other threads may run. Gives the spins that are left.
+// Between two tries the processor pauses, and once the spins are used up other threads may run. Gives the
+// spins that are left.
 fn pause(spins: u32) -> u32 {
     if spins == 0 {
         yield_now();
@@ -30,7 +32,7 @@ impl<B: Booked + Drop> BookLock<B> {
         requires { AtRest (lock_id self.now) seat.old }
         ensures seat { HasBook (lock_id self.now) seat.new }
         ensures found { Finds (seat_part seat.old) (B.history result.book) }
-        ensures part { (misses : ℕ) × (seat_part seat.new ≡ took (B.history result.book).log (tried misses (seat_part seat.old))) }
+        ensures part { Entered (B.history result.book).log (seat_part seat.old) (seat_part seat.new) }
     {
         let mut spins = SPINS;
         for _ in rt.forever() {
@@ -45,9 +47,11 @@ impl<B: Booked + Drop> BookLock<B> {
     /// The book, where this call's one step on the turn found 0. Else the word that it found, which is 1.
     pub fn try_enter(&self, seat: &mut LockSeat<B>) -> Try<B>
         requires { AtRest (lock_id self.now) seat.old }
-        ensures { MatchTry result
-            (λ book. HasBook (lock_id self.now) seat.new × Finds (seat_part seat.old) (B.history book) × (seat_part seat.new ≡ took (B.history book).log (seat_part seat.old)))
-            (λ word. (word ≡ 1) × AtRest (lock_id self.now) seat.new × (seat_part seat.new ≡ missed word (seat_part seat.old))) }
+        ensures held { OnHeld result (λ book. HasBook (lock_id self.now) seat.new) }
+        ensures found { OnHeld result (λ book. Finds (seat_part seat.old) (B.history book)) }
+        ensures took { OnHeld result (λ b. seat_part seat.new ≡ took (B.history b).log (seat_part seat.old)) }
+        ensures busy { OnBusy result (λ word. (word ≡ 1) × AtRest (lock_id self.now) seat.new) }
+        ensures missed { OnBusy result (λ word. seat_part seat.new ≡ missed word (seat_part seat.old)) }
     {
         match steps::take(&self.table.shared, &mut seat.place) {
             Ok(book) => Try::Held(Held { book }),

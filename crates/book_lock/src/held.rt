@@ -5,7 +5,8 @@ ghost use Rattle.book_lock.specs.Lending.{LendsBook};
 
 use stat_defs::Booked;
 
-/// The book, while a seat has the turn. It cannot be dropped: `BookLock::leave` alone takes it, also after a call of the book was refused.
+/// The book, while a seat has the turn. It cannot be dropped: `BookLock::leave` alone takes it, also after
+/// a call of the book was refused.
 pub struct Held<B> {
     pub(crate) book: B,
 }

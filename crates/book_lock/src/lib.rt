@@ -1,9 +1,13 @@
-//! The one lock of the store, round its book of scopes and names. It is entered for a new name, a scope or a sweep, and never for an event on a known name.
+//! The one lock of the store, round its book of scopes and names. It is entered for a new name, a scope or
+//! a sweep, and never for an event on a known name.
 //!
-//! A lock is made with a book and a number of seats. Each seat is used by one party at a time, and enters, leaves, or asks for the number of releases without entering.
-//! What contracts say is in the seats' parts, [`LockPart`]: plain lists that the seat's own calls alone lengthen.
+//! A lock is made with a book and a number of seats. Each seat is used by one party at a time, and enters,
+//! leaves, or asks for the number of releases without entering.
+//! What contracts say is in the seats' parts, [`LockPart`]: plain lists that the seat's own calls alone
+//! lengthen.
 //!
-//! A call of `enter` may wait. No contract says that it returns, in which order waiting seats get the book, or that each gets it at all.
+//! A call of `enter` may wait. No contract says that it returns, in which order waiting seats get the book,
+//! or that each gets it at all.
 #![tactic(auto)]
 
 mod closing;

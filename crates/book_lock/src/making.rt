@@ -13,7 +13,8 @@ use std::alloc::Global;
 use std::snapshot::Snapshot;
 
 impl<B: Booked + Drop> BookLock<B> {
-    /// A lock round a book, with so many seats. The seat at place `k` of the list has the number `k`, from 0. Where there is no memory, the book is gone.
+    /// A lock round a book, with so many seats. The seat at place `k` of the list has the number `k`, from
+    /// 0. Where there is no memory, the book is gone.
     pub fn new(
         alloc: Global,
         book: B,

@@ -37,7 +37,8 @@ fn entry_of(number: u32, reply: Reply) -> Entry
     }
 }
 
-// Adds an entry of the seat's number to the book that it has, and leaves, also where the book refuses the entry.
+// Adds an entry of the seat's number to the book that it has, and leaves, also where the book refuses the
+// entry.
 fn add_and_leave(
     lock: &BookLock<FakeBook>,
     seat: &mut LockSeat<FakeBook>,

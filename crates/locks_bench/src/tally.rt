@@ -1,5 +1,5 @@
 //! The smallest book with a log: each of its words is the number of the seat that pushed it.
-ghost use Rattle.std.specs.Prelude.{◌≡◌, ◌++◌, ◌∷◌, [], OnOk, OnErr};
+ghost use Rattle.std.specs.Prelude.{◌≡◌, ◌++◌, ◌∷◌, [], MatchResult};
 
 use stat_defs::{Booked, NoMemory};
 use std::alloc::Global;
@@ -29,8 +29,7 @@ impl Tally {
     }
 
     pub fn push(&mut self, number: u32) -> Result<(), NoMemory>
-        ensures ok { OnOk result (self.new.words.items ≡ self.old.words.items ++ number ∷ []) }
-        ensures none { OnErr result (self.new.words.items ≡ self.old.words.items) }
+        ensures { MatchResult result (λ _. self.new.words.items ≡ self.old.words.items ++ number ∷ []) (λ _. self.new.words.items ≡ self.old.words.items) }
     {
         self.words.push(u64::from(number))?;
         Ok(())
