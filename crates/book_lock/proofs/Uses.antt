@@ -16,18 +16,18 @@ use Rattle.book_lock.proofs.Deals.{one-more}
 -- a book may be left as it was found
 pub leaves-as-found : (misses : ℕ) (p q : LockPart) (found : BookHistory) → q ≡ took found.log (tried misses p) → Finds p found → MayLeave q found
 leaves-as-found misses p q found e f = record {
-    config = f.config ∙ ap (λ (z : LockPart). z.config) (sym e);
-    workers = f.workers ∙ ap (λ (z : LockPart). z.workers) (sym e);
-    log = ([], ap (λ (z : LockPart). z.known) (sym e) ∙ sym (append-nil q.known), All-nil (λ x. x.seat ≡ q.number));
-  }
+  config = f.config ∙ ap (λ (z : LockPart). z.config) (sym e);
+  workers = f.workers ∙ ap (λ (z : LockPart). z.workers) (sym e);
+  log = ([], ap (λ (z : LockPart). z.known) (sym e) ∙ sym (append-nil q.known), All-nil (λ x. x.seat ≡ q.number));
+}
 
 -- and with further entries of the seat's number
 pub leaves-more : (q : LockPart) (before after : BookHistory) (more : List Entry) → MayLeave q before → after.config ≡ before.config → after.workers ≡ before.workers → after.log ≡ before.log ++ more → All (λ x. x.seat ≡ q.number) more → MayLeave q after
 leaves-more q before after more m c w is all = record {
-    config = c ∙ m.config;
-    workers = w ∙ m.workers;
-    log = (m.log.0 ++ more, is ∙ (ap (λ l. l ++ more) m.log.1 ∙ append_assoc q.known m.log.0 more), All-append (λ x. x.seat ≡ q.number) m.log.0 more m.log.2 all);
-  }
+  config = c ∙ m.config;
+  workers = w ∙ m.workers;
+  log = (m.log.0 ++ more, is ∙ (ap (λ l. l ++ more) m.log.1 ∙ append_assoc q.known m.log.0 more), All-append (λ x. x.seat ≡ q.number) m.log.0 more m.log.2 all);
+}
 
 -- the entries that its calls made, once it has left
 pub made-more : (q : LockPart) (last : BookHistory) (more : List Entry) → last.log ≡ q.known ++ more → (left last.log q).made ≡ q.made ++ more

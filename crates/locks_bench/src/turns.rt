@@ -52,19 +52,39 @@ pub fn run<R: Threads + Wait + Sync>(
     let third = take_last(&lock, &mut seats, 2);
     let second = take_last(&lock, &mut seats, 1);
     let first = take_last(&lock, &mut seats, 0);
-    let ((first, second), (third, fourth)) = match shape {
-        Shape::One => (
-            (push_often(rt, &lock, first, 0, times), second),
-            (third, fourth),
-        ),
-        Shape::Two => (
-            push_by_two(rt, &lock, (first, second), (0, 1), times),
-            (third, fourth),
-        ),
-        Shape::Four => push_by_four(rt, &lock, (first, second), (third, fourth), times),
-    };
+    let ((first, second), (third, fourth)) = push_by(
+        rt,
+        &lock,
+        (first, second),
+        (third, fourth),
+        shape,
+        times,
+    );
     let book = lock.close(vec![in alloc; first, second, third, fourth]?);
     Ok(book.words.len())
+}
+
+fn push_by<R: Threads + Wait + Sync>(
+    rt: &R,
+    lock: &BookLock<Tally>,
+    low: Pair,
+    high: Pair,
+    shape: Shape,
+    times: u32,
+) -> (Pair, Pair)
+    requires low { AtRest (lock_id lock.now) low.0 × (seat_number low.0 ≡ 0) × AtRest (lock_id lock.now) low.1 × (seat_number low.1 ≡ 1) }
+    requires high { AtRest (lock_id lock.now) high.0 × (seat_number high.0 ≡ 2) × AtRest (lock_id lock.now) high.1 × (seat_number high.1 ≡ 3) }
+    ensures low { AtRest (lock_id lock.now) result.0.0 × AtRest (lock_id lock.now) result.0.1 }
+    ensures high { AtRest (lock_id lock.now) result.1.0 × AtRest (lock_id lock.now) result.1.1 }
+{
+    match shape {
+        Shape::One => {
+            let (first, second) = low;
+            ((push_often(rt, lock, first, 0, times), second), high)
+        }
+        Shape::Two => (push_by_two(rt, lock, low, (0, 1), times), high),
+        Shape::Four => push_by_four(rt, lock, low, high, times),
+    }
 }
 
 fn push_by_four<R: Threads + Wait + Sync>(
@@ -137,12 +157,7 @@ fn push_often<R: Wait>(
     seat
 }
 
-fn push_once<R: Wait>(
-    rt: &R,
-    lock: &BookLock<Tally>,
-    seat: &mut LockSeat<Tally>,
-    number: u32,
-)
+fn push_once<R: Wait>(rt: &R, lock: &BookLock<Tally>, seat: &mut LockSeat<Tally>, number: u32)
     requires { AtRest (lock_id lock.now) seat.old × (seat_number seat.old ≡ number) }
     ensures { AtRest (lock_id lock.now) seat.new × (seat_number seat.new ≡ number) }
 {
