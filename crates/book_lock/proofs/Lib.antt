@@ -1,0 +1,6 @@
+mod Logs
+mod Keeps
+mod Deals
+mod Ends
+mod Tries
+pub mod Uses

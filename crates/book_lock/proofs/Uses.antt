@@ -1,0 +1,79 @@
+-- What a caller owes and gets between `enter` and `leave`, and where it takes the seats of a new lock.
+use Rattle.std.proofs.Common.{◌≡◌, ℕ, ◌+◌, List, [], ◌∷◌, ◌++◌, map, sym, refl, ap, ◌∙◌, subst, arith, Some, Result, Ok, Err, MatchResult, append-nil, append_assoc, All}
+use Rattle.std.proofs.lemmas.List.{map-append}
+use Rattle.std.proofs.lemmas.List.Elements.{All-nil, All-cons, All-append, All-pop}
+use Rattle.atomic_table.specs.Seated.{TableId}
+use Rattle.stat_defs.specs.declared.history.Entry.{Entry}
+use Rattle.stat_defs.specs.Books.{BookHistory}
+use Rattle.book_lock.specs.declared.view.LockPart.{LockPart}
+use Rattle.book_lock.specs.declared.lock.LockSeat.{LockSeat}
+use Rattle.book_lock.specs.History.{Finds, MayLeave, took, tried, left, new_part}
+use Rattle.book_lock.specs.Locked.{new_parts}
+use Rattle.book_lock.specs.Seats.{AtRest, seat_part, AreNew}
+use Rattle.book_lock.proofs.Logs.{past-goes-on}
+use Rattle.book_lock.proofs.Deals.{one-more}
+
+-- a book may be left as it was found
+pub leaves-as-found : (misses : ℕ) (p q : LockPart) (found : BookHistory) → q ≡ took found.log (tried misses p) → Finds p found → MayLeave q found
+leaves-as-found misses p q found e f = record {
+  config = f.config ∙ ap (λ (z : LockPart). z.config) (sym e);
+  workers = f.workers ∙ ap (λ (z : LockPart). z.workers) (sym e);
+  log = ([], ap (λ (z : LockPart). z.known) (sym e) ∙ sym (append-nil q.known), All-nil (λ x. x.seat ≡ q.number));
+}
+
+-- and with further entries of the seat's number
+pub leaves-more : (q : LockPart) (before after : BookHistory) (more : List Entry) → MayLeave q before → after.config ≡ before.config → after.workers ≡ before.workers → after.log ≡ before.log ++ more → All (λ x. x.seat ≡ q.number) more → MayLeave q after
+leaves-more q before after more m c w is all = record {
+  config = c ∙ m.config;
+  workers = w ∙ m.workers;
+  log = (m.log.0 ++ more, is ∙ (ap (λ l. l ++ more) m.log.1 ∙ append_assoc q.known m.log.0 more), All-append (λ x. x.seat ≡ q.number) m.log.0 more m.log.2 all);
+}
+
+-- the entries that its calls made, once it has left
+pub made-more : (q : LockPart) (last : BookHistory) (more : List Entry) → last.log ≡ q.known ++ more → (left last.log q).made ≡ q.made ++ more
+made-more q last more is = ap (λ ys. q.made ++ ys) (past-goes-on q.known last.log more is)
+
+-- the entries that a call of the book added, by what it answered
+pub added : {T E : Type 0} (r : Result T E) (e : Entry) (old new : List Entry) → MatchResult r (λ _. new ≡ old ++ e ∷ []) (λ _. new ≡ old)
+    → (more : List Entry) × (new ≡ old ++ more) × ((k : ℕ) → e.seat ≡ k → All (λ x. x.seat ≡ k) more) × MatchResult r (λ _. more ≡ e ∷ []) (λ _. more ≡ [])
+added (Ok x) e old new h = (e ∷ [], h, (λ k is. All-cons (λ x. x.seat ≡ k) e [] is (All-nil (λ x. x.seat ≡ k))), refl)
+added (Err x) e old new h = ([], h ∙ sym (append-nil old), (λ k is. All-nil (λ x. x.seat ≡ k)), refl)
+
+pub made-by : {T E : Type 0} (r : Result T E) (e : Entry) (made made' more : List Entry) → made' ≡ made ++ more → MatchResult r (λ _. more ≡ e ∷ []) (λ _. more ≡ []) → MatchResult r (λ _. made' ≡ made ++ e ∷ []) (λ _. made' ≡ made)
+made-by (Ok x) e made made' more is m = is ∙ ap (λ ys. made ++ ys) m
+made-by (Err x) e made made' more is m = is ∙ (ap (λ ys. made ++ ys) m ∙ append-nil made)
+
+all-front : {X : Type 0} (P : X → Type 0) (all xs : List X) (x : X) → all ≡ xs ++ x ∷ [] → All P all → All P xs × P x
+all-front P all xs x e a = let r = All-pop P all xs (Some x) e a in (r.0, r.1)
+
+front : List LockPart → List LockPart
+front [] = []
+front (p ∷ []) = []
+front (p ∷ q ∷ ps) = p ∷ front (q ∷ ps)
+
+front-of : (ps : List LockPart) (p : LockPart) → front (ps ++ p ∷ []) ≡ ps
+unfolding front
+front-of [] p = refl
+front-of (q ∷ []) p = refl
+front-of (q ∷ r ∷ ps) p = ap (λ l. q ∷ l) (front-of (r ∷ ps) p)
+
+last-or : LockPart → List LockPart → LockPart
+last-or d [] = d
+last-or d (p ∷ ps) = last-or p ps
+
+last-of : (d : LockPart) (ps : List LockPart) (p : LockPart) → last-or d (ps ++ p ∷ []) ≡ p
+unfolding last-or
+last-of d [] p = refl
+last-of d (q ∷ ps) p = last-of q ps p
+
+-- the last seat is taken off the list of a new lock's seats
+pub new-last : {B : Type 0} (id : TableId) (first : BookHistory) (n : ℕ) (all seats : List (LockSeat B)) (s : LockSeat B) → all ≡ seats ++ s ∷ [] → AreNew id first (n + 1) all
+    → AtRest id s × (seat_part s ≡ new_part first n) × AreNew id first n seats
+new-last {B} id first n all seats s e a =
+    let parts : map seat_part seats ++ seat_part s ∷ [] ≡ new_parts first 0 n ++ new_part first (0 + n) ∷ [] = sym (map-append seat_part seats (s ∷ [])) ∙ (ap (map seat_part) (sym e) ∙ (a.parts ∙ one-more first 0 n)) in
+    let d = seat_part s in let zero-plus : 0 + n ≡ n = omega arith in
+    let rest = all-front (AtRest id) all seats s e a.rest in (
+      rest.1,
+      sym (last-of d (map seat_part seats) (seat_part s)) ∙ (ap (last-or d) parts ∙ (last-of d (new_parts first 0 n) (new_part first (0 + n)) ∙ ap (new_part first) zero-plus)),
+      record { rest = rest.0; parts = sym (front-of (map seat_part seats) (seat_part s)) ∙ (ap front parts ∙ front-of (new_parts first 0 n) (new_part first (0 + n))) },
+    )

@@ -1,0 +1,4 @@
+pub mod History
+pub mod Locked
+pub mod Seats
+pub mod Lending

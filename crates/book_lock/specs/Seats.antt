@@ -1,0 +1,58 @@
+-- What clauses read of a lock and of its seats (this project's own).
+use Rattle.std.specs.Prelude.{◌≡◌, ℕ, true, false, List, [], ◌∷◌, None, length, map, All}
+use Rattle.atomic_table.specs.Seated.{TableId}
+use Rattle.stat_defs.specs.Books.{BookHistory}
+use Rattle.book_lock.specs.declared.view.LockPart.{LockPart}
+use Rattle.book_lock.specs.declared.lock.BookLock.{BookLock}
+use Rattle.book_lock.specs.declared.lock.LockSeat.{LockSeat}
+use Rattle.book_lock.specs.declared.held.Try.{Try}
+use Rattle.book_lock.specs.declared.held.Try.TheVariants.{Held, Busy}
+use Rattle.book_lock.specs.Locked.{own_part, new_parts}
+
+module _ {B : Type 0} where
+  -- which lock it is, the book that it was made with, and with how many seats
+  abbrev pub lock_id : BookLock B → TableId
+  lock_id l = l.table.shared.table_id
+
+  abbrev pub first_book : BookLock B → B
+  first_book l = l.table.shared.key.first.value
+
+  abbrev pub seats_of : BookLock B → ℕ
+  seats_of l = l.table.shared.key.seats
+
+  -- a seat: its lock, what it knows, and its number
+  abbrev pub seat_lock : LockSeat B → TableId
+  seat_lock s = s.place.table_id
+
+  abbrev pub seat_part : LockSeat B → LockPart
+  seat_part s = own_part s.place.me.0
+
+  abbrev pub seat_number : LockSeat B → ℕ
+  seat_number s = (seat_part s).number
+
+  -- the seat is of the lock, and has not the book
+  abbrev pub AtRest : TableId → LockSeat B → Type 0
+  AtRest id s = (seat_lock s ≡ id) × (s.place.me.1 ≡ []) × ((seat_part s).holds ≡ false)
+
+  -- the seat is of the lock, and the book is out with it
+  abbrev pub HasBook : TableId → LockSeat B → Type 0
+  HasBook id s = (seat_lock s ≡ id) × (s.place.me.1 ≡ (0, None) ∷ []) × ((seat_part s).holds ≡ true)
+
+  -- where a try got the book, a fact of the book, and else of the word that it found
+  abbrev pub OnHeld : Try B → (B → Type 0) → Type 0
+  OnHeld (Held held) P = P held.book
+  OnHeld (Busy word) P = Unit {0}
+
+  abbrev pub OnBusy : Try B → (ℕ → Type 0) → Type 0
+  OnBusy (Held held) P = Unit {0}
+  OnBusy (Busy word) P = P word
+
+  -- the seats of a new lock, in the order of their numbers from 0 on
+  pub record AreNew (id : TableId) (first : BookHistory) (count : ℕ) (seats : List (LockSeat B)) : Type 0 where
+    pub rest : All (AtRest id) seats
+    pub parts : map seat_part seats ≡ new_parts first 0 count
+
+  -- every seat of the lock is given, and none has the book
+  pub record AreAll (id : TableId) (count : ℕ) (seats : List (LockSeat B)) : Type 0 where
+    pub rest : All (AtRest id) seats
+    pub all : length seats ≡ count

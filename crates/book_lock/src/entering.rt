@@ -1,0 +1,82 @@
+//! How a seat comes to the book, leaves it, and asks for the number of releases. None of these calls takes
+//! memory.
+ghost use Rattle.std.specs.Prelude.{◌≡◌, ◌≤◌};
+ghost use Rattle.book_lock.specs.History.{Finds, MayLeave, Entered, took, missed, left, loaded};
+ghost use Rattle.book_lock.specs.Seats.{lock_id, seat_lock, seat_part, AtRest, HasBook, OnHeld, OnBusy};
+
+use crate::held::{Held, Try};
+use crate::lock::{BookLock, LockSeat};
+use crate::steps;
+use stat_defs::Booked;
+use std::hint::spin_loop;
+use std::sync::Wait;
+use std::thread::yield_now;
+
+/// Tries of one call of `enter` before it lets other threads run between its tries.
+const SPINS: u32 = 64;
+
+// Between two tries the processor pauses, and once the spins are used up other threads may run. Gives the
+// spins that are left.
+fn pause(spins: u32) -> u32 {
+    if spins == 0 {
+        yield_now();
+        return 0;
+    }
+    spin_loop();
+    spins - 1
+}
+
+impl<B: Booked + Drop> BookLock<B> {
+    /// The book, once a try finds the turn free. May wait.
+    pub fn enter<R: Wait>(&self, rt: &R, seat: &mut LockSeat<B>) -> Held<B>
+        requires { AtRest (lock_id self.now) seat.old }
+        ensures seat { HasBook (lock_id self.now) seat.new }
+        ensures found { Finds (seat_part seat.old) (B.history result.book) }
+        ensures part { Entered (B.history result.book).log (seat_part seat.old) (seat_part seat.new) }
+    {
+        let mut spins = SPINS;
+        for _ in rt.forever() {
+            match self.try_enter(seat) {
+                Try::Held(held) => return held,
+                Try::Busy(_) => spins = pause(spins),
+            }
+        }
+        unreachable!()
+    }
+
+    /// The book, where this call's one step on the turn found 0. Else the word that it found, which is 1.
+    pub fn try_enter(&self, seat: &mut LockSeat<B>) -> Try<B>
+        requires { AtRest (lock_id self.now) seat.old }
+        ensures held { OnHeld result (λ book. HasBook (lock_id self.now) seat.new) }
+        ensures found { OnHeld result (λ book. Finds (seat_part seat.old) (B.history book)) }
+        ensures took { OnHeld result (λ b. seat_part seat.new ≡ took (B.history b).log (seat_part seat.old)) }
+        ensures busy { OnBusy result (λ word. (word ≡ 1) × AtRest (lock_id self.now) seat.new) }
+        ensures missed { OnBusy result (λ word. seat_part seat.new ≡ missed word (seat_part seat.old)) }
+    {
+        match steps::take(&self.table.shared, &mut seat.place) {
+            Ok(book) => Try::Held(Held { book }),
+            Err(word) => Try::Busy(word),
+        }
+    }
+
+    /// Publishes the number of the book's releases, and gives the turn back with the book.
+    pub fn leave(&self, seat: &mut LockSeat<B>, held: Held<B>)
+        requires seat { HasBook (lock_id self.now) seat.old }
+        requires book { MayLeave (seat_part seat.old) (B.history held.book) }
+        ensures seat { AtRest (lock_id self.now) seat.new }
+        ensures part { seat_part seat.new ≡ left (B.history held.book).log (seat_part seat.old) }
+    {
+        let Held { book } = held;
+        steps::give(&self.table.shared, &mut seat.place, book);
+    }
+
+    /// The number of releases, by one load.
+    pub fn releases(&self, seat: &mut LockSeat<B>) -> u64
+        requires { AtRest (lock_id self.now) seat.old }
+        ensures seat { AtRest (lock_id self.now) seat.new }
+        ensures part { seat_part seat.new ≡ loaded result (seat_part seat.old) }
+        ensures rises { (seat_part seat.old).seen ≤ result }
+    {
+        steps::load(&self.table.shared, &mut seat.place)
+    }
+}

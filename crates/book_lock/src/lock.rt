@@ -1,0 +1,24 @@
+//! A lock, and its seats.
+ghost use Rattle.std.specs.Prelude.{◌≡◌, ◌<◌, length};
+
+use crate::plays::Locking;
+use crate::steps::Place;
+use crate::view::{LockKey, LockView};
+use atomic_table::Table;
+use stat_defs::Booked;
+use std::alloc::Global;
+
+/// A lock round a book. Word 0 of its table is the turn, 1 while a seat has it, and word 1 the number of
+/// releases; the slot has the book while no seat does.
+#[derive(Drop)]
+pub struct BookLock<B: Booked> {
+    pub(crate) table: Table<Option<B>, LockView, LockKey<B>, Locking, Global>,
+    ghost sized: { (table.shared.table_id.words ≡ 2) × (table.shared.table_id.slots ≡ 1) × (0 < table.shared.key.seats) },
+}
+
+/// A seat of a lock. Contracts alone see its part.
+#[derive(Drop)]
+pub struct LockSeat<B> {
+    pub(crate) place: Place<B>,
+    ghost alone: { length place.me.0.parts ≡ 1 },
+}

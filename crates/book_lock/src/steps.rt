@@ -1,0 +1,55 @@
+//! The steps of a lock, on a place with one part.
+ghost use Rattle.std.specs.Prelude.{◌≡◌, ◌≤◌, [], ◌∷◌, None, MatchResult, length, true};
+ghost use Rattle.seat_parts.specs.Parts.{own_changed};
+ghost use Rattle.book_lock.specs.History.{Finds, MayLeave, took, missed, left, loaded};
+ghost use Rattle.book_lock.specs.Locked.{own_part};
+
+use crate::plays::{Giving, Loading, Locking, Publishing, Taking};
+use crate::view::{LockKey, LockView};
+use atomic_table::{Seat, Shared};
+use stat_defs::Booked;
+
+pub(crate) type Place<B> = Seat<Option<B>, LockView>;
+
+pub(crate) type Top<B> = Shared<Option<B>, LockView, LockKey<B>, Locking>;
+
+// The book, where the turn was free, or the word that was found.
+pub(crate) fn take<B: Booked>(top: &Top<B>, place: &mut Place<B>) -> Result<B, u64>
+    requires table { (place.old.table_id ≡ top.now.table_id) × (top.now.table_id.words ≡ 2) × (top.now.table_id.slots ≡ 1) }
+    requires rests { (length place.old.me.0.parts ≡ 1) × (place.old.me.1 ≡ []) }
+    ensures table { (place.new.table_id ≡ place.old.table_id) × (place.new.id ≡ place.old.id) }
+    ensures told { MatchResult result
+        (λ book. (place.new.me ≡ (own_changed (took (B.history book).log) place.old.me.0, (0, None) ∷ [])) × Finds (own_part place.old.me.0) (B.history book))
+        (λ word. (word ≡ 1) × (place.new.me ≡ (own_changed (missed word) place.old.me.0, []))) }
+{
+    let found = top.compare_exchange::<Taking>(place, 0, 0, 1);
+    if found == 0 {
+        Ok(top.exchange(place, 0, None).unwrap())
+    } else {
+        Err(found)
+    }
+}
+
+// The number of the book's releases is published before the turn goes back with it.
+pub(crate) fn give<B: Booked + Drop>(top: &Top<B>, place: &mut Place<B>, book: B)
+    requires table { (place.old.table_id ≡ top.now.table_id) × (top.now.table_id.words ≡ 2) × (top.now.table_id.slots ≡ 1) }
+    requires holds { (length place.old.me.0.parts ≡ 1) × (place.old.me.1 ≡ (0, None) ∷ []) × ((own_part place.old.me.0).holds ≡ true) }
+    requires book { MayLeave (own_part place.old.me.0) (B.history book) }
+    ensures table { (place.new.table_id ≡ place.old.table_id) × (place.new.id ≡ place.old.id) }
+    ensures told { place.new.me ≡ (own_changed (left (B.history book).log) place.old.me.0, []) }
+{
+    let releases = book.releases();
+    drop(top.exchange(place, 0, Some(book)));
+    top.store::<Publishing>(place, 1, releases);
+    top.store::<Giving>(place, 0, 0);
+}
+
+// The number of releases.
+pub(crate) fn load<B: Booked>(top: &Top<B>, place: &mut Place<B>) -> u64
+    requires table { (place.old.table_id ≡ top.now.table_id) × (top.now.table_id.words ≡ 2) }
+    requires rests { (length place.old.me.0.parts ≡ 1) × (place.old.me.1 ≡ []) }
+    ensures table { (place.new.table_id ≡ place.old.table_id) × (place.new.id ≡ place.old.id) }
+    ensures told { (place.new.me ≡ (own_changed (loaded result) place.old.me.0, [])) × ((own_part place.old.me.0).seen ≤ result) }
+{
+    top.load::<Loading>(place, 1)
+}
