@@ -15,7 +15,7 @@ pub use laws::{
     a_chain_grows, a_legal_log_is_safe, a_log_grows, metrics_stay, others_leave_a_seat,
 };
 pub use limits::{MAX_HISTOGRAMS, MAX_METRICS, MAX_OPENINGS, MAX_TOKENS, MAX_WORKERS};
-pub use state::BookState;
+pub use state::{BookState, numbers_of};
 pub use tables::NameKey;
 pub use worked::{
     gone_in_the_last_sweep, retired_and_found_again, safe_and_not, shared_symbols, sweep_waits,

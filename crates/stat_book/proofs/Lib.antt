@@ -3,4 +3,8 @@ mod NamesStay
 mod Keeping
 mod Uses
 mod First
+mod Deciding
+mod Making
+mod SweptNames
+mod Freedom
 pub mod CallerLemmas

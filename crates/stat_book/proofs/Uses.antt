@@ -61,7 +61,7 @@ new_holds m (s ∷ ts) (k ∷ ns) d zero t n e =
     subst (λ (p : List ℕ × ℕ). Holds (counted_all (counted m s k) ts ns) p.0 p.1) same h
 new_holds m (s ∷ ts) (k ∷ ns) d (suc i) t n e = new_holds (counted m s k) ts ns (draws_after m s k ts ns d.0 d.1) i t n e
 
-less_holds : (m : Table) (ns : List ℕ) (t : List ℕ) (n : ℕ) → Holds m t n → 0 < uses_at (uncounted_all m ns) n → Holds (uncounted_all m ns) t n
+pub less_holds : (m : Table) (ns : List ℕ) (t : List ℕ) (n : ℕ) → Holds m t n → 0 < uses_at (uncounted_all m ns) n → Holds (uncounted_all m ns) t n
 less_holds m ns t n h some =
     let s = still_used m ns n some in
     subst (λ (w : List ℕ). Holds (uncounted_all m ns) w n) (s.1 ∙ token_of_got m n (t, h.0) h.1) (used_case (uncounted_all m ns) n (table.get (uncounted_all m ns) n) refl some)
@@ -121,7 +121,7 @@ module _ (uses : Table) (symbols : List (List ℕ × ℕ)) (are : AreUses uses s
 abbrev pub gone_row : Row → Row
 gone_row row = record row { metric = record row.metric { life = Gone } }
 
-row_symbols : (row : Row) → is_gone row.metric.life ≡ false → symbols_of row ≡ zip (tokens row.metric.name) row.metric.numbers
+pub row_symbols : (row : Row) → is_gone row.metric.life ≡ false → symbols_of row ≡ zip (tokens row.metric.name) row.metric.numbers
 row_symbols row there = ap (λ (b : Bool). cond b [] (zip (tokens row.metric.name) row.metric.numbers)) there
 
 pub gone_split : (rows : List Row) (id : ℕ) (row : Row) → slice_get rows id ≡ Some row → is_gone row.metric.life ≡ false → length row.metric.numbers ≡ length (tokens row.metric.name)

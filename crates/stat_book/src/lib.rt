@@ -2,5 +2,10 @@
 #![tactic(auto)]
 
 mod book;
+mod finds;
+mod sweeps;
 
 pub use book::Book;
+
+#[cfg(test)]
+mod tests;
