@@ -25,7 +25,7 @@ use Rattle.stat_book.specs.Free.{is_end, uses_key, has_ended, has_used}
 use Rattle.stat_book.proofs.CallerLemmas.{replicated}
 
 other_seat : (a b : ℕ) (t : Bool) → a ≡ b → (a == b && t) ≡ false → t ≡ false
-other_seat a b t same no = by (a == b) refl no where
+other_seat a b t same un = by (a == b) refl un where
   is : (a == b) ≡ true
   is = (Decides-eqb a b).1 same
 
@@ -63,51 +63,51 @@ module _ (May : List Held → Type 0) (changes : Call → Bool)
   module _ (rules : NameRules) (seat : ℕ) where
     holds_more : (by : ℕ) (key : Key) (scope : ℕ) (v : Verdict) → (by == seat && changes (call.Find key)) ≡ false → by ≡ seat → (row : Seat) → (row.ended ≡ false) × May row.held
         → ((hold key scope v row).ended ≡ false) × May (hold key scope v row).held
-    holds_more by key scope v no same row free = (free.0, more key scope v row.held (other_seat by seat (changes (call.Find key)) same no) free.1)
+    holds_more by key scope v un same row free = (free.0, more key scope v row.held (other_seat by seat (changes (call.Find key)) same un) free.1)
 
     step_free : (by : ℕ) (c : Call) (r : Reply) (s : State) → (by == seat && changes c) ≡ false → IsFree seat s → IsFree seat (effect rules by c r s)
-    step_free by (call.OpenScope label prefix) (reply.Opened id) s no free = seats_free seat s _ refl free
-    step_free by (call.Release label) (reply.Released id) s no free = seats_free seat s _ refl free
-    step_free by (call.Find key) (reply.Made id numbers) s no free =
+    step_free by (call.OpenScope label prefix) (reply.Opened id) s un free = seats_free seat s (effect rules by (call.OpenScope label prefix) (reply.Opened id) s) refl free
+    step_free by (call.Release label) (reply.Released id) s un free = seats_free seat s (effect rules by (call.Release label) (reply.Released id) s) refl free
+    step_free by (call.Find key) (reply.Made id numbers) s un free =
         let one : State = record s { metrics = s.metrics ++ made rules s key numbers ∷ [] } in
-        on_seat_free (hold key (scope_of s key) (verdict.Accepted id)) by seat one (holds_more by key (scope_of s key) (verdict.Accepted id) no) (seats_free seat s one refl free)
-    step_free by (call.Find key) (reply.Found id) s no free =
+        on_seat_free (hold key (scope_of s key) (verdict.Accepted id)) by seat one (holds_more by key (scope_of s key) (verdict.Accepted id) un) (seats_free seat s one refl free)
+    step_free by (call.Find key) (reply.Found id) s un free =
         let one : State = on_metric (found (scope_of s key) key.mode) id.0 s in
-        on_seat_free (hold key (scope_of s key) (verdict.Accepted id)) by seat one (holds_more by key (scope_of s key) (verdict.Accepted id) no) (seats_free seat s one refl free)
-    step_free by (call.Find key) reply.Rejected s no free = on_seat_free (hold key (scope_of s key) verdict.Rejected) by seat s (holds_more by key (scope_of s key) verdict.Rejected no) free
-    step_free by (call.SetText id text) reply.TextSet s no free = seats_free seat s _ refl free
-    step_free by call.Ack (reply.Acked tag) s no free =
+        on_seat_free (hold key (scope_of s key) (verdict.Accepted id)) by seat one (holds_more by key (scope_of s key) (verdict.Accepted id) un) (seats_free seat s one refl free)
+    step_free by (call.Find key) reply.Rejected s un free = on_seat_free (hold key (scope_of s key) verdict.Rejected) by seat s (holds_more by key (scope_of s key) verdict.Rejected un) free
+    step_free by (call.SetText id text) reply.TextSet s un free = seats_free seat s (effect rules by (call.SetText id text) reply.TextSet s) refl free
+    step_free by call.Ack (reply.Acked tag) s un free =
         on_seat_free (acknowledged s.scopes tag) by seat s (λ same row was. (was.0, less (λ h. is_live s.scopes h.scope) row.held was.1)) free
-    step_free by call.Sweep (reply.Swept n) s no free = seats_free seat s _ refl free
-    step_free by call.End reply.Ended s no free =
-        on_seat_free ended by seat s (λ same row was. absurd (true_false (sym ends ∙ other_seat by seat (changes call.End) same no))) free
-    step_free by c r s no free = free
+    step_free by call.Sweep (reply.Swept n) s un free = seats_free seat s (effect rules by call.Sweep (reply.Swept n) s) refl free
+    step_free by call.End reply.Ended s un free =
+        on_seat_free ended by seat s (λ same row was. absurd (true_false (sym ends ∙ other_seat by seat (changes call.End) same un))) free
+    step_free by c r s un free = free
 
     any_parts : (a b : Bool) → (a || b) ≡ false → (a ≡ false) × (b ≡ false)
-    any_parts true b no = absurd (true_false no)
-    any_parts false b no = (refl, no)
+    any_parts true b un = absurd (true_false un)
+    any_parts false b un = (refl, un)
 
     log_free : (s : State) (log : List Entry) → list_any (λ (entry : Entry). entry.seat == seat && changes entry.call) log ≡ false → IsFree seat s → IsFree seat (replay_from rules s log)
-    log_free s [] no free = free
-    log_free s (e ∷ log) no free =
-        let parts = any_parts (e.seat == seat && changes e.call) (list_any (λ (entry : Entry). entry.seat == seat && changes entry.call) log) no in
+    log_free s [] un free = free
+    log_free s (e ∷ log) un free =
+        let parts = any_parts (e.seat == seat && changes e.call) (list_any (λ (entry : Entry). entry.seat == seat && changes entry.call) log) un in
         log_free (effect rules e.seat e.call e.reply s) log parts.1 (step_free e.seat e.call e.reply s parts.0 free)
 
-  -- a seat of a worker, of which no such call stands in the log
+  -- a seat of a worker, of which un such call stands in the log
   book_free : (book : BookHistory) (seat : ℕ) → May [] → 1 ≤ seat → seat ≤ book.workers → list_any (λ (entry : Entry). entry.seat == seat && changes entry.call) book.log ≡ false
       → IsFree seat (state_of book)
-  book_free book zero first some few no = absurd (omega (arith, some))
-  book_free book (suc at) first some few no =
+  book_free book zero first some few un = absurd (omega (arith, some))
+  book_free book (suc at) first some few un =
       let begins = replicated book.workers at (record { tag = 0; held = []; ended = false }) (omega (arith, few)) in
-      log_free (rules_of book) (suc at) (empty book.workers) book.log no
+      log_free (rules_of book) (suc at) (empty book.workers) book.log un
       (subst (λ o. IsSomeAnd o (λ row. (row.ended ≡ false) × May row.held)) (sym begins) (refl, first))
 
 abbrev DoesNotHold : Key → List Held → Type 0
 DoesNotHold key held = IsNone (held_under key held)
 
 none_of : (o : Option Held) → IsNone o → o ≡ None
-none_of None no = refl
-none_of (Some h) no = absurd no
+none_of None un = refl
+none_of (Some h) un = absurd (true_false un)
 
 holds_no_more : (key other : Key) (scope : ℕ) (v : Verdict) (held : List Held) → same_key other key ≡ false → DoesNotHold key held
     → DoesNotHold key (held ++ record { key = other; scope = scope; verdict = v } ∷ [])
@@ -115,13 +115,13 @@ holds_no_more key other scope v held differs none =
     let one : Held = record { key = other; scope = scope; verdict = v } in
     let last : find (λ (h : Held). same_key h.key key) (one ∷ []) ≡ None = ap (λ (b : Bool). cond b (Some one) None) differs in
     subst (λ (o : Option Held). IsNone o)
-    (sym (find-append (λ (h : Held). same_key h.key key) held (one ∷ []) ∙ (λ i. option_or (none_of (held_under key held) none i) (last i)))) tt
+    (sym (find-append (λ (h : Held). same_key h.key key) held (one ∷ []) ∙ (λ i. option_or (none_of (held_under key held) none i) (last i)))) refl
 
 found_step : (key : Key) (q : Held → Bool) (h : Held) (held : List Held) (t u : Bool) → q h ≡ t → same_key h.key key ≡ u → DoesNotHold key (h ∷ held)
     → (DoesNotHold key held → DoesNotHold key (filter q held)) → DoesNotHold key (filter q (h ∷ held))
-found_step key q h held true true keeps same none rest = absurd (subst (λ (b : Bool). IsNone (cond b (Some h) (held_under key held))) same none)
+found_step key q h held true true keeps same none rest = absurd (true_false (subst (λ (b : Bool). IsNone (cond b (Some h) (held_under key held))) same none))
 found_step key q h held true false keeps same none rest = rw (keeps, same) (rest (subst (λ (b : Bool). IsNone (cond b (Some h) (held_under key held))) same none))
-found_step key q h held false true keeps same none rest = absurd (subst (λ (b : Bool). IsNone (cond b (Some h) (held_under key held))) same none)
+found_step key q h held false true keeps same none rest = absurd (true_false (subst (λ (b : Bool). IsNone (cond b (Some h) (held_under key held))) same none))
 found_step key q h held false false keeps same none rest = rw keeps (rest (subst (λ (b : Bool). IsNone (cond b (Some h) (held_under key held))) same none))
 
 holds_less : (key : Key) (q : Held → Bool) (held : List Held) → DoesNotHold key held → DoesNotHold key (filter q held)
@@ -129,8 +129,8 @@ holds_less key q [] none = none
 holds_less key q (h ∷ held) none = found_step key q h held (q h) (same_key h.key key) refl refl none (holds_less key q held)
 
 pub may_find : (book : BookHistory) (seat : ℕ) (key : Key) → 1 ≤ seat → seat ≤ book.workers → has_used seat key book.log ≡ false → Working (state_of book) seat (λ row. IsNone (held_under key row.held))
-may_find book seat key some few no =
-    book_free (DoesNotHold key) (uses_key key) refl (λ other scope v held differs. holds_no_more key other scope v held differs) (λ q held. holds_less key q held) book seat tt some few no
+may_find book seat key some few un =
+    book_free (DoesNotHold key) (uses_key key) refl (λ other scope v held differs. holds_no_more key other scope v held differs) (λ q held. holds_less key q held) book seat refl some few un
 
 pub may_call : (book : BookHistory) (seat : ℕ) → 1 ≤ seat → seat ≤ book.workers → has_ended seat book.log ≡ false → Works (state_of book) seat
-may_call book seat some few no = book_free (λ held. Unit {0}) is_end refl (λ other scope v held differs may. may) (λ q held may. may) book seat tt some few no
+may_call book seat some few un = book_free (λ held. Unit {0}) is_end refl (λ other scope v held differs may. may) (λ q held may. may) book seat tt some few un

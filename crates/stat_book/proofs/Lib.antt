@@ -5,6 +5,7 @@ mod Uses
 mod First
 mod Deciding
 mod Making
+mod Freeing
 mod SweptNames
 mod Freedom
 pub mod CallerLemmas

@@ -33,8 +33,12 @@ as_metric row = row.metric
 
 count_step : (p : Metric → Bool) (id : ℕ) (row : Row) (rows : List Row) (t : Bool) → p row.metric ≡ t → length (ids_from p (id + 1) (map as_metric rows)) ≡ count_by (λ row. p row.metric) rows
     → length (ids_from p id (map as_metric (row ∷ rows))) ≡ cond t 1 0 + count_by (λ row. p row.metric) rows
-count_step p id row rows true is rest = rw is (ap suc rest)
-count_step p id row rows false is rest = rw is rest
+count_step p id row rows true is rest =
+    let e : length (ids_from p id (map as_metric (row ∷ rows))) ≡ suc (length (ids_from p (id + 1) (map as_metric rows))) = rw is refl in
+    omega (arith, e, rest)
+count_step p id row rows false is rest =
+    let e : length (ids_from p id (map as_metric (row ∷ rows))) ≡ length (ids_from p (id + 1) (map as_metric rows)) = rw is refl in
+    omega (arith, e, rest)
 
 ids_count : (p : Metric → Bool) (id : ℕ) (rows : List Row) → length (ids_from p id (map as_metric rows)) ≡ count_by (λ row. p row.metric) rows
 ids_count p id [] = refl

@@ -3,9 +3,11 @@
 
 mod book;
 mod finds;
+mod laws;
 mod sweeps;
 
 pub use book::Book;
+pub use laws::thread_law;
 
 #[cfg(test)]
 mod tests;

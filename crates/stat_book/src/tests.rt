@@ -132,6 +132,7 @@ fn kind_of(word: &str) -> (Kind, Mode) {
     }
 }
 
+#[tactic(auto, using(crate::proofs::Freedom::may_find))]
 fn find(
     rt: &impl Abort,
     alloc: Global,
@@ -150,6 +151,7 @@ fn find(
     Ok(())
 }
 
+#[tactic(auto, using(crate::proofs::Freedom::may_call))]
 fn open(
     rt: &impl Abort,
     alloc: Global,
@@ -169,6 +171,7 @@ fn open(
     Ok(())
 }
 
+#[tactic(auto, using(crate::proofs::Freedom::may_call))]
 fn release(
     rt: &impl Abort,
     alloc: Global,
@@ -185,6 +188,7 @@ fn release(
     Ok(())
 }
 
+#[tactic(auto, using(crate::proofs::Freedom::may_call))]
 fn end(rt: &impl Abort, alloc: Global, book: &mut Book, seat: u32) -> Result<(), Fail>
     requires { book.old.workers ≡ 2 }
     ensures { OnOk result (book.new.workers ≡ 2) }
@@ -195,6 +199,7 @@ fn end(rt: &impl Abort, alloc: Global, book: &mut Book, seat: u32) -> Result<(),
     Ok(())
 }
 
+#[tactic(auto, using(crate::proofs::Freedom::may_call))]
 fn ack(rt: &impl Abort, alloc: Global, book: &mut Book, seat: u32) -> Result<(), Fail>
     requires { book.old.workers ≡ 2 }
     ensures { OnOk result (book.new.workers ≡ 2) }
