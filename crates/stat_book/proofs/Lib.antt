@@ -8,4 +8,5 @@ mod Making
 mod Freeing
 mod SweptNames
 mod Freedom
+mod SameKeys
 pub mod CallerLemmas
