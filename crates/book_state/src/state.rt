@@ -375,8 +375,8 @@ impl BookState {
     }
 }
 
-// The symbol numbers that a find's reply has.
-fn numbers_of(reply: &Reply) -> &[u32]
+/// The symbol numbers that a find's reply has.
+pub fn numbers_of(reply: &Reply) -> &[u32]
     requires { MakesOf reply.now }
     ensures { result.now ≡ numbers_in reply.now }
 {

@@ -69,7 +69,7 @@ first_seats : (rules : NameRules) (s : State) (id : ℕ) (scopes : List ScopeSpe
 first_seats rules s id [] = refl
 first_seats rules s id (scope ∷ scopes) = first_seats rules (record s { scopes = s.scopes ++ record { label = scope.label; prefix = scope.prefix; live = true } ∷ [] }) (suc id) scopes
 
-replicated : {X : Type 0} (n at : ℕ) (x : X) → at < n → slice_get (replicate n x) at ≡ Some x
+pub replicated : {X : Type 0} (n at : ℕ) (x : X) → at < n → slice_get (replicate n x) at ≡ Some x
 replicated zero at x below = absurd (omega (arith, below))
 replicated (suc n) zero x below = refl
 replicated (suc n) (suc at) x below = replicated n at x (omega (arith, below))

@@ -137,11 +137,11 @@ taken_all : (xs : List ScopeSpec) → take (length xs) xs ≡ xs
 taken_all [] = refl
 taken_all (x ∷ xs) = ap (λ (l : List ScopeSpec). x ∷ l) (taken_all xs)
 
-pub taken_over : (i : ℕ) (xs : List ScopeSpec) → length xs ≤ i → take i xs ≡ xs
+pub taken_over : {X : Type 0} (i : ℕ) (xs : List X) → length xs ≤ i → take i xs ≡ xs
 taken_over zero [] within = refl
 taken_over (suc i) [] within = refl
 taken_over zero (x ∷ xs) within = absurd (omega (arith, within))
-taken_over (suc i) (x ∷ xs) within = ap (λ (l : List ScopeSpec). x ∷ l) (taken_over i xs (omega (arith, within)))
+taken_over (suc i) (x ∷ xs) within = ap (λ l. x ∷ l) (taken_over i xs (omega (arith, within)))
 
 pub no_uses : (uses : Table) → uses ≡ table.empty → IsTable uses → AreUses uses []
 no_uses uses is all = record {

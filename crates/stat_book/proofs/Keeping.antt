@@ -179,6 +179,13 @@ module _ (book : BookHistory) (held : StateView) (uses : Table) (kept : IsKept b
       (subst (λ symbols. AreUses uses symbols) (sym (ap symbols_in (state_with book e) ∙ stay.symbols)) kept.symbols)
       (subst (λ (n : ℕ). total uses ≤ MAX_TOKENS * n) (sym count) kept.few_uses)
 
+-- a book that did not change
+pub same_kept : (book : BookHistory) (held : StateView) (uses : Table) → IsKept book held uses → (held' : StateView) (uses' : Table) (log : List Entry) → log ≡ book.log → held' ≡ held → uses' ≡ uses
+    → IsKept (record book { log = log }) held' uses'
+same_kept book held uses kept held' uses' log same is are =
+    subst (λ (l : List Entry). IsKept (record book { log = l }) held' uses') (sym same)
+    (subst (λ (h : StateView). IsKept book h uses') (sym is) (subst (λ (u : Table). IsKept book held u) (sym are) kept))
+
 -- what the clause of a call says
 pub logged_as : (v book : BookHistory) (seat : ℕ) (c : Call) (r : Reply) (log : List Entry) → book ≡ v → log ≡ book.log ++ record { seat = seat; call = c; reply = r } ∷ []
     → Allowed (rules_of book) seat c r (state_of book) → Logged v seat c r (record book { log = log })

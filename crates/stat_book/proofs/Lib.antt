@@ -3,4 +3,10 @@ mod NamesStay
 mod Keeping
 mod Uses
 mod First
+mod Deciding
+mod Making
+mod Freeing
+mod SweptNames
+mod Freedom
+mod SameKeys
 pub mod CallerLemmas

@@ -38,7 +38,7 @@ released_symbols : (scope tag : ℕ) (row : Row) (t : Bool) → (t ≡ true → 
 released_symbols scope tag row true there = left_symbols tag row.metric (others scope row.bearers) (there refl)
 released_symbols scope tag row false there = refl
 
-seat_metrics : (f : Seat → Seat) (by : ℕ) (s : State) → (on_seat f by s).metrics ≡ s.metrics
+pub seat_metrics : (f : Seat → Seat) (by : ℕ) (s : State) → (on_seat f by s).metrics ≡ s.metrics
 seat_metrics f zero s = refl
 seat_metrics f (suc at) s = refl
 

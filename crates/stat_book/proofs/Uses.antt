@@ -61,7 +61,7 @@ new_holds m (s ∷ ts) (k ∷ ns) d zero t n e =
     subst (λ (p : List ℕ × ℕ). Holds (counted_all (counted m s k) ts ns) p.0 p.1) same h
 new_holds m (s ∷ ts) (k ∷ ns) d (suc i) t n e = new_holds (counted m s k) ts ns (draws_after m s k ts ns d.0 d.1) i t n e
 
-less_holds : (m : Table) (ns : List ℕ) (t : List ℕ) (n : ℕ) → Holds m t n → 0 < uses_at (uncounted_all m ns) n → Holds (uncounted_all m ns) t n
+pub less_holds : (m : Table) (ns : List ℕ) (t : List ℕ) (n : ℕ) → Holds m t n → 0 < uses_at (uncounted_all m ns) n → Holds (uncounted_all m ns) t n
 less_holds m ns t n h some =
     let s = still_used m ns n some in
     subst (λ (w : List ℕ). Holds (uncounted_all m ns) w n) (s.1 ∙ token_of_got m n (t, h.0) h.1) (used_case (uncounted_all m ns) n (table.get (uncounted_all m ns) n) refl some)
@@ -76,7 +76,7 @@ module _ (uses : Table) (symbols : List (List ℕ × ℕ)) (are : AreUses uses s
       let here : slice_get symbols at.0 ≡ Some (s.0.0, n) = s.1 ∙ ap (λ (k : ℕ). Some (s.0.0, k)) (sym s.2) in
       let other = are.tokens at.0 s.0.0 n here in
       let token : s.0.0 ≡ t = ap (λ (p : List ℕ × ℕ). p.0) (some_same (s.0.0, other.0) (t, h.0) (sym other.1 ∙ h.1)) in
-      (at.0, here ∙ ap (λ (w : List ℕ). Some (w, n)) token)
+      (at.0, subst (λ (w : List ℕ). slice_get symbols at.0 ≡ Some (w, n)) token here)
 
   pub same_uses : Same (Holds uses) (λ t n. Among symbols (t, n))
   same_uses = record { to = to_uses; from = λ t n a. are.tokens a.0 t n a.1 }
@@ -117,34 +117,5 @@ module _ (uses : Table) (symbols : List (List ℕ × ℕ)) (are : AreUses uses s
           subst (λ (u : Table). Holds u t n) (sym are') (less_holds uses ns t n (are.tokens old.0 t n old.1) (subst (λ (u : Table). 0 < uses_at u n) are' some));
     }
 
--- a metric that is gone has no symbols
-abbrev pub gone_row : Row → Row
-gone_row row = record row { metric = record row.metric { life = Gone } }
-
-row_symbols : (row : Row) → is_gone row.metric.life ≡ false → symbols_of row ≡ zip (tokens row.metric.name) row.metric.numbers
+pub row_symbols : (row : Row) → is_gone row.metric.life ≡ false → symbols_of row ≡ zip (tokens row.metric.name) row.metric.numbers
 row_symbols row there = ap (λ (b : Bool). cond b [] (zip (tokens row.metric.name) row.metric.numbers)) there
-
-pub gone_split : (rows : List Row) (id : ℕ) (row : Row) → slice_get rows id ≡ Some row → is_gone row.metric.life ≡ false → length row.metric.numbers ≡ length (tokens row.metric.name)
-    → (n : ℕ) → times n (numbers_of (flat_map symbols_of rows)) ≡ times n (numbers_of (flat_map symbols_of (change_at gone_row id rows))) + times n row.metric.numbers
-gone_split [] id row at there many n = absurd (not_some row at)
-gone_split (x ∷ rows) zero row at there many n =
-    let is = some_same x row at in
-    let head = ap numbers_of (ap symbols_of is ∙ row_symbols row there) ∙ zip_numbers (tokens row.metric.name) row.metric.numbers many in
-    let all = map-append (λ (symbol : List ℕ × ℕ). symbol.1) (symbols_of x) (flat_map symbols_of rows) in
-    let both = ap (times n) (all ∙ ap (λ (l : List ℕ). l ++ numbers_of (flat_map symbols_of rows)) head) in
-    let sum = times_append n row.metric.numbers (numbers_of (flat_map symbols_of rows)) in
-    omega (arith, both, sum)
-gone_split (x ∷ rows) (suc id) row at there many n =
-    let rest = gone_split rows id row at there many n in
-    let a = ap (times n) (map-append (λ (symbol : List ℕ × ℕ). symbol.1) (symbols_of x) (flat_map symbols_of rows)) ∙ times_append n (numbers_of (symbols_of x)) (numbers_of (flat_map symbols_of rows)) in
-    let b = ap (times n) (map-append (λ (symbol : List ℕ × ℕ). symbol.1) (symbols_of x) (flat_map symbols_of (change_at gone_row id rows)))
-    ∙ times_append n (numbers_of (symbols_of x)) (numbers_of (flat_map symbols_of (change_at gone_row id rows))) in
-    omega (arith, a, b, rest)
-
-pub gone_less : (rows : List Row) (id : ℕ) (t : List ℕ) (n : ℕ) → Among (flat_map symbols_of (change_at gone_row id rows)) (t, n) → Among (flat_map symbols_of rows) (t, n)
-gone_less rows id t n a =
-    let got = flat_among symbols_of (change_at gone_row id rows) (t, n) a in
-    elim (change_some gone_row id rows got.0 got.1 got.2) [
-      | inl was ↦ absurd (not_some (t, n) (subst (λ (row : Row). slice_get (symbols_of row) got.3.0 ≡ Some (t, n)) was.3 got.3.1))
-      | inr was ↦ among_flat symbols_of rows got.0 got.1 (t, n) was.1 got.3
-    ]

@@ -1,5 +1,8 @@
 pub mod Calls
 pub mod Appending
 pub mod Symbols
+pub mod Finds
+pub mod Sweeps
 pub mod BookKept
+pub mod Free
 pub mod Tried

@@ -33,12 +33,12 @@ use tag_rules::{Matcher, TagRules};
 /// number of workers and its log; its state is the replay of the log.
 #[derive(Drop)]
 pub struct Book {
-    matcher: Matcher,
+    pub(crate) matcher: Matcher,
     workers: u32,
-    state: BookState,
+    pub(crate) state: BookState,
     /// The tokens of the names that are not gone.
-    symbols: SymbolTable,
-    log: Vec<Entry>,
+    pub(crate) symbols: SymbolTable,
+    pub(crate) log: Vec<Entry>,
     /// The configuration, which contracts alone see.
     config: GhostList<Config>,
 }
@@ -224,7 +224,7 @@ impl Book {
 
 impl Book {
     // The live scope of a label.
-    fn live_scope(&self, label: &Txt) -> Option<u32>
+    pub(crate) fn live_scope(&self, label: &Txt) -> Option<u32>
         ensures { result ≡ live_scope (state_of self.now) label.now }
     {
         self.state.live_scope(label)
@@ -254,7 +254,7 @@ impl Book {
     }
 
     // Logs a call of a worker with a reply that draws or frees no symbol.
-    fn append(&mut self, alloc: Global, seat: u32, call: Call, reply: Reply) -> Result<(), NoMemory>
+    pub(crate) fn append(&mut self, alloc: Global, seat: u32, call: Call, reply: Reply) -> Result<(), NoMemory>
         requires may { Allowed (rules_of self.old) seat call reply (state_of self.old) }
         requires works { Works (state_of self.old) seat }
         requires worker { is_sweep call ≡ false }

@@ -2,5 +2,12 @@
 #![tactic(auto)]
 
 mod book;
+mod finds;
+mod laws;
+mod sweeps;
 
 pub use book::Book;
+pub use laws::thread_law;
+
+#[cfg(test)]
+mod tests;

@@ -10,7 +10,7 @@ use Rattle.symbol_table.proofs.DrawingLemmas.{drawn_length, tokens_back}
 use Rattle.symbol_table.proofs.Adding.{uses_counted_all}
 
 -- a full name has 1 to 512 tokens
-token_count : (name : List ℕ) → IsFullName name → (1 ≤ length (tokens name)) × (length (tokens name) ≤ 512)
+pub token_count : (name : List ℕ) → IsFullName name → (1 ≤ length (tokens name)) × (length (tokens name) ≤ 512)
 token_count name full =
     let cuts = length-slice_split (λ (b : ℕ). b == 46) name in
     let few = count_by-le-length (λ (b : ℕ). b == 46) name in
