@@ -1,0 +1,29 @@
+-- What the flusher's calls and `close` answer (this project's own).
+use Rattle.std.specs.Prelude.{◌≡◌, ℕ, ◌≤◌, Bool, true, false, List, [], ◌∷◌, ◌++◌}
+use Rattle.seat_parts.specs.Parts.{total}
+use Rattle.turn_cell.specs.declared.limits.TheConstants.{MAX_TURNED}
+use Rattle.turn_cell.specs.declared.view.TurnKind.TheVariants.{Load, Collect, Return}
+use Rattle.turn_cell.specs.declared.tokens.FlushIdle.{FlushIdle}
+use Rattle.turn_cell.specs.declared.tokens.FlushWaiting.{FlushWaiting}
+use Rattle.turn_cell.specs.declared.flusher.Request.{Request}
+use Rattle.turn_cell.specs.declared.flusher.Request.TheVariants.{Asked, Left as Gone}
+use Rattle.turn_cell.specs.declared.flusher.Take.{Take}
+use Rattle.turn_cell.specs.declared.flusher.Take.TheVariants.{Full, NotYet, Left}
+use Rattle.turn_cell.specs.Steps.{IsFull, IsEarly}
+use Rattle.turn_cell.specs.Tokens.{Known, idle, waiting, holding, after, with_half}
+
+module _ {H : Type 0} where
+  abbrev pub MatchRequest : Request H → (FlushWaiting H → Type 0) → (FlushIdle H → Type 0) → Type 0
+  MatchRequest (Asked w) A L = A w
+  MatchRequest (Gone i) A L = L i
+
+  -- What a take finds, of a flusher that knew k. Its load found 3 or 11, and then its next step took the half; or it found 1 or 2, which it tells; or 9, and it took its request back.
+  abbrev pub Finds : (H → ℕ) → Known H → Take H → Type 0
+  Finds weighs k (Full half f) = (found later : ℕ) × IsFull found × IsFull later × (holding f ≡ with_half half (after Collect later (after Load found k))) × (total weighs (holding f).halves ≤ MAX_TURNED)
+  Finds weighs k (NotYet f word) = IsEarly word × (waiting f ≡ after Load word k)
+  Finds weighs k (Left f) = idle f ≡ after Return 9 (after Load 9 k)
+
+  -- what close gives beside the halves that were taken
+  abbrev pub full_one : Bool → H → List H
+  full_one true half = half ∷ []
+  full_one false half = []

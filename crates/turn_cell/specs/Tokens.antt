@@ -1,0 +1,66 @@
+-- What clauses read of a cell, of the tokens of its parties, and of what its calls give (this project's own).
+-- A token knows two lists, which its own calls alone lengthen: the halves that were turned or taken with it, in order, and its steps, the newest first.
+use Rattle.std.specs.Prelude.{◌≡◌, ℕ, ◌≤◌, Bool, true, false, List, [], ◌∷◌, ◌++◌}
+use Rattle.atomic_table.specs.Seated.{TableId}
+use Rattle.atomic_table.specs.declared.shared.Seat.{Seat}
+use Rattle.seat_parts.specs.declared.Parts.{Parts}
+use Rattle.turn_cell.specs.declared.view.TurnKind.{TurnKind}
+use Rattle.turn_cell.specs.declared.view.TurnStep.{TurnStep}
+use Rattle.turn_cell.specs.declared.view.TurnPart.{TurnPart}
+use Rattle.turn_cell.specs.declared.cell.TurnCell.{TurnCell}
+use Rattle.turn_cell.specs.declared.tokens.TurnWorker.{TurnWorker}
+use Rattle.turn_cell.specs.declared.tokens.LeftNote.{LeftNote}
+use Rattle.turn_cell.specs.declared.tokens.FlushIdle.{FlushIdle}
+use Rattle.turn_cell.specs.declared.tokens.FlushWaiting.{FlushWaiting}
+use Rattle.turn_cell.specs.declared.tokens.FlushHolding.{FlushHolding}
+use Rattle.turn_cell.specs.declared.tokens.FlushAny.{FlushAny}
+use Rattle.turn_cell.specs.declared.tokens.FlushAny.TheVariants.{Idle, Waiting}
+use Rattle.turn_cell.specs.Turned.{own_part, can_turn}
+use Rattle.turn_cell.specs.Steps.{step_of}
+
+-- what a token knows: its cell, the halves that were turned or taken with it, and its steps
+pub record Known (H : Type 0) : Type 0 where
+  pub cell : TableId
+  pub halves : List H
+  pub steps : List TurnStep
+
+module _ {H : Type 0} where
+  abbrev pub cell_id : TurnCell H → TableId
+  cell_id c = c.table.shared.table_id
+
+  -- the same after one step more
+  abbrev pub after : TurnKind → ℕ → Known H → Known H
+  after kind found k = record { cell = k.cell; halves = k.halves; steps = step_of kind found ∷ k.steps }
+
+  -- the same with one half more
+  abbrev pub with_half : H → Known H → Known H
+  with_half half k = record { cell = k.cell; halves = k.halves ++ half ∷ []; steps = k.steps }
+
+  abbrev pub fresh : TableId → Known H
+  fresh cell = record { cell = cell; halves = []; steps = [] }
+
+  abbrev pub known_of : TableId → TurnPart H → Known H
+  known_of cell p = record { cell = cell; halves = p.halves; steps = p.steps }
+
+  abbrev pub worker : TurnWorker H → Known H
+  worker w = known_of w.seat.table_id (own_part w.seat.me.0)
+
+  -- the last `asked` with this token said true, and no turn came since
+  abbrev pub may_turn : TurnWorker H → Bool
+  may_turn w = can_turn (own_part w.seat.me.0).party
+
+  abbrev pub left : LeftNote H → Known H
+  left note = known_of note.seat.table_id (own_part note.seat.me.0)
+
+  abbrev pub idle : FlushIdle H → Known H
+  idle f = known_of f.seat.table_id (own_part f.seat.me.0)
+
+  abbrev pub waiting : FlushWaiting H → Known H
+  waiting f = known_of f.seat.table_id (own_part f.seat.me.0)
+
+  abbrev pub holding : FlushHolding H → Known H
+  holding f = known_of f.seat.table_id (own_part f.seat.me.0)
+
+  abbrev pub flusher : FlushAny H → Known H
+  flusher (Idle f) = idle f
+  flusher (Waiting f) = waiting f
