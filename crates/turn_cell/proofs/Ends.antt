@@ -20,7 +20,7 @@ use Rattle.turn_cell.specs.declared.view.FlusherStage.TheVariants.{Resting, Wait
 use Rattle.turn_cell.specs.declared.view.Party.{Party}
 use Rattle.turn_cell.specs.declared.view.Party.TheVariants.{Worker, Flusher}
 use Rattle.turn_cell.specs.declared.view.TurnPart.{TurnPart}
-use Rattle.turn_cell.specs.Turned.{word_of, WorkerFits, FlusherFits, SlotFits, worker_weight, flusher_weight, Knows, Turned, own_part, new_part, turn_view, has_left, has_no_slot}
+use Rattle.turn_cell.specs.Turned.{word_of, WorkerFits, FlusherFits, SlotFits, worker_weight, flusher_weight, Knows, Turned, own_turn, new_turn, turn_view, has_left, has_no_slot}
 use Rattle.turn_cell.specs.Answers.{full_one}
 use Rattle.turn_cell.proofs.Fits.{leaver}
 
@@ -49,7 +49,7 @@ module _ {H : Type 0} (weighs : H → ℕ) where
     one_worker = omega arith;
     one_flusher = omega arith;
     parts = (let F : TurnPart H → Type 0 = λ p. Knows Working [] Resting [] p.party p.halves in
-        let own = All-cons F (new_part (Flusher Resting)) (new_part (Worker Working) ∷ []) (refl, refl) (All-cons F (new_part (Worker Working)) [] (refl, refl) (All-nil F)) in
+        let own = All-cons F (new_turn (Flusher Resting)) (new_turn (Worker Working) ∷ []) (refl, refl) (All-cons F (new_turn (Worker Working)) [] (refl, refl) (All-nil F)) in
         All-cons (λ (v : Parts (TurnPart H)). Rattle.std.proofs.Common.All F v.parts) turn_view [] own (All-nil (λ (v : Parts (TurnPart H)). Rattle.std.proofs.Common.All F v.parts)));
   }
 
@@ -119,17 +119,17 @@ module _ {H : Type 0} (weighs : H → ℕ) where
         (subst (λ hs. HasLast hs q.halves (get_or s.words 0 0) s.homes) (sym a.1) (subst (λ hs. HasLast r.turned hs (get_or s.words 0 0) s.homes) (sym b.1) (subst (λ w. HasLast r.turned r.taken w s.homes) (sym r.word) last)),
           subst (λ hs. total weighs hs ≤ MAX_TURNED) (sym a.1) r.bound)
 
-  own-only : (v : Parts (TurnPart H)) → length v.parts ≡ 1 → v.parts ≡ own_part v ∷ []
-  own-only v a = one-part (new_part (Worker Working)) v.parts a
+  own-only : (v : Parts (TurnPart H)) → length v.parts ≡ 1 → v.parts ≡ own_turn v ∷ []
+  own-only v a = one-part (new_turn (Worker Working)) v.parts a
 
   pub closes : (id : ℕ) (v w : Parts (TurnPart H)) (z : Parts (TurnPart H)) (words : List ℕ) (xs : List (Option H)) (word : ℕ) → Final (Seen (Turned weighs) id z) words xs → z ≡ joined v w
-      → length v.parts ≡ 1 → length w.parts ≡ 1 → has_left (own_part v).party ≡ true → has_no_slot (own_part w).party ≡ true → get_elem? words 0 ≡ some word
-      → (half : H) × (get_elem? xs 0 ≡ some (Some half)) × Last (own_part v).halves (own_part w).halves word half × (total weighs (own_part v).halves ≤ MAX_TURNED)
+      → length v.parts ≡ 1 → length w.parts ≡ 1 → has_left (own_turn v).party ≡ true → has_no_slot (own_turn w).party ≡ true → get_elem? words 0 ≡ some word
+      → (half : H) × (get_elem? xs 0 ≡ some (Some half)) × Last (own_turn v).halves (own_turn w).halves word half × (total weighs (own_turn v).halves ≤ MAX_TURNED)
   closes id v w z words xs word (s, seen, is, _, homes) e a b l n at =
-      let view : z ≡ record { parts = own_part v ∷ own_part w ∷ [] } = e ∙ (λ i. record { parts = own-only v a i ++ own-only w b i }) in
-      let t = ends s seen.0 id (own_part v) (own_part w) (seen.1 ∙ ap some view) l n in let h = t.0 in
+      let view : z ≡ record { parts = own_turn v ∷ own_turn w ∷ [] } = e ∙ (λ i. record { parts = own-only v a i ++ own-only w b i }) in
+      let t = ends s seen.0 id (own_turn v) (own_turn w) (seen.1 ∙ ap some view) l n in let h = t.0 in
       let same : get_or s.words 0 0 ≡ word = ap (λ ws. get_or ws 0 0) is ∙ at-or words 0 word 0 at in
-      (h.0, homes 0 (Some h.0) h.1, subst (λ k. Last (own_part v).halves (own_part w).halves k h.0) same h.2, t.1)
+      (h.0, homes 0 (Some h.0) h.1, subst (λ k. Last (own_turn v).halves (own_turn w).halves k h.0) same h.2, t.1)
 
   half-of : H → Option H → H
   half-of d None = d

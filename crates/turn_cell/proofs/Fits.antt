@@ -10,7 +10,7 @@ use Rattle.turn_cell.specs.declared.view.FlusherStage.TheVariants.{Resting, Wait
 use Rattle.turn_cell.specs.declared.view.Party.{Party}
 use Rattle.turn_cell.specs.declared.view.Party.TheVariants.{Worker, Flusher}
 use Rattle.turn_cell.specs.Turned.{word_of, phase_number, WorkerFits, FlusherFits, is_there, has_left, can_turn, is_resting, is_waiting, is_holding}
-use Rattle.turn_cell.specs.Steps.{stage_at, asked_at, Shows, IsFull, IsEarly}
+use Rattle.turn_cell.specs.Steps.{stage_at, asked_at, ShowsStage, TellsFull, TellsNotYet}
 
 -- the stages of the tokens
 abbrev pub IsThere : WorkerStage → Type 0
@@ -107,7 +107,7 @@ left-moves-none Working x = x
 left-moves-none worker x = x
 
 pub flusher-loads : (worker : WorkerStage) (left : Bool) (phase : Phase) → WorkerFits worker left phase → FlusherFits Waiting left phase
-    → (stage : FlusherStage) × Shows stage (word_of left phase) × FlusherFits stage left phase
+    → (stage : FlusherStage) × ShowsStage stage (word_of left phase) × FlusherFits stage left phase
 flusher-loads worker false Asked w x = (Waiting, inl refl, tt)
 flusher-loads worker true Asked w x = (Alone, refl, tt)
 flusher-loads worker false WorkerHolds w x = (Waiting, inr refl, tt)
@@ -121,7 +121,7 @@ pub found-at : (left : Bool) (phase : Phase) → FlusherFits Found left phase �
 found-at left Full x = refl
 found-at left phase x = absurd x
 
-pub full-word : (left : Bool) → IsFull (word_of left Full) × ((word_of left Full + 1) % 2 ^ 64 ≡ word_of left FlusherHolds)
+pub full-word : (left : Bool) → TellsFull (word_of left Full) × ((word_of left Full + 1) % 2 ^ 64 ≡ word_of left FlusherHolds)
 full-word false = (inl refl, omega arith)
 full-word true = (inr refl, omega arith)
 

@@ -22,8 +22,8 @@ use Rattle.turn_cell.specs.declared.view.Party.TheVariants.{Worker, Flusher}
 use Rattle.turn_cell.specs.declared.view.TurnKind.{TurnKind}
 use Rattle.turn_cell.specs.declared.view.TurnKind.TheVariants.{Load, Begin, Give, Leave, Ask, Collect, Return}
 use Rattle.turn_cell.specs.declared.view.TurnPart.{TurnPart}
-use Rattle.turn_cell.specs.Turned.{word_of, WorkerFits, FlusherFits, SlotFits, worker_weight, flusher_weight, Knows, Turned, own_part, is_there, can_turn, is_resting, is_waiting, is_holding}
-use Rattle.turn_cell.specs.Steps.{Sat, moved, grown, stage_at, asked_at, Shows, IsFull, WorkerLoads, FlusherLoads, Asks, Begins, Gives, Collects, Returns, TakesBack, Leaves}
+use Rattle.turn_cell.specs.Turned.{word_of, WorkerFits, FlusherFits, SlotFits, worker_weight, flusher_weight, Knows, Turned, own_turn, is_there, can_turn, is_resting, is_waiting, is_holding}
+use Rattle.turn_cell.specs.Steps.{Sat, moved, grown, stage_at, asked_at, ShowsStage, TellsFull, WorkerLoads, FlusherLoads, Asks, Begins, Gives, Collects, Returns, TakesBack, Leaves}
 use Rattle.turn_cell.proofs.Fits.{IsThere, there, turner, rester, waiter, holder, worker-loads, may-turn-at, begins, turning-at, leaves, left-alone, resting-at, asks, flusher-loads, found-at, full-word, collects, holding-at, held-word, returns, alone-at, takes-back}
 use Rattle.turn_cell.proofs.Fits.{gives as given}
 use Rattle.turn_cell.proofs.Seats.{no-step}
@@ -173,9 +173,9 @@ module _ {H : Type 0} (weighs : H → ℕ) where
       pub begun : p.party ≡ Worker MayTurn
           → (spare : H) × (get_elem? s.homes 0 ≡ some (some (Some spare))) × (weighs spare ≡ 0) × Turned weighs (stepped s 0 2 id [] (led_by (moved (Worker Turning) Begin 1 p) []) (takes 0 (Some spare)))
       begun is = let k : MayTurn ≡ r.worker = (own-worker id p MayTurn at is).0 in let e = may-turn-at r.left r.phase (subst (λ z. WorkerFits z r.left r.phase) (sym k) r.worker_fits) in
-          let slot = slot-in Asked e.1 in let own = own-turned id p MayTurn at is in
+          let slot = slot-in Asked e.1 in let own = own-turned id p MayTurn at is in let out = set_here s.homes 0 none (let l = r.slots in omega arith) in
           (slot.0, slot.1, slot.2, worker-steps 2 id p (moved (Worker Turning) Begin 1 p) MayTurn Turning [] (takes 0 (Some slot.0)) false WorkerHolds at is refl refl tt
-            (begins r.flusher (flusher-in false Asked e.0 e.1)) (length-set s.homes 0 none ∙ r.slots) (own ∙ slot.3) (own-bound id p MayTurn at is))
+            (begins r.flusher (flusher-in false Asked e.0 e.1)) (length-set s.homes 0 none ∙ r.slots) (out, own ∙ slot.3) (own-bound id p MayTurn at is))
 
       pub gave : (half : H) → p.party ≡ Worker Turning → total weighs (p.halves ++ half ∷ []) ≤ MAX_TURNED
           → Turned weighs (stepped s 0 3 id ((0, Some half) ∷ []) (led_by (grown half (Worker Working) Give 2 p) []) gives)
@@ -183,7 +183,7 @@ module _ {H : Type 0} (weighs : H → ℕ) where
           let slot = slot-in WorkerHolds e.1 in let own = own-turned id p Turning at is in
           worker-steps 3 id p (grown half (Worker Working) Give 2 p) Turning Working ((0, Some half) ∷ []) gives false Full at is refl refl tt
             (given r.flusher (flusher-in false WorkerHolds e.0 e.1)) (length-set s.homes 0 (some (Some half)) ∙ r.slots)
-            (half, set_here s.homes 0 (some (Some half)) (let l = r.slots in omega arith), ap (λ hs. hs ++ half ∷ []) (own ∙ slot)) bound
+            (half, set_here s.homes 0 (some (Some half)) (let l = r.slots in omega arith), ap (λ hs. hs ++ half ∷ []) (own ∙ slot.1)) bound
 
     -- the flusher's steps
     module _ (id : ℕ) (p : TurnPart H) (at : get_elem? s.views id ≡ some (led_by p [])) where
@@ -209,20 +209,20 @@ module _ {H : Type 0} (weighs : H → ℕ) where
       requested c is = requests r.left refl c is
 
       pub flusher-loaded : (c : List (ℕ × Option H)) → p.party ≡ Flusher Waiting
-          → (stage : FlusherStage) × Shows stage (get_or s.words 0 0) × Turned weighs (stepped s 0 (get_or s.words 0 0) id c (led_by (moved (Flusher stage) Load (get_or s.words 0 0) p) []) keeps)
+          → (stage : FlusherStage) × ShowsStage stage (get_or s.words 0 0) × Turned weighs (stepped s 0 (get_or s.words 0 0) id c (led_by (moved (Flusher stage) Load (get_or s.words 0 0) p) []) keeps)
       flusher-loaded c is = let l = flusher-loads r.worker r.left r.phase r.worker_fits (flusher-stage Waiting is) in
-          (l.0, subst (λ z. Shows l.0 z) (sym r.word) l.1,
+          (l.0, subst (λ z. ShowsStage l.0 z) (sym r.word) l.1,
             flusher-steps (get_or s.words 0 0) id p (moved (Flusher l.0) Load (get_or s.words 0 0) p) Waiting l.0 c keeps r.left r.phase at is refl r.word r.worker_fits l.2 r.slots
             (subst (λ hs. SlotFits weighs r.phase r.turned hs s.homes) (sym (own-taken Waiting is)) r.slot))
 
       pub collected : p.party ≡ Flusher Found
-          → (half : H) × (get_elem? s.homes 0 ≡ some (some (Some half))) × IsFull (get_or s.words 0 0) × (total weighs (p.halves ++ half ∷ []) ≤ MAX_TURNED)
+          → (half : H) × (get_elem? s.homes 0 ≡ some (some (Some half))) × TellsFull (get_or s.words 0 0) × (total weighs (p.halves ++ half ∷ []) ≤ MAX_TURNED)
           × Turned weighs (stepped s 0 ((get_or s.words 0 0 + 1) % 2 ^ 64) id [] (led_by (grown half (Flusher Holding) Collect (get_or s.words 0 0) p) []) (takes 0 (Some half)))
       collected is = let e = found-at r.left r.phase (flusher-stage Found is) in let word = word-in r.left Full refl e in let slot = slot-in Full e in let own = own-taken Found is in
           let f = full-word r.left in let x : ℕ = get_or s.words 0 0 in let all : r.turned ≡ p.halves ++ slot.0 ∷ [] = slot.2 ∙ ap (λ hs. hs ++ slot.0 ∷ []) (sym own) in
-          (slot.0, slot.1, subst IsFull (sym word) f.0, subst (λ hs. total weighs hs ≤ MAX_TURNED) all r.bound,
+          (slot.0, slot.1, subst TellsFull (sym word) f.0, subst (λ hs. total weighs hs ≤ MAX_TURNED) all r.bound,
             flusher-steps ((x + 1) % 2 ^ 64) id p (grown slot.0 (Flusher Holding) Collect x p) Found Holding [] (takes 0 (Some slot.0)) r.left FlusherHolds at is refl
-            (ap (λ z. (z + 1) % 2 ^ 64) word ∙ f.1) (collects r.left r.worker (worker-in r.left Full refl e)) tt (length-set s.homes 0 none ∙ r.slots) all)
+            (ap (λ z. (z + 1) % 2 ^ 64) word ∙ f.1) (collects r.left r.worker (worker-in r.left Full refl e)) tt (length-set s.homes 0 none ∙ r.slots) (set_here s.homes 0 none (let l = r.slots in omega arith), all))
 
       pub returned : (half : H) → p.party ≡ Flusher Holding → weighs half ≡ 0
           → ((get_or s.words 0 0 ≡ 4) ⊎ (get_or s.words 0 0 ≡ 12))
@@ -232,7 +232,7 @@ module _ {H : Type 0} (weighs : H → ℕ) where
           (subst (λ z. (z ≡ 4) ⊎ (z ≡ 12)) (sym word) f.0,
             flusher-steps ((x + (2 ^ 64 - 4)) % 2 ^ 64) id p (moved (Flusher Resting) Return x p) Holding Resting ((0, Some half) ∷ []) gives r.left Idle at is refl
             (ap (λ z. (z + (2 ^ 64 - 4)) % 2 ^ 64) word ∙ f.1) (returns r.left r.worker (worker-in r.left FlusherHolds refl e)) tt (length-set s.homes 0 (some (Some half)) ∙ r.slots)
-            (half, set_here s.homes 0 (some (Some half)) (let l = r.slots in omega arith), light, slot ∙ sym own))
+            (half, set_here s.homes 0 (some (Some half)) (let l = r.slots in omega arith), light, slot.1 ∙ sym own))
 
       pub taken-back : (c : List (ℕ × Option H)) → p.party ≡ Flusher Alone
           → (get_or s.words 0 0 ≡ 9) × Turned weighs (stepped s 0 ((get_or s.words 0 0 + (2 ^ 64 - 1)) % 2 ^ 64) id c (led_by (moved (Flusher Resting) Return (get_or s.words 0 0) p) []) keeps)
@@ -243,9 +243,9 @@ module _ {H : Type 0} (weighs : H → ℕ) where
 
 -- What the table asks of each step, of a seat that has one part.
 module _ {H : Type 0} (weighs : H → ℕ) (slots id : ℕ) where
-  pub worker-load-allowed : (m : Sat H) → length m.0.parts ≡ 1 → length m.1 ≡ 0 → is_there (own_part m.0).party ≡ true
+  pub worker-load-allowed : (m : Sat H) → length m.0.parts ≡ 1 → length m.1 ≡ 0 → is_there (own_turn m.0).party ≡ true
       → Allows (Turned weighs) slots id m 0 (λ n. n) (WorkerLoads no-step m)
-  worker-load-allowed m a b i = let t = led-alone m a b in let p = t.0 in let k = there p.party (ap (λ (z : Sat H). is_there (own_part z.0).party) (sym t.1) ∙ i) in
+  worker-load-allowed m a b i = let t = led-alone m a b in let p = t.0 in let k = there p.party (ap (λ (z : Sat H). is_there (own_turn z.0).party) (sym t.1) ∙ i) in
       subst (λ (z : Sat H). Allows (Turned weighs) slots id z 0 (λ n. n) (WorkerLoads no-step z)) (sym t.1)
       (λ s r _ at _. (
         led_by (moved (Worker (stage_at (get_or s.words 0 0 == 1))) Load (get_or s.words 0 0) p) [],
@@ -255,15 +255,15 @@ module _ {H : Type 0} (weighs : H → ℕ) (slots id : ℕ) where
         refl,
       ))
 
-  pub leave-allowed : (m : Sat H) → length m.0.parts ≡ 1 → length m.1 ≡ 0 → is_there (own_part m.0).party ≡ true
+  pub leave-allowed : (m : Sat H) → length m.0.parts ≡ 1 → length m.1 ≡ 0 → is_there (own_turn m.0).party ≡ true
       → Allows (Turned weighs) slots id m 0 (λ n. (n + 8) % 2 ^ 64) (Leaves no-step m)
-  leave-allowed m a b i = let t = led-alone m a b in let p = t.0 in let k = there p.party (ap (λ (z : Sat H). is_there (own_part z.0).party) (sym t.1) ∙ i) in
+  leave-allowed m a b i = let t = led-alone m a b in let p = t.0 in let k = there p.party (ap (λ (z : Sat H). is_there (own_turn z.0).party) (sym t.1) ∙ i) in
       subst (λ (z : Sat H). Allows (Turned weighs) slots id z 0 (λ n. (n + 8) % 2 ^ 64) (Leaves no-step z)) (sym t.1)
       (λ s r _ at _. (led_by (moved (Worker Departed) Leave (get_or s.words 0 0) p) [], keeps, tt, worker-left weighs s r id p k.0 at k.1 k.2 [], refl))
 
-  pub begin-allowed : (m : Sat H) (told : ℕ) → length m.0.parts ≡ 1 → length m.1 ≡ 0 → can_turn (own_part m.0).party ≡ true
+  pub begin-allowed : (m : Sat H) (told : ℕ) → length m.0.parts ≡ 1 → length m.1 ≡ 0 → can_turn (own_turn m.0).party ≡ true
       → Allows (Turned weighs) slots id m 0 (λ _. 2) (λ _. Begins weighs no-step m told)
-  begin-allowed m told a b i = let t = led-alone m a b in let p = t.0 in let k = turner p.party (ap (λ (z : Sat H). can_turn (own_part z.0).party) (sym t.1) ∙ i) in
+  begin-allowed m told a b i = let t = led-alone m a b in let p = t.0 in let k = turner p.party (ap (λ (z : Sat H). can_turn (own_turn z.0).party) (sym t.1) ∙ i) in
       subst (λ (z : Sat H). Allows (Turned weighs) slots id z 0 (λ _. 2) (λ _. Begins weighs no-step z told)) (sym t.1)
       (λ s r _ at _. let b = begun weighs s r id p at k in (led_by (moved (Worker Turning) Begin 1 p) [], takes 0 (Some b.0), b.1, b.3, (b.0, b.2, refl)))
 
@@ -274,15 +274,15 @@ module _ {H : Type 0} (weighs : H → ℕ) (slots id : ℕ) where
       (λ s r _ at _. (led_by (grown half (Worker Working) Give 2 p) [], gives, tt, gave weighs s r id p at half is bound,
         λ other x. ap (λ h. (led_by (grown h (Worker Working) Give 2 p) [], [])) (same-held ((0, Some half) ∷ []) half other refl x)))
 
-  pub request-allowed : (m : Sat H) → length m.0.parts ≡ 1 → length m.1 ≡ 0 → is_resting (own_part m.0).party ≡ true
+  pub request-allowed : (m : Sat H) → length m.0.parts ≡ 1 → length m.1 ≡ 0 → is_resting (own_turn m.0).party ≡ true
       → Allows (Turned weighs) slots id m 0 (λ n. either (n == 0) 1 n) (Asks no-step m)
-  request-allowed m a b i = let t = led-alone m a b in let p = t.0 in let k = rester p.party (ap (λ (z : Sat H). is_resting (own_part z.0).party) (sym t.1) ∙ i) in
+  request-allowed m a b i = let t = led-alone m a b in let p = t.0 in let k = rester p.party (ap (λ (z : Sat H). is_resting (own_turn z.0).party) (sym t.1) ∙ i) in
       subst (λ (z : Sat H). Allows (Turned weighs) slots id z 0 (λ n. either (n == 0) 1 n) (Asks no-step z)) (sym t.1)
       (λ s r _ at _. let q = requested weighs s r id p at [] k in (led_by (moved (Flusher (asked_at (get_or s.words 0 0 == 0))) Ask (get_or s.words 0 0) p) [], keeps, tt, q.1, (q.0, refl)))
 
-  pub flusher-load-allowed : (m : Sat H) → length m.0.parts ≡ 1 → length m.1 ≡ 0 → is_waiting (own_part m.0).party ≡ true
+  pub flusher-load-allowed : (m : Sat H) → length m.0.parts ≡ 1 → length m.1 ≡ 0 → is_waiting (own_turn m.0).party ≡ true
       → Allows (Turned weighs) slots id m 0 (λ n. n) (FlusherLoads no-step m)
-  flusher-load-allowed m a b i = let t = led-alone m a b in let p = t.0 in let k = waiter p.party (ap (λ (z : Sat H). is_waiting (own_part z.0).party) (sym t.1) ∙ i) in
+  flusher-load-allowed m a b i = let t = led-alone m a b in let p = t.0 in let k = waiter p.party (ap (λ (z : Sat H). is_waiting (own_turn z.0).party) (sym t.1) ∙ i) in
       subst (λ (z : Sat H). Allows (Turned weighs) slots id z 0 (λ n. n) (FlusherLoads no-step z)) (sym t.1)
       (λ s r _ at _. let q = flusher-loaded weighs s r id p at [] k in (led_by (moved (Flusher q.0) Load (get_or s.words 0 0) p) [], keeps, tt, q.2, (q.0, q.1, refl)))
 

@@ -9,8 +9,8 @@ use Rattle.turn_cell.specs.declared.flusher.Request.{Request}
 use Rattle.turn_cell.specs.declared.flusher.Request.TheVariants.{Asked, Left as Gone}
 use Rattle.turn_cell.specs.declared.flusher.Take.{Take}
 use Rattle.turn_cell.specs.declared.flusher.Take.TheVariants.{Full, NotYet, Left}
-use Rattle.turn_cell.specs.Steps.{IsFull, IsEarly}
-use Rattle.turn_cell.specs.Tokens.{Known, idle, waiting, holding, after, with_half}
+use Rattle.turn_cell.specs.Steps.{TellsFull, TellsNotYet}
+use Rattle.turn_cell.specs.Tokens.{TurnKnown, idle_known, waiting_known, holding_known, after_step, with_half}
 
 module _ {H : Type 0} where
   abbrev pub MatchRequest : Request H → (FlushWaiting H → Type 0) → (FlushIdle H → Type 0) → Type 0
@@ -18,10 +18,10 @@ module _ {H : Type 0} where
   MatchRequest (Gone i) A L = L i
 
   -- What a take finds, of a flusher that knew k. Its load found 3 or 11, and then its next step took the half; or it found 1 or 2, which it tells; or 9, and it took its request back.
-  abbrev pub Finds : (H → ℕ) → Known H → Take H → Type 0
-  Finds weighs k (Full half f) = (found later : ℕ) × IsFull found × IsFull later × (holding f ≡ with_half half (after Collect later (after Load found k))) × (total weighs (holding f).halves ≤ MAX_TURNED)
-  Finds weighs k (NotYet f word) = IsEarly word × (waiting f ≡ after Load word k)
-  Finds weighs k (Left f) = idle f ≡ after Return 9 (after Load 9 k)
+  abbrev pub TakeFinds : (H → ℕ) → TurnKnown H → Take H → Type 0
+  TakeFinds weighs k (Full half f) = (found later : ℕ) × TellsFull found × TellsFull later × (holding_known f ≡ with_half half (after_step Collect later (after_step Load found k))) × (total weighs (holding_known f).halves ≤ MAX_TURNED)
+  TakeFinds weighs k (NotYet f word) = TellsNotYet word × (waiting_known f ≡ after_step Load word k)
+  TakeFinds weighs k (Left f) = idle_known f ≡ after_step Return 9 (after_step Load 9 k)
 
   -- what close gives beside the halves that were taken
   abbrev pub full_one : Bool → H → List H

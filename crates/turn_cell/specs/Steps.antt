@@ -16,10 +16,10 @@ use Rattle.turn_cell.specs.declared.view.TurnKind.{TurnKind}
 use Rattle.turn_cell.specs.declared.view.TurnKind.TheVariants.{Load, Begin, Give, Leave, Ask, Collect, Return}
 use Rattle.turn_cell.specs.declared.view.TurnStep.{TurnStep}
 use Rattle.turn_cell.specs.declared.view.TurnPart.{TurnPart}
-use Rattle.turn_cell.specs.Turned.{own_part}
+use Rattle.turn_cell.specs.Turned.{own_turn}
 
-abbrev pub step_of : TurnKind → ℕ → TurnStep
-step_of kind found = record { kind = kind; found = found }
+abbrev pub turn_step : TurnKind → ℕ → TurnStep
+turn_step kind found = record { kind = kind; found = found }
 
 -- a worker's load finds that it may turn exactly where it finds 1
 abbrev pub stage_at : Bool → WorkerStage
@@ -32,19 +32,19 @@ asked_at true = Waiting
 asked_at false = Resting
 
 -- a full half is there in phases 3 and 11
-abbrev pub IsFull : ℕ → Type 0
-IsFull word = (word ≡ 3) ⊎ (word ≡ 11)
+abbrev pub TellsFull : ℕ → Type 0
+TellsFull word = (word ≡ 3) ⊎ (word ≡ 11)
 
 -- in phases 1 and 2 the worker has not turned yet
-abbrev pub IsEarly : ℕ → Type 0
-IsEarly word = (word ≡ 1) ⊎ (word ≡ 2)
+abbrev pub TellsNotYet : ℕ → Type 0
+TellsNotYet word = (word ≡ 1) ⊎ (word ≡ 2)
 
 -- the words at which a load of a flusher that waits leaves it at this stage
-abbrev pub Shows : FlusherStage → ℕ → Type 0
-Shows Waiting word = IsEarly word
-Shows Found word = IsFull word
-Shows Alone word = word ≡ 9
-Shows stage word = ⊥
+abbrev pub ShowsStage : FlusherStage → ℕ → Type 0
+ShowsStage Waiting word = TellsNotYet word
+ShowsStage Found word = TellsFull word
+ShowsStage Alone word = word ≡ 9
+ShowsStage stage word = ⊥
 
 -- what a seat knows, and the slots that it holds
 abbrev pub Sat : Type 0 → Type 0
@@ -53,11 +53,11 @@ Sat H = Me (Option H) (Parts (TurnPart H))
 module _ {H : Type 0} where
   -- the seat is at this stage, and has made one step more
   abbrev pub moved : Party → TurnKind → ℕ → TurnPart H → TurnPart H
-  moved party kind found p = record { party = party; halves = p.halves; steps = step_of kind found ∷ p.steps }
+  moved party kind found p = record { party = party; halves = p.halves; steps = turn_step kind found ∷ p.steps }
 
   -- the same, and it turned or took one half more
   abbrev pub grown : H → Party → TurnKind → ℕ → TurnPart H → TurnPart H
-  grown half party kind found p = record { party = party; halves = p.halves ++ half ∷ []; steps = step_of kind found ∷ p.steps }
+  grown half party kind found p = record { party = party; halves = p.halves ++ half ∷ []; steps = turn_step kind found ∷ p.steps }
 
   -- 1. A load, of the worker: it changes no word.
   abbrev pub WorkerLoads : Step (Option H) → Sat H → ℕ → Sat H → Type 0
@@ -65,7 +65,7 @@ module _ {H : Type 0} where
 
   -- ... and of the flusher, while it waits.
   abbrev pub FlusherLoads : Step (Option H) → Sat H → ℕ → Sat H → Type 0
-  FlusherLoads st m found m' = (stage : FlusherStage) × Shows stage found × (m' ≡ (own_changed (moved (Flusher stage) Load found) m.0, m.1))
+  FlusherLoads st m found m' = (stage : FlusherStage) × ShowsStage stage found × (m' ≡ (own_changed (moved (Flusher stage) Load found) m.0, m.1))
 
   -- 2. A request, from 0 to 1. Where it finds 8, the worker left, and the word stays.
   abbrev pub Asks : Step (Option H) → Sat H → ℕ → Sat H → Type 0
@@ -81,8 +81,8 @@ module _ {H : Type 0} where
 
   -- 5. The flusher takes the slot with its full half, which adds 1 to 3 or 11. The half is taken from here on.
   abbrev pub Collects : (H → ℕ) → Step (Option H) → Sat H → ℕ → Sat H → Type 0
-  Collects weighs st m found m' = (half : H) × IsFull found × (m' ≡ (own_changed (grown half (Flusher Holding) Collect found) m.0, (0, Some half) ∷ []))
-      × (total weighs (own_part m'.0).halves ≤ MAX_TURNED)
+  Collects weighs st m found m' = (half : H) × TellsFull found × (m' ≡ (own_changed (grown half (Flusher Holding) Collect found) m.0, (0, Some half) ∷ []))
+      × (total weighs (own_turn m'.0).halves ≤ MAX_TURNED)
 
   -- 6. The flusher gives the slot back with a spare, which takes 4 from 4 or 12 ...
   abbrev pub Returns : Step (Option H) → Sat H → ℕ → Sat H → Type 0

@@ -7,7 +7,7 @@
 -- What a party's last step told it, its stage, stays true whatever the other party does: a worker that found 1 finds 1 until it turns or leaves,
 -- and a flusher that found a full half finds it until it takes it.
 use Rattle.std.specs.Prelude.{◌≡◌, ℕ, ◌+◌, ◌≤◌, Bool, true, false, List, [], ◌∷◌, ◌++◌, Option, Some, length, slice_index}
-use mathlib.Core.Option.{some}
+use mathlib.Core.Option.{none, some}
 use lib.ListN.{get_elem?}
 use Rattle.atomic_table.specs.Table.{State}
 use Rattle.seat_parts.specs.declared.Parts.{Parts}
@@ -102,8 +102,8 @@ is_holding party = false
 
 module _ {H : Type 0} where
   -- the own part of a view that has one
-  abbrev pub own_part : Parts (TurnPart H) → TurnPart H
-  own_part v = first_or (record { party = Worker Working; halves = []; steps = [] }) v.parts
+  abbrev pub own_turn : Parts (TurnPart H) → TurnPart H
+  own_turn v = first_or (record { party = Worker Working; halves = []; steps = [] }) v.parts
 
   -- a part of the worker knows its stage and the halves that were turned, and one of the flusher its stage and those that were taken
   abbrev pub Knows : WorkerStage → List H → FlusherStage → List H → Party → List H → Type 0
@@ -111,13 +111,13 @@ module _ {H : Type 0} where
   Knows worker turned flusher taken (Flusher stage) halves = (stage ≡ flusher) × (halves ≡ taken)
 
   module _ (weighs : H → ℕ) where
-    -- what the slot has: the spare, where each half that was turned was taken, or the one that was turned and not taken
+    -- what the slot has: the spare, where each half that was turned was taken, or the one that was turned and not taken. While a party moves it, it is out
     abbrev pub SlotFits : Phase → List H → List H → List (mathlib.Core.Option.Option (Option H)) → Type 0
     SlotFits Idle turned taken homes = (spare : H) × (get_elem? homes 0 ≡ some (some (Some spare))) × (weighs spare ≡ 0) × (turned ≡ taken)
     SlotFits Asked turned taken homes = (spare : H) × (get_elem? homes 0 ≡ some (some (Some spare))) × (weighs spare ≡ 0) × (turned ≡ taken)
-    SlotFits WorkerHolds turned taken homes = turned ≡ taken
+    SlotFits WorkerHolds turned taken homes = (get_elem? homes 0 ≡ some none) × (turned ≡ taken)
     SlotFits Full turned taken homes = (half : H) × (get_elem? homes 0 ≡ some (some (Some half))) × (turned ≡ taken ++ half ∷ [])
-    SlotFits FlusherHolds turned taken homes = turned ≡ taken
+    SlotFits FlusherHolds turned taken homes = (get_elem? homes 0 ≡ some none) × (turned ≡ taken)
 
     pub record Turned (s : State (Option H) (Parts (TurnPart H))) : Type 0 where
       pub phase : Phase
@@ -137,12 +137,12 @@ module _ {H : Type 0} where
       pub one_flusher : parts_total (λ (p : TurnPart H). flusher_weight p.party) s.views ≤ 1
       pub parts : AllParts (λ (p : TurnPart H). Knows worker turned flusher taken p.party p.halves) s.views
 
-  abbrev pub new_part : Party → TurnPart H
-  new_part party = record { party = party; halves = []; steps = [] }
+  abbrev pub new_turn : Party → TurnPart H
+  new_turn party = record { party = party; halves = []; steps = [] }
 
   -- the first seat has both parts, the flusher's before the worker's
   abbrev pub turn_view : Parts (TurnPart H)
-  turn_view = record { parts = new_part (Flusher Resting) ∷ new_part (Worker Working) ∷ [] }
+  turn_view = record { parts = new_turn (Flusher Resting) ∷ new_turn (Worker Working) ∷ [] }
 
 -- the number of the slot that was taken last
 abbrev pub held_slot : {S : Type 0} → List (ℕ × S) → ℕ

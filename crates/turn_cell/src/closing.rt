@@ -1,9 +1,9 @@
 //! The end of a cell.
 ghost use Rattle.std.specs.Prelude.{◌≡◌, ℕ, ◌≤◌, ◌++◌, true, false, length};
-ghost use Rattle.turn_cell.specs.Turned.{own_part, has_no_slot};
+ghost use Rattle.turn_cell.specs.Turned.{own_turn, has_no_slot};
 ghost use Rattle.seat_parts.specs.Parts.{total};
 ghost use Rattle.turn_cell.specs.declared.limits.TheConstants.{MAX_TURNED};
-ghost use Rattle.turn_cell.specs.Tokens.{cell_id, left, flusher};
+ghost use Rattle.turn_cell.specs.Tokens.{cell_id, note_known, flusher_known};
 ghost use Rattle.turn_cell.specs.Answers.{full_one};
 
 use crate::cell::TurnCell;
@@ -21,10 +21,10 @@ pub struct Rest<H> {
 impl<H: Weighed + Drop> TurnCell<H> {
     /// The half in the slot, once both parties are back.
     pub fn close(self, note: LeftNote<H>, f: FlushAny<H>) -> Rest<H>
-        requires cell { ((left note).cell ≡ cell_id self) × ((flusher f).cell ≡ cell_id self) }
-        ensures halves { (left note).halves ≡ (flusher f).halves ++ full_one result.full result.half }
+        requires cell { ((note_known note).cell ≡ cell_id self) × ((flusher_known f).cell ≡ cell_id self) }
+        ensures halves { (note_known note).halves ≡ (flusher_known f).halves ++ full_one result.full result.half }
         ensures spare { result.full ≡ false → H.weighs result.half ≡ 0 }
-        ensures weights { total H.weighs (left note).halves ≤ MAX_TURNED }
+        ensures weights { total H.weighs (note_known note).halves ≤ MAX_TURNED }
     {
         let LeftNote { seat: mut both } = note;
         self.table.shared.join_seat::<Merge>(&mut both, seat_of(f));
@@ -41,10 +41,10 @@ impl<H: Weighed + Drop> TurnCell<H> {
 }
 
 fn seat_of<H>(f: FlushAny<H>) -> Place<H>
-    ensures cell { result.table_id ≡ (flusher f).cell }
+    ensures cell { result.table_id ≡ (flusher_known f).cell }
     ensures alone { (length result.me.0.parts ≡ 1) × (length result.me.1 ≡ 0) }
-    ensures halves { (own_part result.me.0).halves ≡ (flusher f).halves }
-    ensures stage { has_no_slot (own_part result.me.0).party ≡ true }
+    ensures halves { (own_turn result.me.0).halves ≡ (flusher_known f).halves }
+    ensures stage { has_no_slot (own_turn result.me.0).party ≡ true }
 {
     match f {
         FlushAny::Idle(FlushIdle { seat }) => seat,

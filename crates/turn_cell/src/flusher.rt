@@ -1,8 +1,8 @@
 //! The flusher's calls. None takes memory or waits.
 ghost use Rattle.std.specs.Prelude.{◌≡◌, ℕ, ◌≤◌, ◌⊎◌};
 ghost use Rattle.turn_cell.specs.declared.view.TurnKind.TheVariants.{Ask, Return};
-ghost use Rattle.turn_cell.specs.Tokens.{cell_id, idle, waiting, holding, after};
-ghost use Rattle.turn_cell.specs.Answers.{MatchRequest, Finds};
+ghost use Rattle.turn_cell.specs.Tokens.{cell_id, idle_known, waiting_known, holding_known, after_step};
+ghost use Rattle.turn_cell.specs.Answers.{MatchRequest, TakeFinds};
 
 use crate::cell::TurnCell;
 use crate::plays::{Asking, Collecting, FlusherLoading, Returning, TakingBack};
@@ -27,8 +27,8 @@ pub enum Take<H> {
 impl<H: Weighed + Drop> TurnCell<H> {
     /// Asks the worker to turn its half, by one atomic compare and exchange.
     pub fn request(&self, f: FlushIdle<H>) -> Request<H>
-        requires cell { (idle f).cell ≡ cell_id self.now }
-        ensures { MatchRequest result (λ w. waiting w ≡ after Ask 0 (idle f)) (λ i. idle i ≡ after Ask 8 (idle f)) }
+        requires cell { (idle_known f).cell ≡ cell_id self.now }
+        ensures { MatchRequest result (λ w. waiting_known w ≡ after_step Ask 0 (idle_known f)) (λ i. idle_known i ≡ after_step Ask 8 (idle_known f)) }
     {
         let FlushIdle { mut seat } = f;
         if self.table.shared.compare_exchange::<Asking>(&mut seat, 0, 0, 1) == 0 {
@@ -40,8 +40,8 @@ impl<H: Weighed + Drop> TurnCell<H> {
 
     /// Takes the half that was turned, if the word that one atomic load finds tells of one.
     pub fn take(&self, f: FlushWaiting<H>) -> Take<H>
-        requires cell { (waiting f).cell ≡ cell_id self.now }
-        ensures { Finds H.weighs (waiting f) result }
+        requires cell { (waiting_known f).cell ≡ cell_id self.now }
+        ensures { TakeFinds H.weighs (waiting_known f) result }
     {
         let FlushWaiting { mut seat } = f;
         let shared = &self.table.shared;
@@ -60,9 +60,9 @@ impl<H: Weighed + Drop> TurnCell<H> {
 
     /// Gives an empty half back, the worker's next spare.
     pub fn give_back(&self, f: FlushHolding<H>, half: H) -> FlushIdle<H>
-        requires cell { (holding f).cell ≡ cell_id self.now }
+        requires cell { (holding_known f).cell ≡ cell_id self.now }
         requires weight { H.weighs half ≡ 0 }
-        ensures { (word : ℕ) × ((word ≡ 4) ⊎ (word ≡ 12)) × (idle result ≡ after Return word (holding f)) }
+        ensures { (word : ℕ) × ((word ≡ 4) ⊎ (word ≡ 12)) × (idle_known result ≡ after_step Return word (holding_known f)) }
     {
         let FlushHolding { mut seat } = f;
         let shared = &self.table.shared;

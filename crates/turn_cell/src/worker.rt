@@ -3,7 +3,7 @@ ghost use Rattle.std.specs.Prelude.{◌≡◌, ℕ, ◌+◌, ◌≤◌, ◌==◌
 ghost use Rattle.seat_parts.specs.Parts.{total};
 ghost use Rattle.turn_cell.specs.declared.limits.TheConstants.{MAX_TURNED};
 ghost use Rattle.turn_cell.specs.declared.view.TurnKind.TheVariants.{Load, Begin, Give, Leave};
-ghost use Rattle.turn_cell.specs.Tokens.{cell_id, worker, may_turn, left, after, with_half};
+ghost use Rattle.turn_cell.specs.Tokens.{cell_id, worker_known, may_turn, note_known, after_step, with_half};
 
 use crate::cell::TurnCell;
 use crate::plays::{Beginning, Giving, Leaving, WorkerLoading};
@@ -13,8 +13,8 @@ use stat_defs::Weighed;
 impl<H: Weighed + Drop> TurnCell<H> {
     /// Whether the flusher asks for a half, by one atomic load, which found 1.
     pub fn asked(&self, w: &mut TurnWorker<H>) -> bool
-        requires cell { (worker w.old).cell ≡ cell_id self.now }
-        ensures load { (word : ℕ) × (worker w.new ≡ after Load word (worker w.old)) × (result ≡ (word == 1)) }
+        requires cell { (worker_known w.old).cell ≡ cell_id self.now }
+        ensures load { (word : ℕ) × (worker_known w.new ≡ after_step Load word (worker_known w.old)) × (result ≡ (word == 1)) }
         ensures may_turn { may_turn w.new ≡ result }
     {
         let word = self.table.shared.load::<WorkerLoading>(&mut w.seat, 0);
@@ -23,10 +23,10 @@ impl<H: Weighed + Drop> TurnCell<H> {
 
     /// Turns a half, which the flusher may take from here on, and gives the spare.
     pub fn turn(&self, w: &mut TurnWorker<H>, half: H) -> H
-        requires cell { (worker w.old).cell ≡ cell_id self.now }
+        requires cell { (worker_known w.old).cell ≡ cell_id self.now }
         requires asked { may_turn w.old ≡ true }
-        requires weights { total H.weighs (worker w.old).halves + H.weighs half ≤ MAX_TURNED }
-        ensures turned { worker w.new ≡ with_half half (after Give 2 (after Begin 1 (worker w.old))) }
+        requires weights { total H.weighs (worker_known w.old).halves + H.weighs half ≤ MAX_TURNED }
+        ensures turned { worker_known w.new ≡ with_half half (after_step Give 2 (after_step Begin 1 (worker_known w.old))) }
         ensures may_turn { may_turn w.new ≡ false }
         ensures spare { H.weighs result ≡ 0 }
     {
@@ -39,8 +39,8 @@ impl<H: Weighed + Drop> TurnCell<H> {
 
     /// Leaves the cell. A half that was turned and not taken stays in it.
     pub fn leave(&self, w: TurnWorker<H>) -> LeftNote<H>
-        requires cell { (worker w).cell ≡ cell_id self.now }
-        ensures { (word : ℕ) × (left result ≡ after Leave word (worker w)) }
+        requires cell { (worker_known w).cell ≡ cell_id self.now }
+        ensures { (word : ℕ) × (note_known result ≡ after_step Leave word (worker_known w)) }
     {
         let TurnWorker { mut seat } = w;
         self.table.shared.fetch_add::<Leaving>(&mut seat, 0, 8);

@@ -1,5 +1,5 @@
 use Rattle.std.proofs.Common.{rules, ap, refl, ◌∙◌, Some}
-use Rattle.turn_cell.specs.Turned.{own_part, is_resting}
+use Rattle.turn_cell.specs.Turned.{own_turn, is_resting}
 use Rattle.turn_cell.specs.Tokens.{known_of}
 use Rattle.turn_cell.proofs.Fits.{holder}
 use Rattle.turn_cell.proofs.Keeps.{return-allowed}
@@ -12,5 +12,5 @@ exchange-requires g c = let f = c.args.f in let h = held-one f.seat.me f.alone.0
 
 pub fetch_sub-requires : goal.fetch_sub-requires
 fetch_sub-requires g c = let f = c.args.f in let h = held-one f.seat.me f.alone.0 f.alone.1 f.alone.2 in
-    (search rules, search rules, return-allowed g.H.Weighed.weighs _ _ c.exchange.new.seat.me (own_part f.seat.me.0) c.args.half (exchanged f.seat.me c.exchange.new.seat.me _ h.0 (Some c.args.half) h.1 c.exchange.ensures.3)
-      (holder (own_part f.seat.me.0).party f.stage) c.requires.weight)
+    (search rules, search rules, return-allowed g.H.Weighed.weighs _ _ c.exchange.new.seat.me (own_turn f.seat.me.0) c.args.half (exchanged f.seat.me c.exchange.new.seat.me _ h.0 (Some c.args.half) h.1 c.exchange.ensures.3)
+      (holder (own_turn f.seat.me.0).party f.stage) c.requires.weight)
