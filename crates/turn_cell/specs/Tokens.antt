@@ -4,6 +4,7 @@ use Rattle.std.specs.Prelude.{◌≡◌, ℕ, ◌≤◌, Bool, true, false, List
 use Rattle.atomic_table.specs.Seated.{TableId}
 use Rattle.atomic_table.specs.declared.shared.Seat.{Seat}
 use Rattle.seat_parts.specs.declared.Parts.{Parts}
+use Rattle.seat_parts.specs.Parts.{total}
 use Rattle.turn_cell.specs.declared.view.TurnKind.{TurnKind}
 use Rattle.turn_cell.specs.declared.view.TurnStep.{TurnStep}
 use Rattle.turn_cell.specs.declared.view.TurnPart.{TurnPart}
@@ -35,6 +36,10 @@ module _ {H : Type 0} where
   -- the same with one half more
   abbrev pub with_half : H → TurnKnown H → TurnKnown H
   with_half half k = record { cell = k.cell; halves = k.halves ++ half ∷ []; steps = k.steps }
+
+  -- what its halves weigh together
+  abbrev pub weight_of : (H → ℕ) → TurnKnown H → ℕ
+  weight_of weighs k = total weighs k.halves
 
   abbrev pub new_known : TableId → TurnKnown H
   new_known cell = record { cell = cell; halves = []; steps = [] }

@@ -1,9 +1,8 @@
 //! The end of a cell.
 ghost use Rattle.std.specs.Prelude.{◌≡◌, ℕ, ◌≤◌, ◌++◌, true, false, length};
 ghost use Rattle.turn_cell.specs.Turned.{own_turn, has_no_slot};
-ghost use Rattle.seat_parts.specs.Parts.{total};
 ghost use Rattle.turn_cell.specs.declared.limits.TheConstants.{MAX_TURNED};
-ghost use Rattle.turn_cell.specs.Tokens.{cell_id, note_known, flusher_known};
+ghost use Rattle.turn_cell.specs.Tokens.{cell_id, note_known, flusher_known, weight_of};
 ghost use Rattle.turn_cell.specs.Answers.{full_one};
 
 use crate::cell::TurnCell;
@@ -24,7 +23,7 @@ impl<H: Weighed + Drop> TurnCell<H> {
         requires cell { ((note_known note).cell ≡ cell_id self) × ((flusher_known f).cell ≡ cell_id self) }
         ensures halves { (note_known note).halves ≡ (flusher_known f).halves ++ full_one result.full result.half }
         ensures spare { result.full ≡ false → H.weighs result.half ≡ 0 }
-        ensures weights { total H.weighs (note_known note).halves ≤ MAX_TURNED }
+        ensures weights { weight_of H.weighs (note_known note) ≤ MAX_TURNED }
     {
         let LeftNote { seat: mut both } = note;
         self.table.shared.join_seat::<Merge>(&mut both, seat_of(f));

@@ -1,9 +1,8 @@
 //! The worker's calls. None takes memory, waits or refuses.
 ghost use Rattle.std.specs.Prelude.{◌≡◌, ℕ, ◌+◌, ◌≤◌, ◌==◌, true, false};
-ghost use Rattle.seat_parts.specs.Parts.{total};
 ghost use Rattle.turn_cell.specs.declared.limits.TheConstants.{MAX_TURNED};
 ghost use Rattle.turn_cell.specs.declared.view.TurnKind.TheVariants.{Load, Begin, Give, Leave};
-ghost use Rattle.turn_cell.specs.Tokens.{cell_id, worker_known, may_turn, note_known, after_step, with_half};
+ghost use Rattle.turn_cell.specs.Tokens.{cell_id, worker_known, may_turn, note_known, after_step, with_half, weight_of};
 
 use crate::cell::TurnCell;
 use crate::plays::{Beginning, Giving, Leaving, WorkerLoading};
@@ -25,7 +24,7 @@ impl<H: Weighed + Drop> TurnCell<H> {
     pub fn turn(&self, w: &mut TurnWorker<H>, half: H) -> H
         requires cell { (worker_known w.old).cell ≡ cell_id self.now }
         requires asked { may_turn w.old ≡ true }
-        requires weights { total H.weighs (worker_known w.old).halves + H.weighs half ≤ MAX_TURNED }
+        requires weights { weight_of H.weighs (worker_known w.old) + H.weighs half ≤ MAX_TURNED }
         ensures turned { worker_known w.new ≡ with_half half (after_step Give 2 (after_step Begin 1 (worker_known w.old))) }
         ensures may_turn { may_turn w.new ≡ false }
         ensures spare { H.weighs result ≡ 0 }
