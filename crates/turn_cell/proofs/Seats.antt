@@ -74,6 +74,9 @@ module _ {H : Type 0} where
   pub heavier : (weighs : H → ℕ) (halves : List H) (half : H) → total weighs halves + weighs half ≤ MAX_TURNED → total weighs (halves ++ half ∷ []) ≤ MAX_TURNED
   heavier weighs halves half h = let t = total-append weighs halves (half ∷ []) in omega arith
 
+  pub weight-grown : (weighs : H → ℕ) (halves halves' : List H) (half : H) → halves' ≡ halves ++ half ∷ [] → total weighs halves' ≡ total weighs halves + weighs half
+  weight-grown weighs halves halves' half e = let t = total-append weighs halves (half ∷ []) in omega (arith, ap (total weighs) e, t)
+
   held-list : (ps : List (TurnPart H)) (c : List (ℕ × Option H)) (d : TurnPart H) → length ps ≡ 1 → length c ≡ 1 → held_slot c ≡ 0 → (x : Option H) × (sat (view_of ps) c ≡ sat (view_of (first_or d ps ∷ [])) ((0, x) ∷ []))
   held-list [] c d a b e = absurd (omega arith)
   held-list (p ∷ q ∷ ps) c d a b e = absurd (omega arith)

@@ -148,6 +148,17 @@ fn letter_of(said: Said) -> u8 {
     }
 }
 
+// Gives a half back that the flusher holds.
+fn settled(cell: &TurnCell<Batch>, hand: Hand) -> FlushAny<Batch>
+    requires { MatchResult hand (λ f. (flusher_known f).cell ≡ cell_id cell.now) (λ h. (holding_known h).cell ≡ cell_id cell.now) }
+    ensures { (flusher_known result).cell ≡ cell_id cell.now }
+{
+    match hand {
+        Ok(any) => any,
+        Err(h) => FlushAny::Idle(cell.give_back(h, EMPTY)),
+    }
+}
+
 // Closes the cell, and gives a letter for what was in it.
 fn end(cell: TurnCell<Batch>, side: Side, hand: Hand) -> u8
     requires side { MatchResult side (λ w. ((worker_known w).cell ≡ cell_id cell) × (weight_of (λ b. b.values) (worker_known w) ≡ 0)) (λ note. (note_known note).cell ≡ cell_id cell) }
@@ -157,10 +168,7 @@ fn end(cell: TurnCell<Batch>, side: Side, hand: Hand) -> u8
         Ok(w) => cell.leave(w),
         Err(note) => note,
     };
-    let any = match hand {
-        Ok(any) => any,
-        Err(h) => FlushAny::Idle(cell.give_back(h, EMPTY)),
-    };
+    let any = settled(&cell, hand);
     let rest = cell.close(note, any);
     if rest.full { letter(rest.half) } else { b'.' }
 }
@@ -341,13 +349,21 @@ fn run_both<R: Threads + Sync>(
 fn ten_thousand_requests(rt: HostRuntime) -> Result<(), Fail> {
     let (cell, worker, idle) = TurnCell::new(rt.alloc(), EMPTY)?;
     let (filled, drained) = run_both(&rt, &cell, worker, idle);
-    let any = match drained.hand {
-        Ok(any) => any,
-        Err(h) => FlushAny::Idle(cell.give_back(h, EMPTY)),
-    };
-    let Rest { half, full } = cell.close(filled.note, any);
-    assert!(rt; filled.halves == 10_000 && drained.halves == 9_999 && drained.in_order);
+    let Filled {
+        note,
+        halves: turned,
+        values: put,
+    } = filled;
+    let Drained {
+        hand,
+        halves: taken,
+        values: got,
+        in_order,
+    } = drained;
+    let any = settled(&cell, hand);
+    let Rest { half, full } = cell.close(note, any);
+    assert!(rt; turned == 10_000 && taken == 9_999 && in_order);
     assert!(rt; full && half.number == 10_000);
-    assert!(rt; drained.values.wrapping_add(half.values) == filled.values);
+    assert!(rt; got.wrapping_add(half.values) == put);
     Ok(())
 }
