@@ -115,9 +115,10 @@ module _ {H : Type 0} (weighs : H → ℕ) where
         let a : (Departed ≡ r.worker) × (p.halves ≡ r.turned) = subst (λ party. Knows r.worker r.turned r.flusher r.taken party p.halves) (leaver p.party l) both-known.0 in
         let t = party-of q.party n in let b : (t.0 ≡ r.flusher) × (q.halves ≡ r.taken) = subst (λ party. Knows r.worker r.turned r.flusher r.taken party q.halves) t.1 both-known.1 in
         let last = last-of t.0 r.left r.phase r.turned r.taken s.homes (ap has_no_slot (sym t.1) ∙ n)
-          (subst (λ k. WorkerFits k r.left r.phase) (sym a.0) r.worker_fits) (subst (λ k. FlusherFits k r.left r.phase) (sym b.0) r.flusher_fits) r.slot in
-        (subst (λ hs. HasLast hs q.halves (get_or s.words 0 0) s.homes) (sym a.1) (subst (λ hs. HasLast r.turned hs (get_or s.words 0 0) s.homes) (sym b.1) (subst (λ w. HasLast r.turned r.taken w s.homes) (sym r.word) last)),
-          subst (λ hs. total weighs hs ≤ MAX_TURNED) (sym a.1) r.bound)
+        (subst (λ k. WorkerFits k r.left r.phase) (sym a.0) r.worker_fits) (subst (λ k. FlusherFits k r.left r.phase) (sym b.0) r.flusher_fits) r.slot in (
+          subst (λ hs. HasLast hs q.halves (get_or s.words 0 0) s.homes) (sym a.1) (subst (λ hs. HasLast r.turned hs (get_or s.words 0 0) s.homes) (sym b.1) (subst (λ w. HasLast r.turned r.taken w s.homes) (sym r.word) last)),
+          subst (λ hs. total weighs hs ≤ MAX_TURNED) (sym a.1) r.bound,
+        )
 
   own-only : (v : Parts (TurnPart H)) → length v.parts ≡ 1 → v.parts ≡ own_turn v ∷ []
   own-only v a = one-part (new_turn (Worker Working)) v.parts a

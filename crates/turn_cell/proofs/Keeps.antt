@@ -173,17 +173,21 @@ module _ {H : Type 0} (weighs : H → ℕ) where
       pub begun : p.party ≡ Worker MayTurn
           → (spare : H) × (get_elem? s.homes 0 ≡ some (some (Some spare))) × (weighs spare ≡ 0) × Turned weighs (stepped s 0 2 id [] (led_by (moved (Worker Turning) Begin 1 p) []) (takes 0 (Some spare)))
       begun is = let k : MayTurn ≡ r.worker = (own-worker id p MayTurn at is).0 in let e = may-turn-at r.left r.phase (subst (λ z. WorkerFits z r.left r.phase) (sym k) r.worker_fits) in
-          let slot = slot-in Asked e.1 in let own = own-turned id p MayTurn at is in let out = set_here s.homes 0 none (let l = r.slots in omega arith) in
-          (slot.0, slot.1, slot.2, worker-steps 2 id p (moved (Worker Turning) Begin 1 p) MayTurn Turning [] (takes 0 (Some slot.0)) false WorkerHolds at is refl refl tt
-            (begins r.flusher (flusher-in false Asked e.0 e.1)) (length-set s.homes 0 none ∙ r.slots) (out, own ∙ slot.3) (own-bound id p MayTurn at is))
+          let slot = slot-in Asked e.1 in let own = own-turned id p MayTurn at is in let out = set_here s.homes 0 none (let l = r.slots in omega arith) in (
+            slot.0,
+            slot.1,
+            slot.2,
+            worker-steps 2 id p (moved (Worker Turning) Begin 1 p) MayTurn Turning [] (takes 0 (Some slot.0)) false WorkerHolds at is refl refl tt
+                (begins r.flusher (flusher-in false Asked e.0 e.1)) (length-set s.homes 0 none ∙ r.slots) (out, own ∙ slot.3) (own-bound id p MayTurn at is),
+          )
 
       pub gave : (half : H) → p.party ≡ Worker Turning → total weighs (p.halves ++ half ∷ []) ≤ MAX_TURNED
           → Turned weighs (stepped s 0 3 id ((0, Some half) ∷ []) (led_by (grown half (Worker Working) Give 2 p) []) gives)
       gave half is bound = let k : Turning ≡ r.worker = (own-worker id p Turning at is).0 in let e = turning-at r.left r.phase (subst (λ z. WorkerFits z r.left r.phase) (sym k) r.worker_fits) in
           let slot = slot-in WorkerHolds e.1 in let own = own-turned id p Turning at is in
           worker-steps 3 id p (grown half (Worker Working) Give 2 p) Turning Working ((0, Some half) ∷ []) gives false Full at is refl refl tt
-            (given r.flusher (flusher-in false WorkerHolds e.0 e.1)) (length-set s.homes 0 (some (Some half)) ∙ r.slots)
-            (half, set_here s.homes 0 (some (Some half)) (let l = r.slots in omega arith), ap (λ hs. hs ++ half ∷ []) (own ∙ slot.1)) bound
+          (given r.flusher (flusher-in false WorkerHolds e.0 e.1)) (length-set s.homes 0 (some (Some half)) ∙ r.slots)
+          (half, set_here s.homes 0 (some (Some half)) (let l = r.slots in omega arith), ap (λ hs. hs ++ half ∷ []) (own ∙ slot.1)) bound
 
     -- the flusher's steps
     module _ (id : ℕ) (p : TurnPart H) (at : get_elem? s.views id ≡ some (led_by p [])) where
@@ -198,48 +202,61 @@ module _ {H : Type 0} (weighs : H → ℕ) where
       Requested c z = Turned weighs (stepped s 0 (either (z == 0) 1 z) id c (led_by (moved (Flusher (asked_at (z == 0))) Ask z p) []) keeps)
 
       requests : (left : Bool) → r.left ≡ left → (c : List (ℕ × Option H)) → p.party ≡ Flusher Resting → ((get_or s.words 0 0 ≡ 0) ⊎ (get_or s.words 0 0 ≡ 8)) × Requested c (get_or s.words 0 0)
-      requests false l c is = let e = resting-at r.left r.phase (flusher-stage Resting is) in let word = word-in false Idle l e in let slot = slot-in Idle e in let own = own-taken Resting is in
-          (inl word, subst (Requested c) (sym word) (flusher-steps 1 id p (moved (Flusher Waiting) Ask 0 p) Resting Waiting c keeps false Asked at is refl refl
-            (asks r.worker (worker-in false Idle l e)) tt r.slots (slot.0, slot.1, slot.2, slot.3 ∙ sym own)))
-      requests true l c is = let e = resting-at r.left r.phase (flusher-stage Resting is) in let word = word-in true Idle l e in let slot = slot-in Idle e in let own = own-taken Resting is in
-          (inr word, subst (Requested c) (sym word) (flusher-steps 8 id p (moved (Flusher Resting) Ask 8 p) Resting Resting c keeps true Idle at is refl refl
-            (worker-in true Idle l e) tt r.slots (slot.0, slot.1, slot.2, slot.3 ∙ sym own)))
+      requests false l c is = let e = resting-at r.left r.phase (flusher-stage Resting is) in let word = word-in false Idle l e in let slot = slot-in Idle e in let own = own-taken Resting is in (
+        inl word,
+        subst (Requested c) (sym word) (flusher-steps 1 id p (moved (Flusher Waiting) Ask 0 p) Resting Waiting c keeps false Asked at is refl refl
+            (asks r.worker (worker-in false Idle l e)) tt r.slots (slot.0, slot.1, slot.2, slot.3 ∙ sym own)),
+      )
+      requests true l c is = let e = resting-at r.left r.phase (flusher-stage Resting is) in let word = word-in true Idle l e in let slot = slot-in Idle e in let own = own-taken Resting is in (
+        inr word,
+        subst (Requested c) (sym word) (flusher-steps 8 id p (moved (Flusher Resting) Ask 8 p) Resting Resting c keeps true Idle at is refl refl
+            (worker-in true Idle l e) tt r.slots (slot.0, slot.1, slot.2, slot.3 ∙ sym own)),
+      )
 
       pub requested : (c : List (ℕ × Option H)) → p.party ≡ Flusher Resting → ((get_or s.words 0 0 ≡ 0) ⊎ (get_or s.words 0 0 ≡ 8)) × Requested c (get_or s.words 0 0)
       requested c is = requests r.left refl c is
 
       pub flusher-loaded : (c : List (ℕ × Option H)) → p.party ≡ Flusher Waiting
           → (stage : FlusherStage) × ShowsStage stage (get_or s.words 0 0) × Turned weighs (stepped s 0 (get_or s.words 0 0) id c (led_by (moved (Flusher stage) Load (get_or s.words 0 0) p) []) keeps)
-      flusher-loaded c is = let l = flusher-loads r.worker r.left r.phase r.worker_fits (flusher-stage Waiting is) in
-          (l.0, subst (λ z. ShowsStage l.0 z) (sym r.word) l.1,
-            flusher-steps (get_or s.words 0 0) id p (moved (Flusher l.0) Load (get_or s.words 0 0) p) Waiting l.0 c keeps r.left r.phase at is refl r.word r.worker_fits l.2 r.slots
-            (subst (λ hs. SlotFits weighs r.phase r.turned hs s.homes) (sym (own-taken Waiting is)) r.slot))
+      flusher-loaded c is = let l = flusher-loads r.worker r.left r.phase r.worker_fits (flusher-stage Waiting is) in (
+        l.0,
+        subst (λ z. ShowsStage l.0 z) (sym r.word) l.1,
+        flusher-steps (get_or s.words 0 0) id p (moved (Flusher l.0) Load (get_or s.words 0 0) p) Waiting l.0 c keeps r.left r.phase at is refl r.word r.worker_fits l.2 r.slots
+            (subst (λ hs. SlotFits weighs r.phase r.turned hs s.homes) (sym (own-taken Waiting is)) r.slot),
+      )
 
       pub collected : p.party ≡ Flusher Found
           → (half : H) × (get_elem? s.homes 0 ≡ some (some (Some half))) × TellsFull (get_or s.words 0 0) × (total weighs (p.halves ++ half ∷ []) ≤ MAX_TURNED)
           × Turned weighs (stepped s 0 ((get_or s.words 0 0 + 1) % 2 ^ 64) id [] (led_by (grown half (Flusher Holding) Collect (get_or s.words 0 0) p) []) (takes 0 (Some half)))
       collected is = let e = found-at r.left r.phase (flusher-stage Found is) in let word = word-in r.left Full refl e in let slot = slot-in Full e in let own = own-taken Found is in
-          let f = full-word r.left in let x : ℕ = get_or s.words 0 0 in let all : r.turned ≡ p.halves ++ slot.0 ∷ [] = slot.2 ∙ ap (λ hs. hs ++ slot.0 ∷ []) (sym own) in
-          (slot.0, slot.1, subst TellsFull (sym word) f.0, subst (λ hs. total weighs hs ≤ MAX_TURNED) all r.bound,
+          let f = full-word r.left in let x : ℕ = get_or s.words 0 0 in let all : r.turned ≡ p.halves ++ slot.0 ∷ [] = slot.2 ∙ ap (λ hs. hs ++ slot.0 ∷ []) (sym own) in (
+            slot.0,
+            slot.1,
+            subst TellsFull (sym word) f.0,
+            subst (λ hs. total weighs hs ≤ MAX_TURNED) all r.bound,
             flusher-steps ((x + 1) % 2 ^ 64) id p (grown slot.0 (Flusher Holding) Collect x p) Found Holding [] (takes 0 (Some slot.0)) r.left FlusherHolds at is refl
-            (ap (λ z. (z + 1) % 2 ^ 64) word ∙ f.1) (collects r.left r.worker (worker-in r.left Full refl e)) tt (length-set s.homes 0 none ∙ r.slots) (set_here s.homes 0 none (let l = r.slots in omega arith), all))
+                (ap (λ z. (z + 1) % 2 ^ 64) word ∙ f.1) (collects r.left r.worker (worker-in r.left Full refl e)) tt (length-set s.homes 0 none ∙ r.slots) (set_here s.homes 0 none (let l = r.slots in omega arith), all),
+          )
 
       pub returned : (half : H) → p.party ≡ Flusher Holding → weighs half ≡ 0
           → ((get_or s.words 0 0 ≡ 4) ⊎ (get_or s.words 0 0 ≡ 12))
           × Turned weighs (stepped s 0 ((get_or s.words 0 0 + (2 ^ 64 - 4)) % 2 ^ 64) id ((0, Some half) ∷ []) (led_by (moved (Flusher Resting) Return (get_or s.words 0 0) p) []) gives)
       returned half is light = let e = holding-at r.left r.phase (flusher-stage Holding is) in let word = word-in r.left FlusherHolds refl e in let slot = slot-in FlusherHolds e in let own = own-taken Holding is in
-          let f = held-word r.left in let x : ℕ = get_or s.words 0 0 in
-          (subst (λ z. (z ≡ 4) ⊎ (z ≡ 12)) (sym word) f.0,
+          let f = held-word r.left in let x : ℕ = get_or s.words 0 0 in (
+            subst (λ z. (z ≡ 4) ⊎ (z ≡ 12)) (sym word) f.0,
             flusher-steps ((x + (2 ^ 64 - 4)) % 2 ^ 64) id p (moved (Flusher Resting) Return x p) Holding Resting ((0, Some half) ∷ []) gives r.left Idle at is refl
-            (ap (λ z. (z + (2 ^ 64 - 4)) % 2 ^ 64) word ∙ f.1) (returns r.left r.worker (worker-in r.left FlusherHolds refl e)) tt (length-set s.homes 0 (some (Some half)) ∙ r.slots)
-            (half, set_here s.homes 0 (some (Some half)) (let l = r.slots in omega arith), light, slot.1 ∙ sym own))
+                (ap (λ z. (z + (2 ^ 64 - 4)) % 2 ^ 64) word ∙ f.1) (returns r.left r.worker (worker-in r.left FlusherHolds refl e)) tt (length-set s.homes 0 (some (Some half)) ∙ r.slots)
+                (half, set_here s.homes 0 (some (Some half)) (let l = r.slots in omega arith), light, slot.1 ∙ sym own),
+          )
 
       pub taken-back : (c : List (ℕ × Option H)) → p.party ≡ Flusher Alone
           → (get_or s.words 0 0 ≡ 9) × Turned weighs (stepped s 0 ((get_or s.words 0 0 + (2 ^ 64 - 1)) % 2 ^ 64) id c (led_by (moved (Flusher Resting) Return (get_or s.words 0 0) p) []) keeps)
       taken-back c is = let e = alone-at r.left r.phase (flusher-stage Alone is) in let word = word-in true Asked e.0 e.1 in let slot = slot-in Asked e.1 in let own = own-taken Alone is in
-          let x : ℕ = get_or s.words 0 0 in
-          (word, flusher-steps ((x + (2 ^ 64 - 1)) % 2 ^ 64) id p (moved (Flusher Resting) Return x p) Alone Resting c keeps true Idle at is refl
-            (omega (arith, word)) (takes-back r.worker (worker-in true Asked e.0 e.1)) tt r.slots (slot.0, slot.1, slot.2, slot.3 ∙ sym own))
+          let x : ℕ = get_or s.words 0 0 in (
+            word,
+            flusher-steps ((x + (2 ^ 64 - 1)) % 2 ^ 64) id p (moved (Flusher Resting) Return x p) Alone Resting c keeps true Idle at is refl
+                (omega (arith, word)) (takes-back r.worker (worker-in true Asked e.0 e.1)) tt r.slots (slot.0, slot.1, slot.2, slot.3 ∙ sym own),
+          )
 
 -- What the table asks of each step, of a seat that has one part.
 module _ {H : Type 0} (weighs : H → ℕ) (slots id : ℕ) where
@@ -271,8 +288,13 @@ module _ {H : Type 0} (weighs : H → ℕ) (slots id : ℕ) where
       → Allows (Turned weighs) slots id m 0 (λ _. 3) (λ _. Gives no-step m told)
   give-allowed m told half p e is bound =
       subst (λ (z : Sat H). Allows (Turned weighs) slots id z 0 (λ _. 3) (λ _. Gives no-step z told)) (sym e)
-      (λ s r _ at _. (led_by (grown half (Worker Working) Give 2 p) [], gives, tt, gave weighs s r id p at half is bound,
-        λ other x. ap (λ h. (led_by (grown h (Worker Working) Give 2 p) [], [])) (same-held ((0, Some half) ∷ []) half other refl x)))
+      (λ s r _ at _. (
+        led_by (grown half (Worker Working) Give 2 p) [],
+        gives,
+        tt,
+        gave weighs s r id p at half is bound,
+        λ other x. ap (λ h. (led_by (grown h (Worker Working) Give 2 p) [], [])) (same-held ((0, Some half) ∷ []) half other refl x),
+      ))
 
   pub request-allowed : (m : Sat H) → length m.0.parts ≡ 1 → length m.1 ≡ 0 → is_resting (own_turn m.0).party ≡ true
       → Allows (Turned weighs) slots id m 0 (λ n. either (n == 0) 1 n) (Asks no-step m)

@@ -16,9 +16,12 @@ module _ {H : Type 0} where
   MatchRequest (Asked w) A L = A w
   MatchRequest (Gone i) A L = L i
 
-  -- What a take finds, of a flusher that knew k. Its load found 3 or 11, and then its next step took the half; or it found 1 or 2, which it tells; or 9, and it took its request back.
+  -- What a take finds, of a flusher that knew k. Its load found 3 or 11, and then its next step took the
+  -- half; or it found 1 or 2, which it tells; or 9, and it took its request back.
   abbrev pub TakeFinds : (H → ℕ) → TurnKnown H → Take H → Type 0
-  TakeFinds weighs k (Full half f) = (found later : ℕ) × TellsFull found × TellsFull later × (holding_known f ≡ with_half half (after_step Collect later (after_step Load found k))) × (weight_of weighs (holding_known f) ≤ MAX_TURNED)
+  TakeFinds weighs k (Full half f) = (found later : ℕ) × TellsFull found × TellsFull later
+      × (holding_known f ≡ with_half half (after_step Collect later (after_step Load found k)))
+      × (weight_of weighs (holding_known f) ≤ MAX_TURNED)
   TakeFinds weighs k (NotYet f word) = TellsNotYet word × (waiting_known f ≡ after_step Load word k)
   TakeFinds weighs k (Left f) = idle_known f ≡ after_step Return 9 (after_step Load 9 k)
 

@@ -1,6 +1,8 @@
--- The kinds of step on the word of a cell, each as one relation between what its seat knew and held before and what it knows and holds after it (this project's own).
+-- The kinds of step on the word of a cell, each as one relation between what its seat knew and held before
+-- and what it knows and holds after it (this project's own).
 -- The number `found` is the word that the step found; where a step stores, it is the word that it stored.
--- With a split, by which a new cell's one seat becomes two, and a join, by which the last two become one, there are nine kinds.
+-- With a split, by which a new cell's one seat becomes two, and a join, by which the last two become one,
+-- there are nine kinds.
 use Rattle.std.specs.Prelude.{◌≡◌, ℕ, ◌≤◌, Bool, true, false, ◌==◌, List, [], ◌∷◌, ◌++◌, ◌⊎◌, Option, Some}
 use Rattle.atomic_table.specs.Table.{Me, Step}
 use Rattle.seat_parts.specs.declared.Parts.{Parts}
@@ -65,28 +67,35 @@ module _ {H : Type 0} where
 
   -- ... and of the flusher, while it waits.
   abbrev pub FlusherLoads : Step (Option H) → Sat H → ℕ → Sat H → Type 0
-  FlusherLoads st m found m' = (stage : FlusherStage) × ShowsStage stage found × (m' ≡ (own_changed (moved (Flusher stage) Load found) m.0, m.1))
+  FlusherLoads st m found m' = (stage : FlusherStage) × ShowsStage stage found
+      × (m' ≡ (own_changed (moved (Flusher stage) Load found) m.0, m.1))
 
   -- 2. A request, from 0 to 1. Where it finds 8, the worker left, and the word stays.
   abbrev pub Asks : Step (Option H) → Sat H → ℕ → Sat H → Type 0
-  Asks st m found m' = ((found ≡ 0) ⊎ (found ≡ 8)) × (m' ≡ (own_changed (moved (Flusher (asked_at (found == 0))) Ask found) m.0, m.1))
+  Asks st m found m' = ((found ≡ 0) ⊎ (found ≡ 8))
+      × (m' ≡ (own_changed (moved (Flusher (asked_at (found == 0))) Ask found) m.0, m.1))
 
   -- 3. The worker takes the slot, from 1 to 2. It has the spare, whose weight is 0.
   abbrev pub Begins : (H → ℕ) → Step (Option H) → Sat H → ℕ → Sat H → Type 0
-  Begins weighs st m found m' = (spare : H) × (weighs spare ≡ 0) × (m' ≡ (own_changed (moved (Worker Turning) Begin 1) m.0, (0, Some spare) ∷ []))
+  Begins weighs st m found m' = (spare : H) × (weighs spare ≡ 0)
+      × (m' ≡ (own_changed (moved (Worker Turning) Begin 1) m.0, (0, Some spare) ∷ []))
 
   -- 4. The worker gives the slot with a full half, from 2 to 3. The half is turned from here on.
   abbrev pub Gives : Step (Option H) → Sat H → ℕ → Sat H → Type 0
-  Gives st m found m' = (half : H) → m.1 ≡ (0, Some half) ∷ [] → m' ≡ (own_changed (grown half (Worker Working) Give 2) m.0, [])
+  Gives st m found m' = (half : H) → m.1 ≡ (0, Some half) ∷ []
+      → m' ≡ (own_changed (grown half (Worker Working) Give 2) m.0, [])
 
-  -- 5. The flusher takes the slot with its full half, which adds 1 to 3 or 11. The half is taken from here on.
+  -- 5. The flusher takes the slot with its full half, which adds 1 to 3 or 11. The half is taken from here
+  -- on.
   abbrev pub Collects : (H → ℕ) → Step (Option H) → Sat H → ℕ → Sat H → Type 0
-  Collects weighs st m found m' = (half : H) × TellsFull found × (m' ≡ (own_changed (grown half (Flusher Holding) Collect found) m.0, (0, Some half) ∷ []))
+  Collects weighs st m found m' = (half : H) × TellsFull found
+      × (m' ≡ (own_changed (grown half (Flusher Holding) Collect found) m.0, (0, Some half) ∷ []))
       × (total weighs (own_turn m'.0).halves ≤ MAX_TURNED)
 
   -- 6. The flusher gives the slot back with a spare, which takes 4 from 4 or 12 ...
   abbrev pub Returns : Step (Option H) → Sat H → ℕ → Sat H → Type 0
-  Returns st m found m' = ((found ≡ 4) ⊎ (found ≡ 12)) × (m' ≡ (own_changed (moved (Flusher Resting) Return found) m.0, []))
+  Returns st m found m' = ((found ≡ 4) ⊎ (found ≡ 12))
+      × (m' ≡ (own_changed (moved (Flusher Resting) Return found) m.0, []))
 
   -- ... or takes its request back, which takes 1 from 9.
   abbrev pub TakesBack : Step (Option H) → Sat H → ℕ → Sat H → Type 0

@@ -1,5 +1,6 @@
 -- What clauses read of a cell, of the tokens of its parties, and of what its calls give (this project's own).
--- A token knows two lists, which its own calls alone lengthen: the halves that were turned or taken with it, in order, and its steps, the newest first.
+-- A token knows two lists, which its own calls alone lengthen: the halves that were turned or taken with
+-- it, in order, and its steps, the newest first.
 use Rattle.std.specs.Prelude.{◌≡◌, ℕ, ◌≤◌, Bool, true, false, List, [], ◌∷◌, ◌++◌}
 use Rattle.atomic_table.specs.Seated.{TableId}
 use Rattle.atomic_table.specs.declared.shared.Seat.{Seat}

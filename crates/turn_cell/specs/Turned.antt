@@ -1,10 +1,14 @@
 -- The rule of a cell's word and slot (this project's own).
 --
--- The word is a phase, and 8 more once the worker left: 0 idle, 1 asked, 2 the worker moves the slot, 3 full, 4 the flusher moves the slot.
--- The slot has the spare, of weight 0, in phases 0, 1, 8 and 9, and a full half in phases 3 and 11. In 2 it is out with the worker, in 4 and 12 with the flusher.
+-- The word is a phase, and 8 more once the worker left: 0 idle, 1 asked, 2 the worker moves the slot, 3
+-- full, 4 the flusher moves the slot.
+-- The slot has the spare, of weight 0, in phases 0, 1, 8 and 9, and a full half in phases 3 and 11. In 2 it
+-- is out with the worker, in 4 and 12 with the flusher.
 --
--- What holds at every moment of every interleaving: the halves that the flusher took, and the full one in the slot, are together the halves that the worker turned, in order.
--- What a party's last step told it, its stage, stays true whatever the other party does: a worker that found 1 finds 1 until it turns or leaves,
+-- What holds at every moment of every interleaving: the halves that the flusher took, and the full one in
+-- the slot, are together the halves that the worker turned, in order.
+-- What a party's last step told it, its stage, stays true whatever the other party does: a worker that
+-- found 1 finds 1 until it turns or leaves,
 -- and a flusher that found a full half finds it until it takes it.
 use Rattle.std.specs.Prelude.{◌≡◌, ℕ, ◌+◌, ◌≤◌, Bool, true, false, List, [], ◌∷◌, ◌++◌, Option, Some, length, slice_index}
 use mathlib.Core.Option.{none, some}
@@ -105,18 +109,23 @@ module _ {H : Type 0} where
   abbrev pub own_turn : Parts (TurnPart H) → TurnPart H
   own_turn v = first_or (record { party = Worker Working; halves = []; steps = [] }) v.parts
 
-  -- a part of the worker knows its stage and the halves that were turned, and one of the flusher its stage and those that were taken
+  -- a part of the worker knows its stage and the halves that were turned, and one of the flusher its stage
+  -- and those that were taken
   abbrev pub Knows : WorkerStage → List H → FlusherStage → List H → Party → List H → Type 0
   Knows worker turned flusher taken (Worker stage) halves = (stage ≡ worker) × (halves ≡ turned)
   Knows worker turned flusher taken (Flusher stage) halves = (stage ≡ flusher) × (halves ≡ taken)
 
   module _ (weighs : H → ℕ) where
-    -- what the slot has: the spare, where each half that was turned was taken, or the one that was turned and not taken. While a party moves it, it is out
+    -- what the slot has: the spare, where each half that was turned was taken, or the one that was turned
+    -- and not taken. While a party moves it, it is out
     abbrev pub SlotFits : Phase → List H → List H → List (mathlib.Core.Option.Option (Option H)) → Type 0
-    SlotFits Idle turned taken homes = (spare : H) × (get_elem? homes 0 ≡ some (some (Some spare))) × (weighs spare ≡ 0) × (turned ≡ taken)
-    SlotFits Asked turned taken homes = (spare : H) × (get_elem? homes 0 ≡ some (some (Some spare))) × (weighs spare ≡ 0) × (turned ≡ taken)
+    SlotFits Idle turned taken homes = (spare : H) × (get_elem? homes 0 ≡ some (some (Some spare)))
+        × (weighs spare ≡ 0) × (turned ≡ taken)
+    SlotFits Asked turned taken homes = (spare : H) × (get_elem? homes 0 ≡ some (some (Some spare)))
+        × (weighs spare ≡ 0) × (turned ≡ taken)
     SlotFits WorkerHolds turned taken homes = (get_elem? homes 0 ≡ some none) × (turned ≡ taken)
-    SlotFits Full turned taken homes = (half : H) × (get_elem? homes 0 ≡ some (some (Some half))) × (turned ≡ taken ++ half ∷ [])
+    SlotFits Full turned taken homes = (half : H) × (get_elem? homes 0 ≡ some (some (Some half)))
+        × (turned ≡ taken ++ half ∷ [])
     SlotFits FlusherHolds turned taken homes = (get_elem? homes 0 ≡ some none) × (turned ≡ taken)
 
     pub record Turned (s : State (Option H) (Parts (TurnPart H))) : Type 0 where

@@ -21,7 +21,8 @@ impl<H: Weighed + Drop> TurnCell<H> {
     /// The half in the slot, once both parties are back.
     pub fn close(self, note: LeftNote<H>, f: FlushAny<H>) -> Rest<H>
         requires cell { ((note_known note).cell ≡ cell_id self) × ((flusher_known f).cell ≡ cell_id self) }
-        ensures halves { (note_known note).halves ≡ (flusher_known f).halves ++ full_one result.full result.half }
+        ensures halves { (note_known note).halves
+            ≡ (flusher_known f).halves ++ full_one result.full result.half }
         ensures spare { result.full ≡ false → H.weighs result.half ≡ 0 }
         ensures weights { weight_of H.weighs (note_known note) ≤ MAX_TURNED }
     {

@@ -16,7 +16,8 @@ pub enum Request<H> {
     Left(FlushIdle<H>),
 }
 
-/// What a look for a half finds: a full one; that it was not turned yet, with the word loaded; or that the worker left without one.
+/// What a look for a half finds: a full one; that it was not turned yet, with the word loaded; or that the
+/// worker left without one.
 #[derive(Drop)]
 pub enum Take<H> {
     Full(H, FlushHolding<H>),
@@ -28,10 +29,16 @@ impl<H: Weighed + Drop> TurnCell<H> {
     /// Asks the worker to turn its half, by one atomic compare and exchange.
     pub fn request(&self, f: FlushIdle<H>) -> Request<H>
         requires cell { (idle_known f).cell ≡ cell_id self.now }
-        ensures { MatchRequest result (λ w. waiting_known w ≡ after_step Ask 0 (idle_known f)) (λ i. idle_known i ≡ after_step Ask 8 (idle_known f)) }
+        ensures { MatchRequest result (λ w. waiting_known w ≡ after_step Ask 0 (idle_known f))
+            (λ i. idle_known i ≡ after_step Ask 8 (idle_known f)) }
     {
         let FlushIdle { mut seat } = f;
-        if self.table.shared.compare_exchange::<Asking>(&mut seat, 0, 0, 1) == 0 {
+        if self
+            .table
+            .shared
+            .compare_exchange::<Asking>(&mut seat, 0, 0, 1)
+            == 0
+        {
             Request::Asked(FlushWaiting { seat })
         } else {
             Request::Left(FlushIdle { seat })
@@ -62,7 +69,8 @@ impl<H: Weighed + Drop> TurnCell<H> {
     pub fn give_back(&self, f: FlushHolding<H>, half: H) -> FlushIdle<H>
         requires cell { (holding_known f).cell ≡ cell_id self.now }
         requires weight { H.weighs half ≡ 0 }
-        ensures { (word : ℕ) × ((word ≡ 4) ⊎ (word ≡ 12)) × (idle_known result ≡ after_step Return word (holding_known f)) }
+        ensures { (word : ℕ) × ((word ≡ 4) ⊎ (word ≡ 12))
+            × (idle_known result ≡ after_step Return word (holding_known f)) }
     {
         let FlushHolding { mut seat } = f;
         let shared = &self.table.shared;

@@ -1,4 +1,4 @@
-//! A cell through which a worker hands its full halves to a flusher, and gets empty ones back, without a lock.
+//! A cell through which a worker hands full halves to a flusher and gets empty ones back, without a lock.
 #![tactic(auto)]
 
 mod cell;

@@ -17,7 +17,8 @@ impl<H: Weighed + Drop> TurnCell<H> {
         spare: H,
     ) -> Result<(TurnCell<H>, TurnWorker<H>, FlushIdle<H>), NoMemory>
         requires { H.weighs spare ≡ 0 }
-        ensures worker { IfOk result (λ r. (worker_known r.1 ≡ new_known (cell_id r.0)) × (may_turn r.1 ≡ false)) }
+        ensures worker { IfOk result (λ r. (worker_known r.1 ≡ new_known (cell_id r.0))
+            × (may_turn r.1 ≡ false)) }
         ensures flusher { IfOk result (λ r. idle_known r.2 ≡ new_known (cell_id r.0)) }
     {
         let mut slots = Vec::with_capacity(alloc, 1)?;
@@ -40,5 +41,9 @@ fn deal<H: Weighed + Drop>(
     ensures flusher { idle_known result.2 ≡ new_known (cell_id result.0) }
 {
     let first = table.shared.split_seat::<Deal>(&mut seat);
-    (TurnCell { table }, TurnWorker { seat }, FlushIdle { seat: first })
+    (
+        TurnCell { table },
+        TurnWorker { seat },
+        FlushIdle { seat: first },
+    )
 }

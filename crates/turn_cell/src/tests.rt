@@ -67,8 +67,11 @@ fn poll(cell: &TurnCell<Batch>, w: &mut TurnWorker<Batch>, half: Batch) -> bool
     requires cell { (worker_known w.old).cell ≡ cell_id cell.now }
     requires weights { weight_of (λ b. b.values) (worker_known w.old) + half.values ≤ MAX_TURNED }
     ensures cell { (worker_known w.new).cell ≡ cell_id cell.now }
-    ensures turned { result ≡ true → weight_of (λ b. b.values) (worker_known w.new) ≡ weight_of (λ b. b.values) (worker_known w.old) + half.values }
-    ensures stays { result ≡ false → weight_of (λ b. b.values) (worker_known w.new) ≡ weight_of (λ b. b.values) (worker_known w.old) }
+    ensures turned { result ≡ true
+        → weight_of (λ b. b.values) (worker_known w.new)
+        ≡ weight_of (λ b. b.values) (worker_known w.old) + half.values }
+    ensures stays { result ≡ false
+        → weight_of (λ b. b.values) (worker_known w.new) ≡ weight_of (λ b. b.values) (worker_known w.old) }
 {
     if cell.asked(w) {
         cell.turn(w, half);
@@ -82,8 +85,12 @@ type Side = Result<TurnWorker<Batch>, LeftNote<Batch>>;
 
 // The worker's next call, and a letter of what it said.
 fn worker_calls(cell: &TurnCell<Batch>, side: Side, call: u8, number: u32) -> (Side, u8)
-    requires { MatchResult side (λ w. ((worker_known w).cell ≡ cell_id cell.now) × (weight_of (λ b. b.values) (worker_known w) ≡ 0)) (λ note. (note_known note).cell ≡ cell_id cell.now) }
-    ensures { MatchResult result.0 (λ w. ((worker_known w).cell ≡ cell_id cell.now) × (weight_of (λ b. b.values) (worker_known w) ≡ 0)) (λ note. (note_known note).cell ≡ cell_id cell.now) }
+    requires { MatchResult side (λ w. ((worker_known w).cell ≡ cell_id cell.now)
+        × (weight_of (λ b. b.values) (worker_known w) ≡ 0))
+        (λ note. (note_known note).cell ≡ cell_id cell.now) }
+    ensures { MatchResult result.0 (λ w. ((worker_known w).cell ≡ cell_id cell.now)
+        × (weight_of (λ b. b.values) (worker_known w) ≡ 0))
+        (λ note. (note_known note).cell ≡ cell_id cell.now) }
 {
     match side {
         Ok(w) => {
@@ -113,8 +120,10 @@ enum Said {
 
 // The flusher's next call.
 fn flusher_calls(cell: &TurnCell<Batch>, hand: Hand) -> (Hand, Said)
-    requires { MatchResult hand (λ f. (flusher_known f).cell ≡ cell_id cell.now) (λ h. (holding_known h).cell ≡ cell_id cell.now) }
-    ensures { MatchResult result.0 (λ f. (flusher_known f).cell ≡ cell_id cell.now) (λ h. (holding_known h).cell ≡ cell_id cell.now) }
+    requires { MatchResult hand (λ f. (flusher_known f).cell ≡ cell_id cell.now)
+        (λ h. (holding_known h).cell ≡ cell_id cell.now) }
+    ensures { MatchResult result.0 (λ f. (flusher_known f).cell ≡ cell_id cell.now)
+        (λ h. (holding_known h).cell ≡ cell_id cell.now) }
 {
     match hand {
         Ok(FlushAny::Idle(f)) => match cell.request(f) {
@@ -150,7 +159,8 @@ fn letter_of(said: Said) -> u8 {
 
 // Gives a half back that the flusher holds.
 fn settled(cell: &TurnCell<Batch>, hand: Hand) -> FlushAny<Batch>
-    requires { MatchResult hand (λ f. (flusher_known f).cell ≡ cell_id cell.now) (λ h. (holding_known h).cell ≡ cell_id cell.now) }
+    requires { MatchResult hand (λ f. (flusher_known f).cell ≡ cell_id cell.now)
+        (λ h. (holding_known h).cell ≡ cell_id cell.now) }
     ensures { (flusher_known result).cell ≡ cell_id cell.now }
 {
     match hand {
@@ -161,8 +171,10 @@ fn settled(cell: &TurnCell<Batch>, hand: Hand) -> FlushAny<Batch>
 
 // Closes the cell, and gives a letter for what was in it.
 fn end(cell: TurnCell<Batch>, side: Side, hand: Hand) -> u8
-    requires side { MatchResult side (λ w. ((worker_known w).cell ≡ cell_id cell) × (weight_of (λ b. b.values) (worker_known w) ≡ 0)) (λ note. (note_known note).cell ≡ cell_id cell) }
-    requires hand { MatchResult hand (λ f. (flusher_known f).cell ≡ cell_id cell) (λ h. (holding_known h).cell ≡ cell_id cell) }
+    requires side { MatchResult side (λ w. ((worker_known w).cell ≡ cell_id cell)
+        × (weight_of (λ b. b.values) (worker_known w) ≡ 0)) (λ note. (note_known note).cell ≡ cell_id cell) }
+    requires hand { MatchResult hand (λ f. (flusher_known f).cell ≡ cell_id cell)
+        (λ h. (holding_known h).cell ≡ cell_id cell) }
 {
     let note = match side {
         Ok(w) => cell.leave(w),
@@ -198,8 +210,10 @@ fn says(alloc: Global, order: &str, want: &str) -> Result<bool, NoMemory> {
     Ok(same && want.as_bytes().last() == Some(&said))
 }
 
-// Each order of the calls of a worker that polls twice and leaves, and of a flusher's six calls, and what they say:
-// `a` asked, `n` not yet, `x` left, `g` given back, `t` turned, `-` not asked; a digit is the number of the half that was taken, or that is in the cell at the end.
+// Each order of the calls of a worker that polls twice and leaves, and of a flusher's six calls, and what
+// they say:
+// `a` asked, `n` not yet, `x` left, `g` given back, `t` turned, `-` not asked; a digit is the number of the
+// half that was taken, or that is in the cell at the end.
 const ORDERS: &str = "\
 wwlffffff --lxxxxxx.;wwflfffff --alxxxxx.;wwfflffff --anlxxxx.;wwffflfff --annlxxx.;\
 wwfffflff --annnlxx.;wwffffflf --annnnlx.;wwffffffl --annnnnl.;wfwlfffff -atl1gxxx.;\
@@ -292,7 +306,8 @@ struct Drained {
 // Asks for one half after another, and stops once it asked for the last one.
 fn drain(cell: &TurnCell<Batch>, f: FlushIdle<Batch>) -> Drained
     requires { (idle_known f).cell ≡ cell_id cell.now }
-    ensures { MatchResult result.hand (λ f. (flusher_known f).cell ≡ cell_id cell.now) (λ h. (holding_known h).cell ≡ cell_id cell.now) }
+    ensures { MatchResult result.hand (λ f. (flusher_known f).cell ≡ cell_id cell.now)
+        (λ h. (holding_known h).cell ≡ cell_id cell.now) }
 {
     let mut hand: Hand = Ok(FlushAny::Idle(f));
     let mut halves = 0u32;
@@ -327,20 +342,24 @@ fn run_both<R: Threads + Sync>(
     worker: TurnWorker<Batch>,
     idle: FlushIdle<Batch>,
 ) -> (Filled, Drained)
-    requires worker { ((worker_known worker).cell ≡ cell_id cell.now) × (weight_of (λ b. b.values) (worker_known worker) ≡ 0) }
+    requires worker { ((worker_known worker).cell ≡ cell_id cell.now)
+        × (weight_of (λ b. b.values) (worker_known worker) ≡ 0) }
     requires idle { (idle_known idle).cell ≡ cell_id cell.now }
     ensures filled { (note_known result.0.note).cell ≡ cell_id cell.now }
-    ensures drained { MatchResult result.1.hand (λ f. (flusher_known f).cell ≡ cell_id cell.now) (λ h. (holding_known h).cell ≡ cell_id cell.now) }
+    ensures drained { MatchResult result.1.hand (λ f. (flusher_known f).cell ≡ cell_id cell.now)
+        (λ h. (holding_known h).cell ≡ cell_id cell.now) }
 {
     join(
         rt,
         move || -> Filled
-            requires { ((worker_known worker).cell ≡ cell_id cell.now) × (weight_of (λ b. b.values) (worker_known worker) ≡ 0) }
+            requires { ((worker_known worker).cell ≡ cell_id cell.now)
+                × (weight_of (λ b. b.values) (worker_known worker) ≡ 0) }
             ensures { (note_known result.note).cell ≡ cell_id cell.entry.now }
         { fill(cell, worker) },
         move || -> Drained
             requires { (idle_known idle).cell ≡ cell_id cell.now }
-            ensures { MatchResult result.hand (λ f. (flusher_known f).cell ≡ cell_id cell.entry.now) (λ h. (holding_known h).cell ≡ cell_id cell.entry.now) }
+            ensures { MatchResult result.hand (λ f. (flusher_known f).cell ≡ cell_id cell.entry.now)
+                (λ h. (holding_known h).cell ≡ cell_id cell.entry.now) }
         { drain(cell, idle) },
     )
 }

@@ -46,7 +46,8 @@ pub enum Party {
     Flusher(FlusherStage),
 }
 
-/// The kinds of step on the word of a cell: a load of either party; of the worker the begin and the end of a turn, and its leaving;
+/// The kinds of step on the word of a cell: a load of either party; of the worker the begin and the end of
+/// a turn, and its leaving;
 /// of the flusher a request, a collection, and a return.
 pub enum TurnKind {
     Load,

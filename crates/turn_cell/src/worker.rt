@@ -13,7 +13,8 @@ impl<H: Weighed + Drop> TurnCell<H> {
     /// Whether the flusher asks for a half, by one atomic load, which found 1.
     pub fn asked(&self, w: &mut TurnWorker<H>) -> bool
         requires cell { (worker_known w.old).cell ≡ cell_id self.now }
-        ensures load { (word : ℕ) × (worker_known w.new ≡ after_step Load word (worker_known w.old)) × (result ≡ (word == 1)) }
+        ensures load { (word : ℕ) × (worker_known w.new ≡ after_step Load word (worker_known w.old))
+            × (result ≡ (word == 1)) }
         ensures may_turn { may_turn w.new ≡ result }
     {
         let word = self.table.shared.load::<WorkerLoading>(&mut w.seat, 0);
@@ -25,7 +26,8 @@ impl<H: Weighed + Drop> TurnCell<H> {
         requires cell { (worker_known w.old).cell ≡ cell_id self.now }
         requires asked { may_turn w.old ≡ true }
         requires weights { weight_of H.weighs (worker_known w.old) + H.weighs half ≤ MAX_TURNED }
-        ensures turned { worker_known w.new ≡ with_half half (after_step Give 2 (after_step Begin 1 (worker_known w.old))) }
+        ensures turned { worker_known w.new
+            ≡ with_half half (after_step Give 2 (after_step Begin 1 (worker_known w.old))) }
         ensures may_turn { may_turn w.new ≡ false }
         ensures spare { H.weighs result ≡ 0 }
     {

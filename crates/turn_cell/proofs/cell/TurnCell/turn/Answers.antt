@@ -13,9 +13,12 @@ exchange-requires g c = let w = c.args.w.now in let b = c.store.ensures.2 in
     (c.store.ensures.0 ∙ c.requires.cell, (Some b.0, holds-first c.store.new.seat.me _ (Some b.0) b.2))
 
 pub store-requires-2 : goal.store-requires-2
-store-requires-2 g c = let w = c.args.w.now in let b = c.store.ensures.2 in let e = begun-seat w.seat.me c.store.new.seat.me b.0 w.alone.0 b.2 in
-    (search rules, search rules, give-allowed g.H.Weighed.weighs _ _ c.exchange.new.seat.me 3 c.args.half _ (exchanged c.store.new.seat.me c.exchange.new.seat.me _ (Some b.0) (Some c.args.half) e c.exchange.ensures.3) refl
-      (heavier g.H.Weighed.weighs (own_turn w.seat.me.0).halves c.args.half c.requires.weights))
+store-requires-2 g c = let w = c.args.w.now in let b = c.store.ensures.2 in let e = begun-seat w.seat.me c.store.new.seat.me b.0 w.alone.0 b.2 in (
+  search rules,
+  search rules,
+  give-allowed g.H.Weighed.weighs _ _ c.exchange.new.seat.me 3 c.args.half _ (exchanged c.store.new.seat.me c.exchange.new.seat.me _ (Some b.0) (Some c.args.half) e c.exchange.ensures.3) refl
+      (heavier g.H.Weighed.weighs (own_turn w.seat.me.0).halves c.args.half c.requires.weights),
+)
 
 pub invariant_of-w : goal.invariant_of-w
 invariant_of-w g c =
