@@ -12,8 +12,7 @@ use Rattle.seat_parts.proofs.Sums.{all-at, at-or}
 use Rattle.seat_parts.proofs.Cuts.{split-total, split-all, join-total, join-all, one-part}
 use Rattle.turn_cell.specs.declared.limits.TheConstants.{MAX_TURNED}
 use Rattle.turn_cell.specs.declared.view.Phase.{Phase}
-use Rattle.turn_cell.specs.declared.view.Phase.TheVariants.{Idle, Asked, WorkerHolds, Full, FlusherHolds}
-use Rattle.turn_cell.specs.declared.view.WorkerStage.{WorkerStage}
+use Rattle.turn_cell.specs.declared.view.Phase.TheVariants.{Idle, Asked, WorkerHolds, Full}
 use Rattle.turn_cell.specs.declared.view.WorkerStage.TheVariants.{Working, Departed}
 use Rattle.turn_cell.specs.declared.view.FlusherStage.{FlusherStage}
 use Rattle.turn_cell.specs.declared.view.FlusherStage.TheVariants.{Resting, Waiting}

@@ -1,5 +1,5 @@
 -- Which stages and phases fit, before and after each step.
-use Rattle.std.proofs.Common.{◌≡◌, ℕ, ◌+◌, ◌-◌, ◌%◌, ◌^◌, ◌⊎◌, inl, inr, Bool, true, false, eqb, sym, refl, ap, true≢false, arith}
+use Rattle.std.proofs.Common.{◌≡◌, ◌+◌, ◌-◌, ◌%◌, ◌^◌, ◌⊎◌, inl, inr, Bool, true, false, sym, refl, true≢false, arith}
 use Rattle.std.specs.Prelude.{◌==◌}
 use Rattle.turn_cell.specs.declared.view.Phase.{Phase}
 use Rattle.turn_cell.specs.declared.view.Phase.TheVariants.{Idle, Asked, WorkerHolds, Full, FlusherHolds}
@@ -9,8 +9,8 @@ use Rattle.turn_cell.specs.declared.view.FlusherStage.{FlusherStage}
 use Rattle.turn_cell.specs.declared.view.FlusherStage.TheVariants.{Resting, Waiting, Found, Alone, Holding}
 use Rattle.turn_cell.specs.declared.view.Party.{Party}
 use Rattle.turn_cell.specs.declared.view.Party.TheVariants.{Worker, Flusher}
-use Rattle.turn_cell.specs.Turned.{word_of, phase_number, WorkerFits, FlusherFits, is_there, has_left, can_turn, is_resting, is_waiting, is_holding}
-use Rattle.turn_cell.specs.Steps.{stage_at, asked_at, ShowsStage, TellsFull, TellsNotYet}
+use Rattle.turn_cell.specs.Turned.{word_of, WorkerFits, FlusherFits, is_there, has_left, can_turn, is_resting, is_waiting, is_holding}
+use Rattle.turn_cell.specs.Steps.{stage_at, ShowsStage, TellsFull}
 
 -- the stages of the tokens
 abbrev pub IsThere : WorkerStage → Type 0

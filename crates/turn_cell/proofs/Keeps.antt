@@ -1,14 +1,13 @@
 -- Each step on a cell's word keeps its rule.
-use Rattle.std.proofs.Common.{◌≡◌, ℕ, ◌+◌, ◌-◌, ◌%◌, ◌^◌, ◌<◌, ◌≤◌, ◌⊎◌, inl, inr, Bool, true, false, eqb, List, [], ◌∷◌, ◌++◌, length, get_or, set, sym, refl, ap, ◌∙◌, subst, arith, Option, Some, None, length-set, get_or-set_same}
+use Rattle.std.proofs.Common.{◌≡◌, ℕ, ◌+◌, ◌-◌, ◌%◌, ◌^◌, ◌≤◌, ◌⊎◌, inl, inr, Bool, true, false, List, [], ◌∷◌, ◌++◌, length, get_or, sym, refl, ap, ◌∙◌, subst, arith, Option, Some, None, length-set, get_or-set_same}
 use Rattle.std.specs.Prelude.{◌==◌}
 use prog.Atomic.{either}
 use mathlib.Core.Option.{none, some}
-use mathlib.Core.Option.{Option as Maybe}
 use lib.ListN.{get_elem?}
 use Rattle.atomic_table.proofs.Lists.{set_here}
-use Rattle.atomic_table.specs.Table.{State, Step, step, Act, keeps, takes, gives, stepped, homes_after, Allows}
+use Rattle.atomic_table.specs.Table.{State, Act, keeps, takes, gives, stepped, homes_after, Allows}
 use Rattle.seat_parts.specs.declared.Parts.{Parts}
-use Rattle.seat_parts.specs.Parts.{total, parts_total, led_by}
+use Rattle.seat_parts.specs.Parts.{total, led_by}
 use Rattle.seat_parts.proofs.Cuts.{step-total, step-beside, own-fits, led-alone}
 use Rattle.turn_cell.specs.declared.limits.TheConstants.{MAX_TURNED}
 use Rattle.turn_cell.specs.declared.view.Phase.{Phase}
@@ -19,12 +18,11 @@ use Rattle.turn_cell.specs.declared.view.FlusherStage.{FlusherStage}
 use Rattle.turn_cell.specs.declared.view.FlusherStage.TheVariants.{Resting, Waiting, Found, Alone, Holding}
 use Rattle.turn_cell.specs.declared.view.Party.{Party}
 use Rattle.turn_cell.specs.declared.view.Party.TheVariants.{Worker, Flusher}
-use Rattle.turn_cell.specs.declared.view.TurnKind.{TurnKind}
 use Rattle.turn_cell.specs.declared.view.TurnKind.TheVariants.{Load, Begin, Give, Leave, Ask, Collect, Return}
 use Rattle.turn_cell.specs.declared.view.TurnPart.{TurnPart}
-use Rattle.turn_cell.specs.Turned.{word_of, WorkerFits, FlusherFits, SlotFits, worker_weight, flusher_weight, Knows, Turned, own_turn, is_there, can_turn, is_resting, is_waiting, is_holding}
+use Rattle.turn_cell.specs.Turned.{word_of, WorkerFits, FlusherFits, SlotFits, worker_weight, flusher_weight, Knows, Turned, own_turn, is_there, can_turn, is_resting, is_waiting}
 use Rattle.turn_cell.specs.Steps.{Sat, moved, grown, stage_at, asked_at, ShowsStage, TellsFull, WorkerLoads, FlusherLoads, Asks, Begins, Gives, Collects, Returns, TakesBack, Leaves}
-use Rattle.turn_cell.proofs.Fits.{IsThere, there, turner, rester, waiter, holder, worker-loads, may-turn-at, begins, turning-at, leaves, left-alone, resting-at, asks, flusher-loads, found-at, full-word, collects, holding-at, held-word, returns, alone-at, takes-back}
+use Rattle.turn_cell.proofs.Fits.{IsThere, there, turner, rester, waiter, worker-loads, may-turn-at, begins, turning-at, leaves, left-alone, resting-at, asks, flusher-loads, found-at, full-word, collects, holding-at, held-word, returns, alone-at, takes-back}
 use Rattle.turn_cell.proofs.Fits.{gives as given}
 use Rattle.turn_cell.proofs.Seats.{no-step}
 

@@ -1,5 +1,5 @@
 -- What a seat with one part is after a step.
-use Rattle.std.proofs.Common.{◌≡◌, ℕ, ◌+◌, ◌<◌, ◌≤◌, ⊎_elim, List, [], ◌∷◌, ◌++◌, length, sym, refl, ap, ◌∙◌, arith, Option, Some, None}
+use Rattle.std.proofs.Common.{◌≡◌, ℕ, ◌+◌, ◌<◌, ◌≤◌, ⊎_elim, List, [], ◌∷◌, ◌++◌, length, sym, refl, ap, ◌∙◌, arith, Option, Some}
 use mathlib.Core.Option.{none}
 use Rattle.atomic_table.specs.Table.{rest, Step, step}
 use Rattle.seat_parts.specs.declared.Parts.{Parts}
@@ -7,13 +7,13 @@ use Rattle.seat_parts.specs.Parts.{total, led_by, own_changed, first_changed, fi
 use Rattle.seat_parts.proofs.Sums.{total-append}
 use Rattle.turn_cell.specs.declared.limits.TheConstants.{MAX_TURNED}
 use Rattle.turn_cell.specs.declared.view.WorkerStage.TheVariants.{Working, Turning}
-use Rattle.turn_cell.specs.declared.view.FlusherStage.TheVariants.{Resting, Waiting, Found, Alone, Holding}
+use Rattle.turn_cell.specs.declared.view.FlusherStage.TheVariants.{Resting, Waiting, Found, Alone}
 use Rattle.turn_cell.specs.declared.view.FlusherStage.{FlusherStage}
 use Rattle.turn_cell.specs.declared.view.Party.TheVariants.{Worker, Flusher}
-use Rattle.turn_cell.specs.declared.view.TurnKind.TheVariants.{Load, Begin, Give, Collect, Return}
+use Rattle.turn_cell.specs.declared.view.TurnKind.TheVariants.{Load, Begin, Give, Return}
 use Rattle.turn_cell.specs.declared.view.TurnPart.{TurnPart}
 use Rattle.turn_cell.specs.Turned.{own_turn, held_slot}
-use Rattle.turn_cell.specs.Steps.{Sat, moved, grown, Begins, Gives, Collects, Returns, ShowsStage, TellsNotYet, TellsFull}
+use Rattle.turn_cell.specs.Steps.{Sat, moved, grown, Gives, Returns, ShowsStage, TellsNotYet, TellsFull}
 
 -- no relation reads the step
 abbrev pub no-step : {S : Type 0} → Step S

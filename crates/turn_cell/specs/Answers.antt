@@ -1,5 +1,5 @@
 -- What the flusher's calls and `close` answer (this project's own).
-use Rattle.std.specs.Prelude.{◌≡◌, ℕ, ◌≤◌, Bool, true, false, List, [], ◌∷◌, ◌++◌}
+use Rattle.std.specs.Prelude.{◌≡◌, ℕ, ◌≤◌, Bool, true, false, List, [], ◌∷◌}
 use Rattle.turn_cell.specs.declared.limits.TheConstants.{MAX_TURNED}
 use Rattle.turn_cell.specs.declared.view.TurnKind.TheVariants.{Load, Collect, Return}
 use Rattle.turn_cell.specs.declared.tokens.FlushIdle.{FlushIdle}

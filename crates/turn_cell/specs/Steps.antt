@@ -3,7 +3,7 @@
 -- The number `found` is the word that the step found; where a step stores, it is the word that it stored.
 -- With a split, by which a new cell's one seat becomes two, and a join, by which the last two become one,
 -- there are nine kinds.
-use Rattle.std.specs.Prelude.{◌≡◌, ℕ, ◌≤◌, Bool, true, false, ◌==◌, List, [], ◌∷◌, ◌++◌, ◌⊎◌, Option, Some}
+use Rattle.std.specs.Prelude.{◌≡◌, ℕ, ◌≤◌, Bool, true, false, ◌==◌, [], ◌∷◌, ◌++◌, ◌⊎◌, Option, Some}
 use Rattle.atomic_table.specs.Table.{Me, Step}
 use Rattle.seat_parts.specs.declared.Parts.{Parts}
 use Rattle.seat_parts.specs.Parts.{total, own_changed}

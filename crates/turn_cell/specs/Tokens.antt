@@ -1,10 +1,8 @@
 -- What clauses read of a cell, of the tokens of its parties, and of what its calls give (this project's own).
 -- A token knows two lists, which its own calls alone lengthen: the halves that were turned or taken with
 -- it, in order, and its steps, the newest first.
-use Rattle.std.specs.Prelude.{◌≡◌, ℕ, ◌≤◌, Bool, true, false, List, [], ◌∷◌, ◌++◌}
+use Rattle.std.specs.Prelude.{ℕ, Bool, List, [], ◌∷◌, ◌++◌}
 use Rattle.atomic_table.specs.Seated.{TableId}
-use Rattle.atomic_table.specs.declared.shared.Seat.{Seat}
-use Rattle.seat_parts.specs.declared.Parts.{Parts}
 use Rattle.seat_parts.specs.Parts.{total}
 use Rattle.turn_cell.specs.declared.view.TurnKind.{TurnKind}
 use Rattle.turn_cell.specs.declared.view.TurnStep.{TurnStep}

@@ -1,9 +1,8 @@
-use Rattle.std.proofs.Common.{rules, ap, refl, ◌∙◌, Some}
-use Rattle.turn_cell.specs.Turned.{own_turn, is_resting}
-use Rattle.turn_cell.specs.Tokens.{known_of}
+use Rattle.std.proofs.Common.{rules, Some}
+use Rattle.turn_cell.specs.Turned.{own_turn}
 use Rattle.turn_cell.proofs.Fits.{holder}
 use Rattle.turn_cell.proofs.Keeps.{return-allowed}
-use Rattle.turn_cell.proofs.Seats.{held-one, holds-first, exchanged, returned-seat}
+use Rattle.turn_cell.proofs.Seats.{held-one, holds-first, exchanged}
 use Rattle.turn_cell.proofs.cell.TurnCell.give_back.Goals as goal
 
 pub exchange-requires : goal.exchange-requires

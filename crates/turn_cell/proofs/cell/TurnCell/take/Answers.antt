@@ -1,8 +1,7 @@
-use Rattle.std.proofs.Common.{rules, ap, refl, ◌∙◌, Some}
+use Rattle.std.proofs.Common.{rules, ap, ◌∙◌, Some}
 use Rattle.turn_cell.specs.declared.view.Party.TheVariants.{Flusher}
-use Rattle.turn_cell.specs.Turned.{own_turn}
 use Rattle.turn_cell.proofs.Keeps.{flusher-load-allowed, take-back-allowed, collect-allowed}
-use Rattle.turn_cell.proofs.Seats.{loaded-seat, shows-early, shows-alone, shows-full, holds-first}
+use Rattle.turn_cell.proofs.Seats.{loaded-seat, shows-alone, shows-full, holds-first}
 use Rattle.turn_cell.proofs.cell.TurnCell.take.Goals as goal
 
 pub load-word-requires : goal.load-word-requires

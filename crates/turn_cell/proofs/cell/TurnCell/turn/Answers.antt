@@ -1,8 +1,8 @@
-use Rattle.std.proofs.Common.{rules, ap, sym, refl, ◌∙◌, Some, ◌++◌, ◌∷◌, [], length}
+use Rattle.std.proofs.Common.{rules, ap, refl, ◌∙◌, Some, length}
 use Rattle.turn_cell.specs.Turned.{own_turn, is_there, can_turn}
 use Rattle.turn_cell.specs.Tokens.{known_of}
 use Rattle.turn_cell.proofs.Keeps.{begin-allowed, give-allowed}
-use Rattle.turn_cell.proofs.Seats.{begun-seat, turned-seat, holds-first, found-first, exchanged, heavier}
+use Rattle.turn_cell.proofs.Seats.{begun-seat, turned-seat, holds-first, exchanged, heavier}
 use Rattle.turn_cell.proofs.cell.TurnCell.turn.Goals as goal
 
 pub store-requires : goal.store-requires
