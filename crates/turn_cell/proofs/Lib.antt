@@ -1,0 +1,4 @@
+mod Fits
+mod Seats
+mod Keeps
+mod Ends

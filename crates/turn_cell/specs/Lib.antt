@@ -1,0 +1,4 @@
+pub mod Turned
+pub mod Steps
+pub mod Tokens
+pub mod Answers
