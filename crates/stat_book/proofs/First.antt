@@ -19,12 +19,12 @@ use Rattle.book_state.specs.declared.limits.TheConstants.{MAX_WORKERS, MAX_OPENI
 use Rattle.book_state.specs.State.{NameRules, State, Scope, live_scope, same_text, symbols_in}
 use Rattle.book_state.specs.Step.{effect}
 use Rattle.book_state.specs.Log.{empty, openings, replay_from, replay, Run}
-use Rattle.book_state.specs.Stored.{StateView, IsLawfulCall, drawing, after_entry}
+use Rattle.book_state.specs.Stored.{StateView, IsLawfulCall, drawing, after_entry, released_in}
 use Rattle.book_state.proofs.Lists.{not_some, not_true, all_at, map_some, get_map, position_none, count_cons}
 use Rattle.book_state.proofs.Growing.{replayed, runs_on}
 use Rattle.book_state.proofs.Entering.{same_replay_from, drawn}
 use Rattle.stat_book.specs.Appending.{first_entry}
-use Rattle.stat_book.specs.Calls.{rules_of, state_of, new_book, openings_by, is_opening, released_in}
+use Rattle.stat_book.specs.Calls.{rules_of, state_of, new_book, openings_by, is_opening}
 use Rattle.stat_book.specs.Symbols.{AreUses}
 use Rattle.stat_book.specs.BookKept.{IsKept}
 use Rattle.stat_book.proofs.Keeping.{tags_are}

@@ -21,12 +21,12 @@ use Rattle.book_state.specs.State.{NameRules, State, Seat, symbols_in}
 use Rattle.book_state.specs.Step.{effect, Allowed, Working, Works, Tells, on_seat}
 use Rattle.book_state.specs.Log.{empty, is_sweep, fits_seat, replay_from, replay}
 use Rattle.book_state.specs.RunState.{IsRunState}
-use Rattle.book_state.specs.Stored.{StateView, IsNext, IsLawfulCall, drawing, after_entry, released_by}
+use Rattle.book_state.specs.Stored.{StateView, IsNext, IsLawfulCall, drawing, after_entry, released_by, released_in}
 use Rattle.book_state.proofs.Lists.{count_push, some_at, within_some}
 use Rattle.book_state.proofs.Growing.{replayed, legal_on, seats_stay}
 use Rattle.book_state.proofs.Entering.{same_effect, drawn}
 use Rattle.book_state.proofs.Safety.{empty_run, run_kept_all}
-use Rattle.stat_book.specs.Calls.{name_rules, rules_of, state_of, IsLegal, Logged, is_opening, openings_by, released_in}
+use Rattle.stat_book.specs.Calls.{name_rules, rules_of, state_of, IsLegal, Logged, is_opening, openings_by}
 use Rattle.stat_book.specs.Symbols.{AreUses}
 use Rattle.stat_book.specs.BookKept.{IsKept}
 use Rattle.stat_book.specs.Appending.{KeepsNames}

@@ -8,5 +8,4 @@ mod Making
 mod Freeing
 mod SweptNames
 mod Freedom
-mod SameKeys
 pub mod CallerLemmas

@@ -6,9 +6,9 @@ use Rattle.stat_defs.specs.declared.configs.MatchSpec.TheVariants.{AdmitAll}
 use Rattle.symbol_table.specs.Table.{Table, total}
 use Rattle.book_state.specs.declared.limits.TheConstants.{MAX_WORKERS, MAX_OPENINGS, MAX_TOKENS}
 use Rattle.book_state.specs.State.{symbols_in}
-use Rattle.book_state.specs.Stored.{StateView, IsLawfulCall}
+use Rattle.book_state.specs.Stored.{StateView, IsLawfulCall, released_in}
 use Rattle.stat_book.specs.declared.book.Book.TheInside.{Inside}
-use Rattle.stat_book.specs.Calls.{state_of, IsLegal, openings_by, released_in}
+use Rattle.stat_book.specs.Calls.{state_of, IsLegal, openings_by}
 use Rattle.stat_book.specs.Symbols.{AreUses}
 
 -- the configuration that is held where contracts alone see it

@@ -1,8 +1,6 @@
 -- What the calls of a book add to its log. This project's own.
 use Rattle.std.specs.Prelude.{◌≡◌, ℕ, ◌&&◌, ◌==◌, Bool, true, false, Some, List, [], ◌∷◌, ◌++◌, count_by}
-use Rattle.std.specs.List.{flat_map}
 use Rattle.stat_defs.specs.Books.{BookHistory}
-use Rattle.stat_defs.specs.declared.ids.ScopeId.{ScopeId}
 use Rattle.stat_defs.specs.declared.configs.Config.{Config}
 use Rattle.stat_defs.specs.declared.configs.MatchSpec.{MatchSpec}
 use Rattle.stat_defs.specs.declared.configs.TagSpec.{TagSpec}
@@ -17,7 +15,6 @@ use Rattle.book_state.specs.State.{NameRules, State}
 use Rattle.book_state.specs.Step.{BookStep}
 use Rattle.book_state.specs.Log.{openings, replay, Legal}
 use Rattle.book_state.specs.Follows.{verdict_of}
-use Rattle.book_state.specs.Stored.{released_by}
 
 -- full names are admitted by the matcher, and their tags are drawn by the tag rules
 unfoldable pub name_rules : MatchSpec → List TagSpec → NameRules
@@ -53,7 +50,3 @@ is_opening _ = false
 -- how many openings of a seat stand in a log, refused ones counted too
 abbrev pub openings_by : ℕ → List Entry → ℕ
 openings_by seat log = count_by (λ entry. is_opening entry.call && entry.seat == seat) log
-
--- the scopes released in a log, in order
-abbrev pub released_in : List Entry → List ScopeId
-released_in log = flat_map (λ entry. released_by entry.call entry.reply) log

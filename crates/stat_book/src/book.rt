@@ -12,9 +12,9 @@ ghost use Rattle.book_state.specs.Step.{Allowed, Working, Works, holds_text};
 ghost use Rattle.book_state.specs.Log.{is_sweep};
 ghost use Rattle.book_state.specs.Follows.{tag_of};
 ghost use Rattle.book_state.specs.Safe.{SymbolsSafe};
-ghost use Rattle.book_state.specs.Stored.{IsLawfulCall, after_entry};
+ghost use Rattle.book_state.specs.Stored.{IsLawfulCall, after_entry, released_in};
 ghost use Rattle.stat_book.specs.Symbols.{AreUses};
-ghost use Rattle.stat_book.specs.Calls.{rules_of, state_of, IsLegal, new_book, Logged, Answers, openings_by, is_opening, released_in};
+ghost use Rattle.stat_book.specs.Calls.{rules_of, state_of, IsLegal, new_book, Logged, Answers, openings_by, is_opening};
 ghost use Rattle.stat_book.specs.Appending.{first_entry, KeepsNames};
 
 use book_state::BookState;
@@ -254,7 +254,13 @@ impl Book {
     }
 
     // Logs a call of a worker with a reply that draws or frees no symbol.
-    pub(crate) fn append(&mut self, alloc: Global, seat: u32, call: Call, reply: Reply) -> Result<(), NoMemory>
+    pub(crate) fn append(
+        &mut self,
+        alloc: Global,
+        seat: u32,
+        call: Call,
+        reply: Reply,
+    ) -> Result<(), NoMemory>
         requires may { Allowed (rules_of self.old) seat call reply (state_of self.old) }
         requires works { Works (state_of self.old) seat }
         requires worker { is_sweep call ≡ false }

@@ -49,8 +49,7 @@ impl Book {
     {
         match self.live_scope(&key.label) {
             None => {
-                let verdict =
-                    self.refuse(alloc, seat, key, Reply::NoScope, Verdict::NoScope)?;
+                let verdict = self.refuse(alloc, seat, key, Reply::NoScope, Verdict::NoScope)?;
                 Ok(FindAnswer {
                     verdict,
                     scope: None,
@@ -226,7 +225,10 @@ impl Book {
         let call = find_call(key)?;
         let id = MetricId(self.state.made());
         self.log.reserve(1)?;
-        let numbers = self.symbols.intern(alloc, name.name.bytes())?.into_numbers();
+        let numbers = self
+            .symbols
+            .intern(alloc, name.name.bytes())?
+            .into_numbers();
         let reply = Reply::Made { id, numbers };
         let entry = Entry { seat, call, reply };
         make_or_drop(

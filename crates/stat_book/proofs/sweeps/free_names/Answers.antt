@@ -34,4 +34,3 @@ drop_numbers-requires c = λ n.
     taken_next rows ids i d c.loop-id-test.true ∙ ap (λ (l : List ℕ). numbers_of_all rows (take i ids) ++ l) (sym numbers) in
     let sum = ap (times n) next ∙ times_append n (numbers_of_all rows (take i ids)) c.items.result.now in
     omega (arith, c.requires.used n, taken_few rows ids (i + 1) n, c.loop-id.invariant.uses n, sum)
-
