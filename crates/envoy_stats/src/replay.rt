@@ -4,7 +4,7 @@ ghost use Rattle.boot_load.specs.declared.fault.LoadFault.TheVariants as unloade
 ghost use Rattle.envoy_stats.specs.Command.{IsReplay, IsCommand};
 ghost use Rattle.envoy_stats.specs.World.{world, sight};
 ghost use Rattle.envoy_stats.specs.FaultLines.{out_of_memory};
-ghost use Rattle.envoy_stats.specs.Outcome.{IsSaid, IsRefused, Replays, IsCall, status_of_boot};
+ghost use Rattle.envoy_stats.specs.Outcome.{IsSaid, IsRefused, Replays, status_of_boot};
 ghost use Rattle.envoy_stats.specs.Ready.{Finishes, RefusesBoot};
 ghost use Rattle.envoy_stats.specs.declared.command.TheConstants as limits;
 ghost use Rattle.envoy_stats.specs.declared.status.TheConstants as statuses;
@@ -189,9 +189,16 @@ pub fn quiet_stats<K: PatternMaker, F: Shelf, O: Sink, E: Sink>(
     out: &mut O,
     err: &mut E,
 ) -> Outcome
-    ensures call { IsCall (sight K.memory F.holds F.state F.S.state O.state E.state)
+    // Status 1 is that of words that are no command: such a call says so and changes nothing else.
+    ensures usage { (result.status ≡ statuses.NO_COMMAND) ↔ ¬ IsCommand (map string_bytes words.now) }
+    ensures refused { ¬ IsCommand (map string_bytes words.now) → (result.report ≡ None)
+        × IsRefused (sight K.memory F.holds F.state F.S.state O.state E.state)
+        (world maker.old shelf.old out.old err.old) (world maker.new shelf.new out.new err.new) }
+    // What was loaded, read, reported, written and said for a command.
+    ensures replayed { (boot : List ℕ) → (files : List (List ℕ)) → IsReplay (map string_bytes words.now) boot files
+        → Replays (sight K.memory F.holds F.state F.S.state O.state E.state)
         (world maker.old shelf.old out.old err.old) (world maker.new shelf.new out.new err.new)
-        (map string_bytes words.now) result.status result.report }
+        boot files result.status result.report }
 {
     quiet_stats_with(alloc, HashKey::fixed(), words, maker, shelf, out, err)
 }
