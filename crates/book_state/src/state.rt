@@ -52,8 +52,15 @@ impl Model for BookState {
 }
 
 impl BookState {
-    /// The state before the first entry. Its tables are hashed under the key.
-    pub fn new(
+    /// The state before the first entry. Its tables are hashed under the fixed key.
+    pub fn new(alloc: Global, rules: TagRules, workers: u32) -> Result<BookState, NoMemory>
+        ensures { IfOk result (λ state. state ≡ record { tags = rules; state = empty workers; released = [] }) }
+    {
+        BookState::with_key(alloc, HashKey::fixed(), rules, workers)
+    }
+
+    /// The same, its tables hashed under this key.
+    pub fn with_key(
         alloc: Global,
         key: HashKey,
         rules: TagRules,

@@ -65,8 +65,25 @@ impl Booked for Book {
 
 impl Book {
     /// A book in which the store's seat has opened the configuration's scopes. The rules and the matcher are those that
-    /// were built from the configuration, and the book's tables are hashed under the key.
+    /// were built from the configuration. Its tables are hashed under the fixed key.
     pub fn new(
+        alloc: Global,
+        config: &Config,
+        rules: TagRules,
+        matcher: Matcher,
+        workers: u32,
+    ) -> Result<Book, NoMemory>
+        requires config { IsConfig config.now }
+        requires rules { rules ≡ config.now.tags }
+        requires matcher { matcher ≡ config.now.matcher }
+        requires workers { (1 ≤ workers) × (workers ≤ MAX_WORKERS) }
+        ensures { IfOk result (λ book. book ≡ new_book config.now workers) }
+    {
+        Book::with_key(alloc, HashKey::fixed(), config, rules, matcher, workers)
+    }
+
+    /// The same, its tables hashed under this key.
+    pub fn with_key(
         alloc: Global,
         key: HashKey,
         config: &Config,
@@ -80,7 +97,7 @@ impl Book {
         requires workers { (1 ≤ workers) × (workers ≤ MAX_WORKERS) }
         ensures { IfOk result (λ book. book ≡ new_book config.now workers) }
     {
-        let mut state = BookState::new(alloc, key, rules, workers)?;
+        let mut state = BookState::with_key(alloc, key, rules, workers)?;
         let mut log = Vec::new(alloc);
         for scope in config.scopes.items() {
             open_first(alloc, &mut state, &mut log, scope)?;
@@ -89,7 +106,7 @@ impl Book {
             matcher,
             workers,
             state,
-            symbols: SymbolTable::new(alloc, key),
+            symbols: SymbolTable::with_key(alloc, key),
             log,
             config: GhostList::new().and(config),
         })

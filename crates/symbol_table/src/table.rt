@@ -47,8 +47,17 @@ impl Model for SymbolTable {
 }
 
 impl SymbolTable {
-    /// A table without tokens, which is hashed under this key.
-    pub fn new(alloc: Global, key: HashKey) -> SymbolTable
+    /// A table without tokens, hashed under the fixed key.
+    pub fn new(alloc: Global) -> SymbolTable
+        ensures empty { result ≡ map.empty }
+        ensures total { total result ≡ 0 }
+        ensures table { IsTable result }
+    {
+        SymbolTable::with_key(alloc, HashKey::fixed())
+    }
+
+    /// The same under this key.
+    pub fn with_key(alloc: Global, key: HashKey) -> SymbolTable
         ensures empty { result ≡ map.empty }
         ensures total { total result ≡ 0 }
         ensures table { IsTable result }

@@ -6,7 +6,7 @@ use std::test::Fail;
 
 #[test]
 fn draws_a_free_number_again(rt: HostRuntime) -> Result<(), Fail> {
-    let mut table = SymbolTable::new(rt.alloc(), HashKey::fixed());
+    let mut table = SymbolTable::with_key(rt.alloc(), HashKey::of(7));
     let first = table.intern(rt.alloc(), b"a.b")?;
     let second = table.intern(rt.alloc(), b"b.c")?;
     assert_eq!(rt; first.symbols(), [1, 2].as_slice());
@@ -21,7 +21,7 @@ fn draws_a_free_number_again(rt: HostRuntime) -> Result<(), Fail> {
 
 #[test]
 fn keeps_a_held_name(rt: HostRuntime) -> Result<(), Fail> {
-    let mut table = SymbolTable::new(rt.alloc(), HashKey::fixed());
+    let mut table = SymbolTable::new(rt.alloc());
     let name = table.intern(rt.alloc(), b"b.c")?;
     table.hold(&name);
     table.drop_name(&name);

@@ -14,8 +14,8 @@ use Rattle.stat_book.specs.Appending.{first_entry}
 use Rattle.stat_book.specs.Calls.{new_book}
 use Rattle.stat_book.specs.BookKept.{config_of, IsKept}
 use Rattle.stat_book.proofs.First.{first_state, first_count, first_free, first_log, first_step, first_kept, other_labels, no_uses, taken_over}
-use Rattle.stat_book.proofs.book.Book.new.Goals as goal
-use Rattle.stat_book.proofs.book.Book.new.Goals.{After-and}
+use Rattle.stat_book.proofs.book.Book.with_key.Goals as goal
+use Rattle.stat_book.proofs.book.Book.with_key.Goals.{After-and}
 
 pub open_first-requires-clause-free : goal.open_first-requires-clause-free
 open_first-requires-clause-free c =
@@ -57,7 +57,7 @@ pub loop-scope-init : goal.loop-scope-init
 loop-scope-init c = record { opened = c.in_ok-state.ensures ∙ ap (λ tags. first_state tags c.args.workers []) c.requires.rules; logged = c.new-log.ensures.items }
 
 config_is : (c : After-and) → config_of c.and.result.items ≡ c.args.config.now
-config_is c = ap config_of (c.and.ensures ∙ ap (λ (l : List Config). l ++ c.args.config.now ∷ []) c.new-3.ensures)
+config_is c = ap config_of (c.and.ensures ∙ ap (λ (l : List Config). l ++ c.args.config.now ∷ []) c.new.ensures)
 
 whole : (c : After-and) → take c.loop-scope.scope-index c.args.config.now.scopes ≡ c.args.config.now.scopes
 whole c = taken_over c.loop-scope.scope-index c.args.config.now.scopes (omega (arith, ap length c.items-scope-items.ensures, c.loop-scope-test.false))
@@ -72,10 +72,10 @@ invariant_of-result c =
     let config = c.args.config.now in
     record {
       matcher = c.requires.matcher ∙ ap (λ (config : Config). config.matcher) (sym (config_is c));
-      book = subst (λ (book : BookHistory). IsKept book c.loop-scope.state c.new-2.result) (sym (book_is c))
+      book = subst (λ (book : BookHistory). IsKept book c.loop-scope.state c.with_key-2.result) (sym (book_is c))
           (first_kept config c.args.workers c.requires.config c.requires.workers.0 c.requires.workers.1 c.loop-scope.state
-          (c.loop-scope.invariant.opened ∙ ap (first_state config.tags c.args.workers) (whole c)) c.new-2.result
-          (no_uses c.new-2.result c.new-2.ensures.empty c.new-2.ensures.table) c.new-2.ensures.total);
+          (c.loop-scope.invariant.opened ∙ ap (first_state config.tags c.args.workers) (whole c)) c.with_key-2.result
+          (no_uses c.with_key-2.result c.with_key-2.ensures.empty c.with_key-2.ensures.table) c.with_key-2.ensures.total);
     }
 
 pub returns : goal.returns

@@ -1,7 +1,7 @@
 use Rattle.std.proofs.Common.{refl}
 use Rattle.symbol_table.specs.declared.table.SymbolTable.TheInside.{Inside}
 use Rattle.symbol_table.proofs.Whole.{empty_kept, total_empty, is_table}
-use Rattle.symbol_table.proofs.table.SymbolTable.new.Goals as goal
+use Rattle.symbol_table.proofs.table.SymbolTable.with_key.Goals as goal
 
 pub invariant_of-result : goal.invariant_of-result
 invariant_of-result c = empty_kept _ c.new.ensures.items c.name_map.ensures.empty refl refl

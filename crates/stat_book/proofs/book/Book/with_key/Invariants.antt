@@ -1,7 +1,7 @@
 use Rattle.std.proofs.Common.{◌≡◌, take}
 use Rattle.book_state.specs.Log.{openings}
 use Rattle.stat_book.proofs.First.{first_state}
-use Rattle.stat_book.proofs.book.Book.new.Given as goal
+use Rattle.stat_book.proofs.book.Book.with_key.Given as goal
 
 abbrev pub invariant-loop-scope : goal.invariant-loop-scope
 invariant-loop-scope l = record {

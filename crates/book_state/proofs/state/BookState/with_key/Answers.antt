@@ -1,5 +1,5 @@
 use Rattle.book_state.proofs.Naming.{empty_stored}
-use Rattle.book_state.proofs.state.BookState.new.Goals as goal
+use Rattle.book_state.proofs.state.BookState.with_key.Goals as goal
 
 pub invariant_of-result : goal.invariant_of-result
 invariant_of-result c =
