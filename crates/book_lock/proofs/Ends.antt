@@ -68,6 +68,6 @@ module _ {B : Type 0} (history_of : B → BookHistory) (first : BookHistory) (se
   last-book parts slots x book e is t = let same : t.0 ≡ book = ap (book-in t.0) (sym (taken-last parts slots x e t) ∙ is) in subst (λ (z : B). IsOneHistory first seats parts (history_of z)) same t.1.1
 
   -- the parts of all seats, none of which has the book
-  pub all-ends : (id : ℕ) (v : View) (words : List ℕ) (slots : List (Option B)) (lock : TableId) (list : List (LockSeat B)) → Final (Seen L id v) words slots → v.parts ≡ map seat_part list → All (AtRest lock) list → length list ≡ seats
+  pub all-ends : {C : Type 0} (id : ℕ) (v : View) (words : List ℕ) (slots : List (Option B)) (lock : TableId) (list : List (LockSeat C)) → Final (Seen L id v) words slots → v.parts ≡ map seat_part list → All (AtRest lock) list → length list ≡ seats
       → (book : B) × LastBook v.parts slots book
   all-ends id v words slots lock list final is rest all = ends id v words slots final (ap length is ∙ (length-map list seat_part ∙ all)) (ap (total holding) is ∙ none-hold lock list rest)

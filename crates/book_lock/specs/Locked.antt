@@ -21,6 +21,7 @@
 -- A split or a join moves parts from view to view, and no sum over all parts and no fact of each part can
 -- tell.
 use Rattle.std.specs.Prelude.{◌≡◌, ◌≢◌, ℕ, zero, suc, ◌<◌, ◌≤◌, Bool, true, false, ◌==◌, List, [], ◌∷◌, length, slice_index, Option, Some}
+use Rattle.std.specs.declared.boxed.Box.{Box}
 use mathlib.Core.Option.{some}
 use lib.ListN.{get_elem?}
 use Rattle.atomic_table.specs.Table.{State, Me, Step, rest}
@@ -52,6 +53,10 @@ pub record FitsLock (first : BookHistory) (seats : ℕ) (log : List Entry) (p : 
   pub number : p.number < seats
   pub history : SeatHistory first log p
   pub current : p.holds ≡ true → p.known ≡ log
+
+-- the history of a book in a box, as it lies in the slot
+abbrev pub in_box : {B A : Type 0} → (B → BookHistory) → Box B A → BookHistory
+in_box history_of boxed = history_of boxed.value
 
 pub record Locked {B : Type 0} (history_of : B → BookHistory) (first : BookHistory) (seats : ℕ) (s : State (Option B) View) : Type 0 where
   pub log : List Entry

@@ -5,6 +5,7 @@ use Rattle.stat_defs.specs.Books.{BookHistory}
 use Rattle.book_lock.specs.declared.view.LockPart.{LockPart}
 use Rattle.book_lock.specs.declared.lock.BookLock.{BookLock}
 use Rattle.book_lock.specs.declared.lock.LockSeat.{LockSeat}
+use Rattle.book_lock.specs.declared.held.Held as held_type
 use Rattle.book_lock.specs.declared.held.Try.{Try}
 use Rattle.book_lock.specs.declared.held.Try.TheVariants.{Held, Busy}
 use Rattle.book_lock.specs.Locked.{own_part, new_parts}
@@ -38,9 +39,13 @@ module _ {B : Type 0} where
   abbrev pub HasBook : TableId → LockSeat B → Type 0
   HasBook id s = (seat_lock s ≡ id) × (s.place.me.1 ≡ (0, None) ∷ []) × ((seat_part s).holds ≡ true)
 
+  -- the book in the hands of a seat
+  abbrev pub held_book : held_type.Held B → B
+  held_book held = held.book.value
+
   -- where a try got the book, a fact of the book, and else of the word that it found
   abbrev pub OnHeld : Try B → (B → Type 0) → Type 0
-  OnHeld (Held held) P = P held.book
+  OnHeld (Held held) P = P (held_book held)
   OnHeld (Busy word) P = Unit {0}
 
   abbrev pub OnBusy : Try B → (ℕ → Type 0) → Type 0

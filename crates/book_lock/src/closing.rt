@@ -19,7 +19,7 @@ impl<B: Booked + Drop> BookLock<B> {
         let mut closed = table.close_with(all);
         let book = closed.take(0).unwrap();
         closed.free();
-        book
+        Box::into_inner(book)
     }
 
     // One seat that keeps the parts of all, in the order of the list.

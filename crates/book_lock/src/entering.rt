@@ -2,7 +2,7 @@
 //! memory.
 ghost use Rattle.std.specs.Prelude.{◌≡◌, ◌≤◌};
 ghost use Rattle.book_lock.specs.History.{Finds, MayLeave, Entered, took, missed, left, loaded};
-ghost use Rattle.book_lock.specs.Seats.{lock_id, seat_lock, seat_part, AtRest, HasBook, OnHeld, OnBusy};
+ghost use Rattle.book_lock.specs.Seats.{lock_id, seat_lock, seat_part, AtRest, HasBook, held_book, OnHeld, OnBusy};
 
 use crate::held::{Held, Try};
 use crate::lock::{BookLock, LockSeat};
@@ -31,8 +31,8 @@ impl<B: Booked + Drop> BookLock<B> {
     pub fn enter<R: Wait>(&self, rt: &R, seat: &mut LockSeat<B>) -> Held<B>
         requires { AtRest (lock_id self.now) seat.old }
         ensures seat { HasBook (lock_id self.now) seat.new }
-        ensures found { Finds (seat_part seat.old) (B.history result.book) }
-        ensures part { Entered (B.history result.book).log (seat_part seat.old) (seat_part seat.new) }
+        ensures found { Finds (seat_part seat.old) (B.history (held_book result)) }
+        ensures part { Entered (B.history (held_book result)).log (seat_part seat.old) (seat_part seat.new) }
     {
         let mut spins = SPINS;
         for _ in rt.forever() {
@@ -62,9 +62,9 @@ impl<B: Booked + Drop> BookLock<B> {
     /// Publishes the number of the book's releases, and gives the turn back with the book.
     pub fn leave(&self, seat: &mut LockSeat<B>, held: Held<B>)
         requires seat { HasBook (lock_id self.now) seat.old }
-        requires book { MayLeave (seat_part seat.old) (B.history held.book) }
+        requires book { MayLeave (seat_part seat.old) (B.history (held_book held)) }
         ensures seat { AtRest (lock_id self.now) seat.new }
-        ensures part { seat_part seat.new ≡ left (B.history held.book).log (seat_part seat.old) }
+        ensures part { seat_part seat.new ≡ left (B.history (held_book held)).log (seat_part seat.old) }
     {
         let Held { book } = held;
         steps::give(&self.table.shared, &mut seat.place, book);

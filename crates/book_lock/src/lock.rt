@@ -12,7 +12,7 @@ use std::alloc::Global;
 /// releases; the slot has the book while no seat does.
 #[derive(Drop)]
 pub struct BookLock<B: Booked> {
-    pub(crate) table: Table<Option<B>, LockView, LockKey<B>, Locking, Global>,
+    pub(crate) table: Table<Option<Box<B>>, LockView, LockKey<B>, Locking, Global>,
     ghost sized: { (table.shared.table_id.words ≡ 2) × (table.shared.table_id.slots ≡ 1) × (0 < table.shared.key.seats) },
 }
 

@@ -29,8 +29,9 @@ impl<B: Booked + Drop> BookLock<B> {
             seats: seats as u64,
         };
         let releases = book.releases();
+        let boxed = Box::new(alloc, book)?;
         let mut slots = Vec::with_capacity(alloc, 1)?;
-        slots.push_reserved(Some(book));
+        slots.push_reserved(Some(boxed));
         match Table::new(alloc, &[0, releases], slots, &key) {
             Ok((table, seat)) => {
                 let lock = BookLock { table };

@@ -6,33 +6,33 @@ use stat_defs::Booked;
 
 pub struct Locking;
 
-impl<B: Booked> TableRule<Option<B>, LockView, LockKey<B>> for Locking {
-    ghost use Rattle.book_lock.specs.Locked.{Locked, lock_view};
+impl<B: Booked> TableRule<Option<Box<B>>, LockView, LockKey<B>> for Locking {
+    ghost use Rattle.book_lock.specs.Locked.{Locked, in_box, lock_view};
 
-    ghost holds = { λ key. Locked B.history (B.history key.first.value) key.seats };
+    ghost holds = { λ key. Locked (in_box B.history) (B.history key.first.value) key.seats };
 
     ghost first = { λ key. lock_view (B.history key.first.value) key.seats };
 }
 
 pub(crate) struct Taking;
 
-impl<B: Booked> Play<Option<B>, LockView> for Taking {
-    ghost use Rattle.book_lock.specs.Locked.{Taken};
+impl<B: Booked> Play<Option<Box<B>>, LockView> for Taking {
+    ghost use Rattle.book_lock.specs.Locked.{Taken, in_box};
 
-    ghost then = { Taken B.history };
+    ghost then = { Taken (in_box B.history) };
 }
 
 pub(crate) struct Publishing;
 
-impl<B: Booked> Play<Option<B>, LockView> for Publishing {
-    ghost use Rattle.book_lock.specs.Locked.{Published};
+impl<B: Booked> Play<Option<Box<B>>, LockView> for Publishing {
+    ghost use Rattle.book_lock.specs.Locked.{Published, in_box};
 
-    ghost then = { Published B.history };
+    ghost then = { Published (in_box B.history) };
 }
 
 pub(crate) struct Giving;
 
-impl<B: Booked> Play<Option<B>, LockView> for Giving {
+impl<B: Booked> Play<Option<Box<B>>, LockView> for Giving {
     ghost use Rattle.book_lock.specs.Locked.{Given};
 
     ghost then = { Given };
@@ -40,7 +40,7 @@ impl<B: Booked> Play<Option<B>, LockView> for Giving {
 
 pub(crate) struct Loading;
 
-impl<B: Booked> Play<Option<B>, LockView> for Loading {
+impl<B: Booked> Play<Option<Box<B>>, LockView> for Loading {
     ghost use Rattle.book_lock.specs.Locked.{Loaded};
 
     ghost then = { Loaded };

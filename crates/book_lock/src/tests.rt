@@ -3,7 +3,7 @@ ghost use Rattle.stat_defs.specs.declared.history.Call.TheVariants as call;
 ghost use Rattle.stat_defs.specs.Books.{BookHistory};
 ghost use Rattle.book_lock.specs.History.{MayLeave};
 ghost use Rattle.book_lock.specs.Locked.{blank_config};
-ghost use Rattle.book_lock.specs.Seats.{lock_id, seats_of, seat_part, seat_number, AtRest, HasBook, AreNew};
+ghost use Rattle.book_lock.specs.Seats.{lock_id, seats_of, seat_part, seat_number, AtRest, HasBook, held_book, AreNew};
 
 use crate::fake_book::FakeBook;
 use crate::{BookLock, Held, LockSeat, Try};
@@ -47,9 +47,9 @@ fn add_and_leave(
     reply: Reply,
 ) -> Result<(), NoMemory>
     requires seat { HasBook (lock_id lock.now) seat.old × (seat_number seat.old ≡ number) }
-    requires book { MayLeave (seat_part seat.old) (record { config = blank_config; workers = 4; log = held.book.entries.items }) }
+    requires book { MayLeave (seat_part seat.old) (record { config = blank_config; workers = 4; log = (held_book held).entries.items }) }
     ensures seat { AtRest (lock_id lock.now) seat.new × (seat_number seat.new ≡ number) }
-    ensures made { (seat_part seat.old).known ≡ held.book.entries.items → MatchResult result (λ _. (seat_part seat.new).made ≡ (seat_part seat.old).made ++ (record { seat = number; call = call.Ack; reply = reply }) ∷ []) (λ _. (seat_part seat.new).made ≡ (seat_part seat.old).made) }
+    ensures made { (seat_part seat.old).known ≡ (held_book held).entries.items → MatchResult result (λ _. (seat_part seat.new).made ≡ (seat_part seat.old).made ++ (record { seat = number; call = call.Ack; reply = reply }) ∷ []) (λ _. (seat_part seat.new).made ≡ (seat_part seat.old).made) }
 {
     let added = held.book().add(entry_of(number, reply));
     lock.leave(seat, held);

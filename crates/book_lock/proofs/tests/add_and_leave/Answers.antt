@@ -13,4 +13,4 @@ pub leave-requires-clause-book : goal.leave-requires-clause-book
 unfolding history
 leave-requires-clause-book c = let new = c.add-added.new.self in
     let a = added c.add-added.result _ c.book.result.now.entries.items new.entries.items c.add-added.ensures in
-    leaves-more (seat_part c.args.seat.now) (history c.args.held.book) (history new) a.0 c.requires.book refl refl (a.1 ∙ ap (λ b. b.entries.items ++ a.0) c.book.ensures.value) (a.2 _ (ap (λ e. e.seat) c.entry_of.ensures ∙ sym c.requires.seat.1))
+    leaves-more (seat_part c.args.seat.now) (history c.args.held.book.value) (history new) a.0 c.requires.book refl refl (a.1 ∙ ap (λ b. b.entries.items ++ a.0) c.book.ensures.value) (a.2 _ (ap (λ e. e.seat) c.entry_of.ensures ∙ sym c.requires.seat.1))

@@ -1,12 +1,12 @@
 use Rattle.std.proofs.Common.{rules, arith, ap, sym, subst, ◌≡◌, ◌∙◌, ◌+◌, ◌-◌, map, All}
 use Rattle.std.proofs.lemmas.List.Elements.{All-push}
-use Rattle.book_lock.specs.Locked.{new_parts}
+use Rattle.book_lock.specs.Locked.{in_box, new_parts}
 use Rattle.book_lock.specs.Seats.{AtRest, lock_id, first_book, seat_part}
 use Rattle.book_lock.proofs.Deals.{splits, cut, last-part, part-of, parts-push}
 use Rattle.book_lock.proofs.lock.BookLock.deal.Goals as goal
 
 pub split_seat-requires : goal.split_seat-requires
-split_seat-requires g c = (search rules, search rules, splits g.B.Booked.history _ _ _ _)
+split_seat-requires g c = (search rules, search rules, splits (in_box g.B.Booked.history) _ _ _ _)
 
 pub invariant_of-push : goal.invariant_of-push
 invariant_of-push g c = let n = c.loop.counter in let w = c.args.seats in let first = g.B.Booked.history (first_book c.args.self.now) in
