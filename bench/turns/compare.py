@@ -18,7 +18,7 @@ OURS = TOP / "crates/turns_bench/out/turns_bench"
 PLAIN = TOP / "bench/turns/target/release/turns"
 POLLS, ROUNDS = 100_000_000, 4_000_000
 SHARED = {"asked": POLLS, "exchange": ROUNDS}
-PLAIN_ONLY = {"phase": ROUNDS}
+PLAIN_ONLY = {"bare": POLLS, "phase": ROUNDS}
 LIMIT = {"asked": 1.2}
 
 

@@ -9,9 +9,9 @@ const COUNTED: u32 = 1_000;
 const TIMED: u32 = 4_000_000;
 const TIMED_POLLS: u32 = 100_000_000;
 
-/// Loads of two words, each of which says which one is loaded next.
+/// Loads of two words, each in memory of its own, as a cell's is. Each load says which one comes next.
 #[inline(never)]
-fn follow(words: &[AtomicU64; 2], times: u32) -> usize {
+fn follow(words: &[Box<AtomicU64>], times: u32) -> usize {
     let mut at = 0;
     for _ in 0..times {
         at = (words[at].load(SeqCst) == 1) as usize;
@@ -20,8 +20,22 @@ fn follow(words: &[AtomicU64; 2], times: u32) -> usize {
 }
 
 fn poll_often(times: u32) -> usize {
+    follow(&black_box(vec![Box::default(), Box::default()]), times)
+}
+
+/// The same of two words side by side, which no pointer stands before.
+#[inline(never)]
+fn follow_bare(words: &[AtomicU64; 2], times: u32) -> usize {
+    let mut at = 0;
+    for _ in 0..times {
+        at = (words[at].load(SeqCst) == 1) as usize;
+    }
+    at
+}
+
+fn load_often(times: u32) -> usize {
     let words: Box<[AtomicU64; 2]> = black_box(Box::default());
-    follow(&words, times)
+    follow_bare(&words, times)
 }
 
 /// Two boxes that a worker and a flusher exchange through one pointer, in one thread. The result is the rounds that were made.
@@ -81,20 +95,27 @@ fn main() {
     let Some(word) = word.as_deref() else {
         println!("asked: cell {}", poll_often(COUNTED));
         println!("a turn and a take: {}", exchange_often(COUNTED));
+        println!("asked, no pointer before the word: cell {}", load_often(COUNTED));
         println!("a turn and a take by a phase word: {}", exchange_by_phase_often(COUNTED));
         return;
     };
-    if word != "exchange" && word != "phase" {
+    let time = |measure: &str| word == "time" || word == measure;
+    if time("asked") {
         let start = Instant::now();
         black_box(poll_often(TIMED_POLLS));
         println!("asked: {:.3} ns", per_call(start, TIMED_POLLS));
     }
-    if word != "asked" && word != "phase" {
+    if time("exchange") {
         let start = Instant::now();
         black_box(exchange_often(TIMED));
         println!("a turn and a take: {:.3} ns", per_call(start, TIMED));
     }
-    if word != "asked" && word != "exchange" {
+    if time("bare") {
+        let start = Instant::now();
+        black_box(load_often(TIMED_POLLS));
+        println!("asked, no pointer before the word: {:.3} ns", per_call(start, TIMED_POLLS));
+    }
+    if time("phase") {
         let start = Instant::now();
         black_box(exchange_by_phase_often(TIMED));
         println!("a turn and a take by a phase word: {:.3} ns", per_call(start, TIMED));
