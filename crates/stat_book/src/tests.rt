@@ -176,13 +176,7 @@ fn has_room(book: &Book, seat: u32) -> bool
 }
 
 #[tactic(auto, using(crate::proofs::Freedom::may_find))]
-fn find(
-    rt: &impl Abort,
-    alloc: Global,
-    book: &mut Book,
-    seat: u32,
-    key: &Key,
-) -> Result<(), Fail>
+fn find(rt: &impl Abort, alloc: Global, book: &mut Book, seat: u32, key: &Key) -> Result<(), Fail>
     requires { book.old.workers ≡ 2 }
     ensures { OnOk result (book.new.workers ≡ 2) }
 {
