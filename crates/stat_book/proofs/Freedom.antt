@@ -25,7 +25,8 @@ use Rattle.book_state.proofs.Lists.{eq_or, true_false, get_change_same, get_chan
 use Rattle.book_state.proofs.Growing.{same_seats}
 use Rattle.book_state.proofs.SeatStays.{may_ack as acks}
 use Rattle.stat_book.specs.Calls.{rules_of, state_of, openings_by, is_opening}
-use Rattle.stat_book.specs.Free.{is_end, uses_key, has_ended, has_used}
+use Rattle.book_state.specs.SeatLaws.{is_end}
+use Rattle.stat_book.specs.Free.{uses_key, has_ended, has_used}
 use Rattle.stat_book.proofs.CallerLemmas.{replicated}
 
 other_seat : (a b : ℕ) (t : Bool) → a ≡ b → (a == b && t) ≡ false → t ≡ false

@@ -2,8 +2,6 @@
 use Rattle.std.specs.Prelude.{[], ◌∷◌, codes}
 use Rattle.stat_defs.specs.declared.configs.Config.{Config}
 use Rattle.stat_defs.specs.declared.configs.MatchSpec.{MatchSpec}
-use Rattle.stat_defs.specs.declared.configs.MatchSpec.TheVariants.{Include}
-use Rattle.stat_defs.specs.declared.configs.Pattern.TheVariants.{Prefix}
 
 abbrev pub tried_config : MatchSpec → Config
 tried_config matcher = record {
@@ -17,7 +15,3 @@ tried_config matcher = record {
   flush_every = 1000;
   reads = 0;
 }
-
--- full names that begin so are admitted
-abbrev pub tried_matcher : MatchSpec
-tried_matcher = Include (Prefix (codes "cluster.") ∷ [])

@@ -8,14 +8,15 @@ ghost use Rattle.stat_defs.specs.Keys.{same_key};
 ghost use Rattle.book_state.specs.declared.limits.TheConstants.{MAX_OPENINGS};
 ghost use Rattle.book_state.specs.Step.{Working, Works};
 ghost use Rattle.stat_book.specs.Calls.{state_of, openings_by};
-ghost use Rattle.stat_book.specs.Free.{has_ended, has_used, is_end, uses_key};
+ghost use Rattle.book_state.specs.SeatLaws.{is_end};
+ghost use Rattle.stat_book.specs.Free.{has_ended, has_used, uses_key};
 ghost use Rattle.stat_book.specs.Tried.{tried_config};
 
 use crate::Book;
 use name_map::HashKey;
 use stat_defs::{
     Call, Config, Entry, Key, Kind, Life, List, MAX_NAME_BYTES, MatchSpec, MetricId, Mode,
-    NoMemory, Pattern, Reply, ScopeSpec, Txt, Verdict, is_name_byte,
+    NoMemory, Reply, ScopeSpec, Txt, Verdict, is_name_byte,
 };
 use std::alloc::Global;
 use std::process::Abort;
@@ -62,14 +63,6 @@ fn book(alloc: Global, matcher: MatchSpec) -> Result<Book, Fail>
 {
     let config = config(alloc, matcher)?;
     book_of(alloc, &config)
-}
-
-#[tactic(auto, using(crate::proofs::TriedConfig::lawful_matcher))]
-fn clusters(alloc: Global) -> Result<MatchSpec, NoMemory>
-    ensures { IfOk result IsMatchSpec }
-{
-    let prefix = Pattern::Prefix(Txt::of(alloc, b"cluster.")?);
-    Ok(MatchSpec::Include(List::of(vec![in alloc; prefix]?)))
 }
 
 fn has_name_bytes(text: &[u8]) -> bool
@@ -474,14 +467,9 @@ fn keeps_the_first_mode(rt: HostRuntime) -> Result<(), Fail> {
 #[test]
 fn rejects_a_name(rt: HostRuntime) -> Result<(), Fail> {
     let alloc = rt.alloc();
-    let mut book = book(alloc, clusters(alloc)?)?;
-    let text = play(
-        &rt,
-        alloc,
-        &mut book,
-        "1 counter root cluster.x\n1 counter root server.y",
-    )?;
-    assert_eq!(rt; text.as_str(), "made 0: 1 2\nrejected\n");
+    let mut book = book(alloc, MatchSpec::RejectAll)?;
+    let text = play(&rt, alloc, &mut book, "1 counter root x\n1 counter none y")?;
+    assert_eq!(rt; text.as_str(), "rejected\nno scope\n");
     Ok(())
 }
 
