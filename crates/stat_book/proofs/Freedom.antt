@@ -4,6 +4,7 @@ use Rattle.std.specs.List.{list_any}
 use Rattle.std.specs.Option.{IsSomeAnd, option_map, option_or}
 use Rattle.std.proofs.lemmas.Bool.Decides.{Decides-eqb, nat_tests}
 use Rattle.std.proofs.lemmas.List.Folds.{find-append}
+use Rattle.std.proofs.lemmas.List.Sums.{count_by-le-length}
 use Rattle.stat_defs.specs.Books.{BookHistory}
 use Rattle.stat_defs.specs.Keys.{Held, held_under, same_key}
 use Rattle.stat_defs.specs.declared.events.Key.{Key}
@@ -18,10 +19,14 @@ use Rattle.book_state.specs.State.{NameRules, Seat, State, seat_of}
 use Rattle.book_state.specs.Finding.{scope_of}
 use Rattle.book_state.specs.Step.{effect, change_at, on_seat, on_metric, found, made, hold, acknowledged, ended, is_live, Working, Works}
 use Rattle.book_state.specs.Log.{empty, replay_from}
+use Rattle.book_state.specs.Follows.{tag_of}
+use Rattle.book_state.specs.declared.limits.TheConstants.{MAX_OPENINGS}
 use Rattle.book_state.proofs.Lists.{eq_or, true_false, get_change_same, get_change_other}
 use Rattle.book_state.proofs.Growing.{same_seats}
-use Rattle.stat_book.specs.Calls.{rules_of, state_of}
-use Rattle.stat_book.specs.Free.{is_end, uses_key, has_ended, has_used}
+use Rattle.book_state.proofs.SeatStays.{may_ack as acks}
+use Rattle.stat_book.specs.Calls.{rules_of, state_of, openings_by, is_opening}
+use Rattle.book_state.specs.SeatLaws.{is_end}
+use Rattle.stat_book.specs.Free.{uses_key, has_ended, has_used}
 use Rattle.stat_book.proofs.CallerLemmas.{replicated}
 
 other_seat : (a b : ℕ) (t : Bool) → a ≡ b → (a == b && t) ≡ false → t ≡ false
@@ -134,3 +139,11 @@ may_find book seat key some few un =
 
 pub may_call : (book : BookHistory) (seat : ℕ) → 1 ≤ seat → seat ≤ book.workers → has_ended seat book.log ≡ false → Works (state_of book) seat
 may_call book seat some few un = book_free (λ held. Unit {0}) is_end refl (λ other scope v held differs may. may) (λ q held may. may) book seat tt some few un
+
+pub may_ack : (book : BookHistory) (seat : ℕ) → Works (state_of book) seat → tag_of (state_of book) seat < (state_of book).releases
+    → Working (state_of book) seat (λ row. row.tag < (state_of book).releases)
+may_ack book seat works due = acks (state_of book) seat works due
+
+-- a short log has few openings
+pub few_opened : (seat : ℕ) (log : List Entry) → length log < 1000 → openings_by seat log < MAX_OPENINGS
+few_opened seat log few = omega (arith, few, count_by-le-length (λ (entry : Entry). is_opening entry.call && entry.seat == seat) log)

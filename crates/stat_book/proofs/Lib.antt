@@ -8,4 +8,6 @@ mod Making
 mod Freeing
 mod SweptNames
 mod Freedom
+mod SameKeys
+mod TriedConfig
 pub mod CallerLemmas

@@ -6,10 +6,7 @@ use Rattle.stat_defs.specs.declared.events.Key.{Key}
 use Rattle.stat_defs.specs.declared.history.Call.{Call}
 use Rattle.stat_defs.specs.declared.history.Call.TheVariants as call
 use Rattle.stat_defs.specs.declared.history.Entry.{Entry}
-
-abbrev pub is_end : Call → Bool
-is_end call.End = true
-is_end _ = false
+use Rattle.book_state.specs.SeatLaws.{is_end}
 
 -- it ends a seat, or finds this key for it
 abbrev pub uses_key : Key → Call → Bool

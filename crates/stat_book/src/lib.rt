@@ -8,3 +8,6 @@ mod sweeps;
 
 pub use book::Book;
 pub use laws::thread_law;
+
+#[cfg(test)]
+mod tests;
