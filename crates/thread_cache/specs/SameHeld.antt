@@ -25,3 +25,7 @@ DropIsAcknowledgement = (cached left held : List Held) (released : List ScopeId)
     → SameHeld cached held → HasDifferentKeys held
     → All (λ one. stays one ≡ not (is_of released one)) held
     → ((key : Key) → held_under key left ≡ held_without released (held_under key cached)) → SameHeld left (filter stays held)
+
+-- an end: the seat holds nothing, and a cache without entries gives the same
+abbrev pub EndIsEmpty : Type 0
+EndIsEmpty = (cached : List Held) → ((key : Key) → held_under key cached ≡ None) → SameHeld cached []

@@ -15,5 +15,5 @@ mod table;
 mod tests;
 
 pub use cache::Cache;
-pub use laws::{a_drop_is_an_acknowledgement, a_fill_is_a_find};
+pub use laws::{a_drop_is_an_acknowledgement, a_fill_is_a_find, an_end_is_an_empty_cache};
 pub use query::Query;
