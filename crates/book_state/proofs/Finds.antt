@@ -4,7 +4,6 @@ use Rattle.std.proofs.lemmas.Bool.Decides.{nat_tests}
 use Rattle.std.proofs.lemmas.List.{length-append}
 use Rattle.std.specs.Option.{option_map, option_map_or}
 use Rattle.stat_defs.specs.declared.ids.Kind.{Kind}
-use Rattle.stat_defs.specs.declared.ids.Kind.TheVariants.{Counter, Gauge, Histogram, Text}
 use Rattle.stat_defs.specs.declared.ids.Mode.{Mode}
 use Rattle.stat_defs.specs.declared.ids.MetricId.{MetricId}
 use Rattle.stat_defs.specs.declared.events.Key.{Key}
@@ -13,6 +12,7 @@ use Rattle.stat_defs.specs.declared.history.Reply.TheVariants as reply
 use Rattle.stat_defs.specs.declared.history.Verdict.{Verdict}
 use Rattle.stat_defs.specs.declared.history.Verdict.TheVariants as verdict
 use Rattle.stat_defs.specs.Names.{tokens}
+use Rattle.stat_defs.proofs.KeyLemmas.{same_kind-is}
 use Rattle.symbol_table.specs.Drawing.{DrawsAll}
 use Rattle.symbol_table.proofs.DrawingLemmas.{drawn_length}
 use Rattle.book_state.specs.declared.limits.TheConstants.{MAX_METRICS}
@@ -30,13 +30,6 @@ use Rattle.book_state.proofs.Moves.{same_goes, same_grows, same_keeps, live_with
 
 accepted_same : (a b : MetricId) → verdict.Accepted a ≡ verdict.Accepted b → a ≡ b
 accepted_same a b e = cc
-
-pub same_kind_is : (a b : Kind) → same_kind a b ≡ true → a ≡ b
-same_kind_is Counter Counter e = refl
-same_kind_is Gauge Gauge e = refl
-same_kind_is Histogram Histogram e = refl
-same_kind_is Text Text e = refl
-same_kind_is _ _ e = absurd (true_false (sym e))
 
 not_gone : (t : Bool) → not t ≡ true → t ≡ false
 not_gone true e = absurd (true_false (sym e))
@@ -66,7 +59,7 @@ known_at s kind name id e =
       row = got.1;
       at = ap (λ (i : ℕ). slice_get s.metrics i) place ∙ got.3;
       there = not_gone (is_gone got.1.metric.life) parts.0;
-      is_kind = sym (same_kind_is kind got.1.metric.kind (both (same_kind kind got.1.metric.kind) (same_text name got.1.metric.name) parts.1).0);
+      is_kind = sym (same_kind-is kind got.1.metric.kind (both (same_kind kind got.1.metric.kind) (same_text name got.1.metric.name) parts.1).0);
     }
 
 -- what the reply of a find tells

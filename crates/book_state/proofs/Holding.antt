@@ -15,14 +15,14 @@ use Rattle.stat_defs.specs.declared.history.Call.TheVariants as call
 use Rattle.stat_defs.specs.declared.history.Reply.{Reply}
 use Rattle.stat_defs.specs.declared.history.Reply.TheVariants as reply
 use Rattle.stat_defs.specs.declared.history.Entry.{Entry}
-use Rattle.stat_defs.specs.Keys.{Held, held_under, same_key}
+use Rattle.stat_defs.specs.Keys.{Held, held_under, same_key, HoldsOnce, is_through}
 use Rattle.book_state.specs.State.{NameRules, Scope, Row, Seat, State, live_scope, known, seat_of}
 use Rattle.book_state.specs.Finding.{first_case, scope_of, name_of, is_full, is_over_limit}
 use Rattle.book_state.specs.Step.{effect, change_at, on_seat, is_live, closed, hold, acknowledged, ended, Working, Allowed, Tells}
 use Rattle.book_state.specs.Log.{empty, replay_from, replay, Run, held_by}
 use Rattle.book_state.specs.Follows.{tag_of}
 use Rattle.book_state.specs.Stored.{released_by, released_in}
-use Rattle.book_state.specs.SeatLaws.{HoldsOnce, is_through, unacknowledged}
+use Rattle.book_state.specs.SeatLaws.{unacknowledged}
 use Rattle.book_state.proofs.Lists.{eq_or, not_some, some_at, true_false, not_true, get_push_last, length-change_at}
 use Rattle.book_state.proofs.Members.{change_some, push_some, filter_some, any_push, one_of, all_each}
 use Rattle.book_state.proofs.Moves.{live_within, live_pushed, live_other, live_closed}

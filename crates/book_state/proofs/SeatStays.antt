@@ -21,7 +21,7 @@ use Rattle.book_state.specs.Follows.{tag_of}
 use Rattle.book_state.specs.SeatLaws.{is_end, is_ack, is_release}
 use Rattle.book_state.proofs.Lists.{eq_or, not_some, some_same, true_false, both}
 use Rattle.book_state.proofs.Members.{any_push}
-use Rattle.book_state.proofs.Finds.{same_kind_is}
+use Rattle.stat_defs.proofs.KeyLemmas.{same_kind-is}
 use Rattle.book_state.proofs.Growing.{same_seats, on_other, left_seat, releases_of}
 use Rattle.book_state.proofs.OwnCalls.{at_seat}
 
@@ -164,7 +164,7 @@ text_held id key h (x ∷ held) found told kind = by_key (same_key x.key key) re
       → list_any (λ y. accepts id.0 y.verdict && same_kind y.key.kind Text) (x ∷ held) ≡ true
   by_key true is this rest =
       let parts = both (same_text x.key.label key.label) (same_kind x.key.kind key.kind && (same_mode x.key.mode key.mode && same_text x.key.name key.name)) is in
-      let kinds = same_kind_is x.key.kind key.kind (both (same_kind x.key.kind key.kind) (same_mode x.key.mode key.mode && same_text x.key.name key.name) parts.1).0 in
+      let kinds = same_kind-is x.key.kind key.kind (both (same_kind x.key.kind key.kind) (same_mode x.key.mode key.mode && same_text x.key.name key.name) parts.1).0 in
       any_here (λ y. accepts id.0 y.verdict && same_kind y.key.kind Text) x held (is_text id x (ap (λ (y : Held). y.verdict) (some_same x h this) ∙ told) (kinds ∙ kind))
   by_key false is later rest = any_later (accepts id.0 x.verdict && same_kind x.key.kind Text) (list_any (λ y. accepts id.0 y.verdict && same_kind y.key.kind Text) held) (rest later)
 

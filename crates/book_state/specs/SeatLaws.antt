@@ -1,7 +1,6 @@
 -- What a seat's own calls leave with it, and what every legal log keeps of its seats. This project's own.
 use Rattle.std.specs.Prelude.{◌≡◌, ◌≤◌, ◌<◌, ℕ, ◌==◌, ◌&&◌, if◌then◌else◌, Bool, true, false, not, Some, None, IsNone, List, [], ◌∷◌, ◌++◌, filter, drop, All}
-use Rattle.std.specs.List.{list_any, IsDistinct}
-use Rattle.stat_defs.specs.Keys.{Held, held_under, same_key}
+use Rattle.stat_defs.specs.Keys.{Held, held_under, HoldsOnce, is_through}
 use Rattle.stat_defs.specs.declared.ids.Kind.TheVariants.{Text}
 use Rattle.stat_defs.specs.declared.ids.MetricId.{MetricId}
 use Rattle.stat_defs.specs.declared.ids.ScopeId.{ScopeId}
@@ -93,14 +92,6 @@ pub record MayCall : Type 0 where
       → h.verdict ≡ verdict.Accepted id → key.kind ≡ Text → Working s seat (λ row. holds_text id.0 row ≡ true)
   pub text_found : (s : State) (seat : ℕ) (held : List Held) (one : Held) (id : MetricId) → Works s seat → held_in s seat ≡ held ++ one ∷ []
       → one.verdict ≡ verdict.Accepted id → one.key.kind ≡ Text → Working s seat (λ row. holds_text id.0 row ≡ true)
-
--- no key is held twice
-abbrev pub HoldsOnce : List Held → Type 0
-HoldsOnce held = IsDistinct (λ one other. same_key one.key other.key) held
-
--- the scope of what is held is one of these
-abbrev pub is_through : List ScopeId → Held → Bool
-is_through scopes held = list_any (λ s. s.0 == held.scope) scopes
 
 -- the scopes that were released since the seat's last acknowledgement
 abbrev pub unacknowledged : NameRules → ℕ → ℕ → List Entry → List ScopeId

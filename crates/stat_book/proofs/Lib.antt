@@ -8,6 +8,5 @@ mod Making
 mod Freeing
 mod SweptNames
 mod Freedom
-mod SameKeys
 mod TriedConfig
 pub mod CallerLemmas

@@ -1,10 +1,12 @@
 -- Keys of metrics, and what a worker's seat holds under them (Envoy's design note on statistics: a thread's own cache).
-use Rattle.std.specs.Prelude.{ℕ, ◌&&◌, nat_eq, Bool, true, false, Option, List, find}
+use Rattle.std.specs.Prelude.{ℕ, ◌&&◌, ◌==◌, nat_eq, Bool, true, false, Option, List, find}
+use Rattle.std.specs.List.{list_any, IsDistinct}
 use Rattle.std.specs.Cmp.Lexicographic.{pointwise}
 use Rattle.stat_defs.specs.declared.ids.Kind.{Kind}
 use Rattle.stat_defs.specs.declared.ids.Kind.TheVariants.{Counter, Gauge, Histogram, Text}
 use Rattle.stat_defs.specs.declared.ids.Mode.{Mode}
 use Rattle.stat_defs.specs.declared.ids.Mode.TheVariants.{Uninit, Accumulate, Never}
+use Rattle.stat_defs.specs.declared.ids.ScopeId.{ScopeId}
 use Rattle.stat_defs.specs.declared.events.Key.{Key}
 use Rattle.stat_defs.specs.declared.history.Verdict.{Verdict}
 
@@ -35,3 +37,11 @@ pub record Held : Type 0 where
 
 abbrev pub held_under : Key → List Held → Option Held
 held_under key held = find (λ h. same_key h.key key) held
+
+-- no key is held twice
+abbrev pub HoldsOnce : List Held → Type 0
+HoldsOnce held = IsDistinct (λ one other. same_key one.key other.key) held
+
+-- the scope of what is held is one of these
+abbrev pub is_through : List ScopeId → Held → Bool
+is_through scopes held = list_any (λ s. s.0 == held.scope) scopes

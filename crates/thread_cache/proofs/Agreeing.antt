@@ -1,15 +1,14 @@
 -- A cache and what its seat holds change alike.
-use Rattle.std.proofs.Common.{◌≡◌, ◌++◌, Bool, true, false, cond, not, filter, find, if◌then◌else◌, Option, Some, None, List, [], ◌∷◌, All, refl, sym, ap, subst, ◌∙◌, true≢false}
+use Rattle.std.proofs.Common.{◌≡◌, ◌++◌, Bool, true, false, cond, not, filter, if◌then◌else◌, Option, Some, None, List, [], ◌∷◌, All, refl, sym, ap, subst, ◌∙◌, true≢false}
 use Rattle.std.proofs.lemmas.List.Elements.{All-head, All-tail}
 use Rattle.std.proofs.lemmas.List.Folds.{find-append}
 use Rattle.std.specs.List.{AllByRecursion, IsDistinct}
 use Rattle.std.specs.Option.{option_or}
 use Rattle.stat_defs.specs.declared.events.Key.{Key}
 use Rattle.stat_defs.specs.declared.ids.ScopeId.{ScopeId}
-use Rattle.stat_defs.specs.Keys.{Held, held_under, same_key}
-use Rattle.thread_cache.specs.Held.{held_with, held_without, is_of}
-use Rattle.thread_cache.specs.SameHeld.{HasDifferentKeys}
-use Rattle.thread_cache.proofs.KeyLemmas.{same_key-is}
+use Rattle.stat_defs.specs.Keys.{Held, held_under, same_key, HoldsOnce, is_through}
+use Rattle.stat_defs.proofs.KeyLemmas.{same_key-is}
+use Rattle.thread_cache.specs.Held.{held_with, held_without}
 
 -- an entry more, last, is held where nothing was
 pub last_held : (key : Key) (one : Held) (held : List Held) → held_under one.key held ≡ None → held_under key (held ++ one ∷ []) ≡ held_with one held key
@@ -41,15 +40,15 @@ module _ (key : Key) (released : List ScopeId) (stays : Held → Bool) where
       by true rest = ap (λ t. cond t (Some x) (held_under key (filter stays xs))) other ∙ rest
       by false rest = rest
 
-  pub held_left : (held : List Held) → HasDifferentKeys held → All (λ h. stays h ≡ not (is_of released h)) held
+  pub held_left : (held : List Held) → HoldsOnce held → All (λ h. stays h ≡ not (is_through released h)) held
       → held_under key (filter stays held) ≡ held_without released (held_under key held)
   unfolding IsDistinct
   held_left [] apart tells = refl
   held_left (h ∷ hs) apart tells =
-      ap (λ b. held_under key (cond b (h ∷ filter stays hs) (filter stays hs))) (All-head (λ h. stays h ≡ not (is_of released h)) h hs tells)
-      ∙ by (is_of released h) refl (same_key h.key key) refl (held_left hs apart.1 (All-tail (λ h. stays h ≡ not (is_of released h)) h hs tells))
+      ap (λ b. held_under key (cond b (h ∷ filter stays hs) (filter stays hs))) (All-head (λ h. stays h ≡ not (is_through released h)) h hs tells)
+      ∙ by (is_through released h) refl (same_key h.key key) refl (held_left hs apart.1 (All-tail (λ h. stays h ≡ not (is_through released h)) h hs tells))
     where
-      by : (a : Bool) → is_of released h ≡ a → (t : Bool) → same_key h.key key ≡ t
+      by : (a : Bool) → is_through released h ≡ a → (t : Bool) → same_key h.key key ≡ t
           → held_under key (filter stays hs) ≡ held_without released (held_under key hs)
           → held_under key (cond (not a) (h ∷ filter stays hs) (filter stays hs)) ≡ held_without released (cond t (Some h) (held_under key hs))
       by true gone true here rest = elsewhere h hs here apart.0 ∙ sym (ap (λ a. if a then None else Some h) gone)

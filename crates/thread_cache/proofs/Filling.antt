@@ -14,7 +14,8 @@ use Rattle.thread_cache.specs.declared.table.Slot.{Slot}
 use Rattle.thread_cache.specs.Keys.{key_of}
 use Rattle.thread_cache.specs.Scopes.{is_live}
 use Rattle.thread_cache.specs.Held.{held_of, held_with, shown, is_at, slot_under}
-use Rattle.thread_cache.proofs.KeyLemmas.{eq, finds_as, same_key-is}
+use Rattle.stat_defs.proofs.KeyLemmas.{same_key-is}
+use Rattle.thread_cache.proofs.KeyLemmas.{eq, finds_as}
 use Rattle.thread_cache.proofs.Rooms.{same_key_of}
 use Rattle.thread_cache.proofs.Finding.{found, held_at, one_key}
 

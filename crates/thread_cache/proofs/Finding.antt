@@ -13,7 +13,8 @@ use Rattle.thread_cache.specs.declared.table.Slot.{Slot}
 use Rattle.thread_cache.specs.Keys.{key_of}
 use Rattle.thread_cache.specs.Scopes.{is_live}
 use Rattle.thread_cache.specs.Held.{held_of, shown, is_at, slot_under}
-use Rattle.thread_cache.proofs.KeyLemmas.{eq, finds_as, same_key-is}
+use Rattle.stat_defs.proofs.KeyLemmas.{same_key-is}
+use Rattle.thread_cache.proofs.KeyLemmas.{eq, finds_as}
 
 -- what is held under a key whose slot in the table is this one
 abbrev pub held_at : List (ScopeId × ScopeEntries) → Key → Option Slot → Option Held

@@ -11,7 +11,8 @@ use Rattle.indexmap.specs.IndexSet.{insert_key}
 use Rattle.thread_cache.specs.declared.query.CacheKey.{CacheKey}
 use Rattle.thread_cache.specs.Keys.{key_of}
 use Rattle.thread_cache.specs.Held.{is_at, has_room, with_room, without_room}
-use Rattle.thread_cache.proofs.KeyLemmas.{eq, finds_as, same_key-is, same_key-refl}
+use Rattle.stat_defs.proofs.KeyLemmas.{same_key-is, same_key-refl}
+use Rattle.thread_cache.proofs.KeyLemmas.{eq, finds_as}
 
 any-map : (key : Key) (keys : List CacheKey) → list_any (is_at key) keys ≡ has_room key (map key_of keys)
 any-map key [] = refl

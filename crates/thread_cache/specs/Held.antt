@@ -1,11 +1,11 @@
 -- What callers see of a cache (Envoy's design note on statistics: a thread's own cache of what it found).
-use Rattle.std.specs.Prelude.{◌≡◌, ◌≤◌, ℕ, ◌==◌, Bool, true, false, not, Option, Some, None, List, [], ◌∷◌, ◌++◌, if◌then◌else◌, filter, map, All}
+use Rattle.std.specs.Prelude.{Bool, not, Option, Some, None, List, [], ◌∷◌, ◌++◌, if◌then◌else◌, filter, map}
 use Rattle.stat_defs.specs.declared.events.Key.{Key}
 use Rattle.stat_defs.specs.declared.ids.ScopeId.{ScopeId}
 use Rattle.std.specs.List.{list_any}
 use Rattle.std.specs.Map.{lookup}
 use Rattle.indexmap.specs.IndexSet.{remove_key}
-use Rattle.stat_defs.specs.Keys.{Held, held_under, same_key}
+use Rattle.stat_defs.specs.Keys.{Held, held_under, same_key, is_through}
 use Rattle.thread_cache.specs.declared.query.CacheKey.{CacheKey}
 use Rattle.thread_cache.specs.declared.scopes.ScopeEntries.{ScopeEntries}
 use Rattle.thread_cache.specs.declared.table.Slot.{Slot}
@@ -31,10 +31,6 @@ is_at key at = same_key (key_of at) key
 abbrev pub slot_under : Key → List (CacheKey × Slot) → Option Slot
 slot_under key table = lookup (is_at key) table
 
--- the scope is one of these
-abbrev pub is_of : List ScopeId → Held → Bool
-is_of scopes held = list_any (λ s. s.0 == held.scope) scopes
-
 -- the key has room; the keys that have, with one more where it is not among them, and without one
 abbrev pub has_room : Key → List Key → Bool
 has_room key rooms = list_any (λ k. same_key k key) rooms
@@ -52,4 +48,4 @@ held_with held entries key = if same_key held.key key then Some held else held_u
 -- what is left of what was held once these scopes were dropped
 abbrev pub held_without : List ScopeId → Option Held → Option Held
 held_without scopes None = None
-held_without scopes (Some held) = if is_of scopes held then None else Some held
+held_without scopes (Some held) = if is_through scopes held then None else Some held

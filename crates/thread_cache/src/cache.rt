@@ -4,10 +4,10 @@ ghost use Rattle.std.specs.List.{list_any};
 ghost use Rattle.indexmap.specs.IndexMap.{spare};
 ghost use Rattle.indexmap.specs.IndexSet.{index_set_len};
 ghost use Rattle.stat_defs.specs.declared.events.Key.{Key};
-ghost use Rattle.stat_defs.specs.Keys.{held_under, same_key};
+ghost use Rattle.stat_defs.specs.Keys.{held_under, same_key, is_through};
 ghost use Rattle.thread_cache.specs.Keys.{key_of};
 ghost use Rattle.thread_cache.specs.Scopes.{is_live, is_dropped, is_listed};
-ghost use Rattle.thread_cache.specs.Held.{shown, has_room, with_room, without_room, held_with, held_without, is_of};
+ghost use Rattle.thread_cache.specs.Held.{shown, has_room, with_room, without_room, held_with, held_without};
 
 use crate::query::{CacheKey, Query, copy_of};
 use crate::scopes::{Scopes, drop_scopes, is_live};
@@ -138,7 +138,7 @@ impl Cache {
 
     /// Drops the entries of these scopes. It takes no memory.
     pub fn drop_released(&mut self, released: &[ScopeId])
-        ensures entries { self.new.entries ≡ filter (λ held. not (is_of released.now held)) self.old.entries }
+        ensures entries { self.new.entries ≡ filter (λ held. not (is_through released.now held)) self.old.entries }
         ensures held { (key : Key) → held_under key self.new.entries ≡ held_without released.now (held_under key self.old.entries) }
         ensures rooms { self.new.rooms ≡ self.old.rooms }
     {
