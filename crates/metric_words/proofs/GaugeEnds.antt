@@ -50,10 +50,6 @@ words-push n words copy copy' x has e at = (
   place-push (λ k. get_or words k 0) copy copy' x n has.0 has.1 e (sym (at-or words n x 0 at)),
 )
 
--- so many seats are enough, whatever was taken in
-pub enough : (n count taken : ℕ) → count ≡ n → n ≤ count + taken
-enough n count taken e = omega arith
-
 -- a seat with one part has its own alone, and no seat has fewer
 one-own : (ps : List GaugePart) → length ps ≤ 1 → 0 < length ps → let v : View = record { parts = ps } in ps ≡ own_gauge v ∷ []
 one-own [] h l = absurd (omega arith)

@@ -1,5 +1,5 @@
 -- What callers may conclude from a gauge seat's list of steps.
-use Rattle.std.proofs.Common.{◌≡◌, ℕ, ◌%◌, ◌^◌, Bool, true, false, ◌==◌, List, ◌∷◌, ◌++◌, length, refl, ap, ◌∙◌, subst, arith, length-append}
+use Rattle.std.proofs.Common.{◌≡◌, ℕ, ◌+◌, ◌%◌, ◌^◌, ◌≤◌, Bool, true, false, ◌==◌, List, ◌∷◌, ◌++◌, length, refl, ap, ◌∙◌, subst, arith, length-append}
 use Rattle.std.proofs.Math.Seq.{get_or-append_seam}
 use Rattle.seat_parts.proofs.Sums.{total-append, total-none}
 use Rattle.metric_words.specs.declared.gauge_view.GaugeKind.{GaugeKind}
@@ -37,3 +37,7 @@ pub one-writer : (id word : ℕ) (before behind : List GaugePart) (p : GaugePart
 one-writer id word before behind p w none none' =
     let seats : List GaugePart = before ++ p ∷ behind in let t = total-append (λ (q : GaugePart). written id q.steps) before (p ∷ behind) in let l = length-append before (p ∷ behind) in
     subst (λ q. writes_by id seats ≡ written id q.steps → word ≡ fold_of id q.steps) (get_or-append_seam before p behind p) (w.alone (length before) p (omega arith)) (omega arith)
+
+-- so many seats of workers are all, whatever was taken in
+pub all-given : (workers count taken : ℕ) → count ≡ workers → workers ≤ count + taken
+all-given workers count taken e = omega arith
