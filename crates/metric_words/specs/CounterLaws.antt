@@ -1,4 +1,5 @@
--- What callers may conclude from a seat's list of steps, and from what a counter bank gives at its end (this project's own).
+-- What callers may conclude from a seat's list of steps, and from what a counter bank gives at its end (this
+-- project's own).
 use Rattle.std.specs.Prelude.{◌≡◌, ℕ, ◌+◌, ◌<◌, ◌≤◌, Bool, ◌==◌, cond, List, [], ◌∷◌, ◌++◌, map, All, slice_index}
 use Rattle.seat_parts.specs.Parts.{total}
 use Rattle.metric_words.specs.declared.view.CountKind.{CountKind}
@@ -23,7 +24,8 @@ loads_of id (s ∷ ss) = as_loaded s.kind (s.id == id) s.found (loads_of id ss)
 
 -- of a list whose loads never fall and stay at most `top`, the newest load of a counter is the greatest
 pub record NewestIsGreatest : Type 0 where
-  pub below : (id top : ℕ) (steps : List CountStep) → Rises id steps top → All (λ found. found ≤ top) (loads_of id steps)
+  pub below : (id top : ℕ) (steps : List CountStep) → Rises id steps top
+      → All (λ found. found ≤ top) (loads_of id steps)
   pub newest : (id top found : ℕ) (steps : List CountStep) (earlier : List ℕ) → Rises id steps top
       → loads_of id steps ≡ found ∷ earlier → All (λ e. e ≤ found) earlier
 
@@ -39,15 +41,17 @@ pub record SumsGrow : Type 0 where
       → latches k (step_of Latch id 0 r ∷ steps) ≡ latches k steps + when (id == k) r
   pub load : (k id r : ℕ) (steps : List CountStep)
       → loads_of k (step_of Load id 0 r ∷ steps) ≡ cond (id == k) (r ∷ loads_of k steps) (loads_of k steps)
-  pub load_latches : (k id r : ℕ) (steps : List CountStep) → latches k (step_of Load id 0 r ∷ steps) ≡ latches k steps
+  pub load_latches : (k id r : ℕ) (steps : List CountStep)
+      → latches k (step_of Load id 0 r ∷ steps) ≡ latches k steps
 
 -- the workers' seats, behind them those that the flusher's seat took in
 abbrev pub worker_parts : WordSeats → List CountPart
 worker_parts s = map worker_part s.workers.items ++ flush_taken s.flusher
 
--- One counter at the end, by the lists of the workers, of the flusher and of the reader: its value is the sum of the adds,
--- of which each made both steps; it is what was latched and what is pending; and no load found more.
-pub record IsCounterEnd (id : ℕ) (workers : List CountPart) (flusher reader : List CountStep) (value pending : ℕ) : Type 0 where
+-- One counter at the end, by the lists of the workers, of the flusher and of the reader: its value is the sum of
+-- the adds, of which each made both steps; it is what was latched and what is pending; and no load found more.
+pub record IsCounterEnd (id : ℕ) (workers : List CountPart) (flusher reader : List CountStep)
+    (value pending : ℕ) : Type 0 where
   pub firsts : value ≡ total (λ p. firsts id p.steps) workers
   pub seconds : value ≡ total (λ p. seconds id p.steps) workers
   pub latched : latches id flusher + pending ≡ value
@@ -55,5 +59,7 @@ pub record IsCounterEnd (id : ℕ) (workers : List CountPart) (flusher reader : 
 
 -- what the ledger says of one counter
 pub record EndOfOne : Type 0 where
-  pub each : (size workers id : ℕ) (s : WordSeats) (values pending : List ℕ) → IsLedger size workers s values pending → id < size
-      → IsCounterEnd id (worker_parts s) (flush_steps s.flusher) (read_steps s.reader) (slice_index values id) (slice_index pending id)
+  pub each : (size workers id : ℕ) (s : WordSeats) (values pending : List ℕ)
+      → IsLedger size workers s values pending → id < size
+      → IsCounterEnd id (worker_parts s) (flush_steps s.flusher) (read_steps s.reader)
+      (slice_index values id) (slice_index pending id)

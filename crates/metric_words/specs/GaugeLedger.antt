@@ -19,8 +19,8 @@ gauges_size b = b.table.shared.key.size
 abbrev pub gauges_workers : GaugeBank → ℕ
 gauges_workers b = b.table.shared.key.workers
 
--- a seat: its bank, its number, the number of the bank's workers, its steps, the newest first, and the seats that it took
--- in, in order
+-- a seat: its bank, its number, the number of the bank's workers, its steps, the newest first, and the seats
+-- that it took in, in order
 abbrev pub gauge_bank : GaugeSeat → TableId
 gauge_bank s = s.seat.table_id
 

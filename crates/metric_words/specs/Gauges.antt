@@ -11,7 +11,7 @@
 -- Where one seat alone has written the gauge, its word is the fold of that seat's steps, since no other step came in between.
 -- The seat that wrote last is some seat. Where its newest write is a set, the word is the number of that set; so where
 -- each seat that wrote has a set as its newest write, the word is the number of one of these.
--- A seat that took all others in has the steps of all, so a load by it finds the word that all these steps left.
+-- A seat that took all others in has the steps of all, so a load by it finds the word that all of them left.
 use Rattle.std.specs.Prelude.{◌≡◌, ℕ, zero, suc, ◌+◌, ◌-◌, ◌%◌, ◌^◌, ◌≤◌, Bool, true, false, ◌==◌, List, [], ◌∷◌, ◌⊎◌, length, slice_index, All}
 use Rattle.std.specs.List.{Any}
 use Rattle.atomic_table.specs.Table.{State, Me, Step}
@@ -93,12 +93,13 @@ Alone words writes_of p = (id : ℕ) → writes_of id ≡ written id p.steps →
 abbrev pub WroteLast : ℕ → ℕ → GaugePart → Type 0
 WroteLast id word p = (1 ≤ written id p.steps) × LastSet id p.steps word
 
--- What the word of a gauge is after all steps of these seats, which are all seats of the bank: the net of the steps
--- modulo 2^64; where one seat alone has written, the fold of its steps; and where each seat that wrote has a set as its
--- newest write, the number of one of these.
+-- What the word of a gauge is after all steps of these seats, which are all seats of the bank: the net of the
+-- steps modulo 2^64; where one seat alone has written, the fold of its steps; and where each seat that wrote has
+-- a set as its newest write, the number of one of these.
 pub record IsGaugeWord (id : ℕ) (seats : List GaugePart) (word : ℕ) : Type 0 where
   pub value : word ≡ total (λ p. net id p.steps) seats % 2 ^ 64
-  pub alone : All (λ p. total (λ q. written id q.steps) seats ≡ written id p.steps → word ≡ fold_of id p.steps) seats
+  pub alone : All (λ p. total (λ q. written id q.steps) seats ≡ written id p.steps
+      → word ≡ fold_of id p.steps) seats
   pub last : (total (λ p. written id p.steps) seats ≡ 0) ⊎ Any (WroteLast id word) seats
 
 pub record Gauged (key : GaugeKey) (s : State (Unit {0}) View) : Type 0 where

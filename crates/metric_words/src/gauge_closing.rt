@@ -30,7 +30,8 @@ impl GaugeBank {
     fn gather(&self, seats: GaugeSeats) -> GaugePlace
         requires { AreAllGauges (gauges_id self.now) (gauges_workers self.now) seats }
         ensures seat { (result.table_id ≡ gauges_id self.now) × (length result.me.1 ≡ 0) }
-        ensures parts { result.me.0.parts ≡ gauge_all seats.flusher ++ (flat_map gauge_all seats.workers.items ++ gauge_all seats.reader) }
+        ensures parts { result.me.0.parts ≡ gauge_all seats.flusher
+            ++ (flat_map gauge_all seats.workers.items ++ gauge_all seats.reader) }
     {
         let GaugeSeats {
             workers,

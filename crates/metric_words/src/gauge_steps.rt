@@ -16,7 +16,8 @@ impl GaugeBank {
         requires bank { gauge_bank seat.old ≡ gauges_id self.now }
         requires id { id.0 < gauges_size self.now }
         ensures bank { gauge_bank seat.new ≡ gauge_bank seat.old }
-        ensures number { (gauge_number seat.new ≡ gauge_number seat.old) × (gauge_workers seat.new ≡ gauge_workers seat.old) }
+        ensures number { gauge_number seat.new ≡ gauge_number seat.old }
+        ensures workers { gauge_workers seat.new ≡ gauge_workers seat.old }
         ensures steps { (x : ℕ) × (gauge_steps seat.new ≡ gauge_step Add id.0 n x ∷ gauge_steps seat.old) }
         ensures taken { gauge_taken seat.new ≡ gauge_taken seat.old }
     {
@@ -29,7 +30,8 @@ impl GaugeBank {
         requires bank { gauge_bank seat.old ≡ gauges_id self.now }
         requires id { id.0 < gauges_size self.now }
         ensures bank { gauge_bank seat.new ≡ gauge_bank seat.old }
-        ensures number { (gauge_number seat.new ≡ gauge_number seat.old) × (gauge_workers seat.new ≡ gauge_workers seat.old) }
+        ensures number { gauge_number seat.new ≡ gauge_number seat.old }
+        ensures workers { gauge_workers seat.new ≡ gauge_workers seat.old }
         ensures steps { (x : ℕ) × (gauge_steps seat.new ≡ gauge_step Sub id.0 n x ∷ gauge_steps seat.old) }
         ensures taken { gauge_taken seat.new ≡ gauge_taken seat.old }
     {
@@ -42,7 +44,8 @@ impl GaugeBank {
         requires bank { gauge_bank seat.old ≡ gauges_id self.now }
         requires id { id.0 < gauges_size self.now }
         ensures bank { gauge_bank seat.new ≡ gauge_bank seat.old }
-        ensures number { (gauge_number seat.new ≡ gauge_number seat.old) × (gauge_workers seat.new ≡ gauge_workers seat.old) }
+        ensures number { gauge_number seat.new ≡ gauge_number seat.old }
+        ensures workers { gauge_workers seat.new ≡ gauge_workers seat.old }
         ensures steps { gauge_steps seat.new ≡ gauge_step Set id.0 n result ∷ gauge_steps seat.old }
         ensures taken { gauge_taken seat.new ≡ gauge_taken seat.old }
     {
@@ -55,7 +58,8 @@ impl GaugeBank {
         requires bank { gauge_bank seat.old ≡ gauges_id self.now }
         requires id { id.0 < gauges_size self.now }
         ensures bank { gauge_bank seat.new ≡ gauge_bank seat.old }
-        ensures number { (gauge_number seat.new ≡ gauge_number seat.old) × (gauge_workers seat.new ≡ gauge_workers seat.old) }
+        ensures number { gauge_number seat.new ≡ gauge_number seat.old }
+        ensures workers { gauge_workers seat.new ≡ gauge_workers seat.old }
         ensures steps { gauge_steps seat.new ≡ gauge_step Load id.0 0 result ∷ gauge_steps seat.old }
         ensures taken { gauge_taken seat.new ≡ gauge_taken seat.old }
         // once all other seats are taken in, the word is what all steps on the gauge left
@@ -66,12 +70,14 @@ impl GaugeBank {
         shared.load::<Reading>(&mut seat.seat, id.0 as usize)
     }
 
-    /// Joins another seat into a seat, which keeps its list under its number, behind those of the seats that it took in before.
+    /// Joins another seat into a seat, which keeps its list under its number, behind those of the seats that it
+    /// took in before.
     pub fn take_in(&self, seat: &mut GaugeSeat, other: GaugeSeat)
         requires seat { gauge_bank seat.old ≡ gauges_id self.now }
         requires other { gauge_bank other ≡ gauges_id self.now }
         ensures bank { gauge_bank seat.new ≡ gauge_bank seat.old }
-        ensures number { (gauge_number seat.new ≡ gauge_number seat.old) × (gauge_workers seat.new ≡ gauge_workers seat.old) }
+        ensures number { gauge_number seat.new ≡ gauge_number seat.old }
+        ensures workers { gauge_workers seat.new ≡ gauge_workers seat.old }
         ensures steps { gauge_steps seat.new ≡ gauge_steps seat.old }
         ensures taken { gauge_taken seat.new ≡ gauge_taken seat.old ++ gauge_all other }
     {

@@ -78,7 +78,8 @@ impl CounterBank {
         requires bank { (place.old.table_id ≡ bank_id self.now) × (id.0 < size_of self.now) }
         requires leads { (0 < length place.old.me.0.parts) × (length place.old.me.1 ≡ 0) }
         requires role { flusher_weight (own_part place.old.me.0).role ≡ 1 }
-        requires others { total (λ p. worker_weight p.role) (taken_parts place.old.me.0) ≡ length (taken_parts place.old.me.0) }
+        requires others { total (λ p. worker_weight p.role) (taken_parts place.old.me.0)
+            ≡ length (taken_parts place.old.me.0) }
         ensures step { IsStepOf (step_of Latch id.0 0 result) place.old place.new }
         ensures whole { HasAllWorkers place.old.me.0 → latches id.0 (own_steps place.old.me.0) + result
             ≡ total (λ p. seconds id.0 p.steps) (taken_parts place.old.me.0) }

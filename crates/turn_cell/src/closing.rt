@@ -18,8 +18,7 @@ pub struct Rest<H> {
 }
 
 impl<H: Weighed + Drop> TurnCell<H> {
-    /// The half in the slot, once both parties are back. Where the flusher took back what it asked for, or never asked, it
-    /// is the spare.
+    /// The half in the slot, once both parties are back. Where the flusher waits for none, it is the spare.
     pub fn close(self, note: LeftNote<H>, f: FlushAny<H>) -> Rest<H>
         requires cell { ((note_known note).cell ≡ cell_id self) × ((flusher_known f).cell ≡ cell_id self) }
         ensures halves { (note_known note).halves
