@@ -85,7 +85,7 @@ module _ {B : Type 0} (history_of : B → BookHistory) (first : BookHistory) (se
           home = home;
           count = (let m = moved (λ _. 1) in let e = r.count in omega arith);
           numbers = few;
-          each = step-beside (F r.log) (F log) s.views id p q at
+          each = step-beside (F r.log) (F log) s.views id p q [] at
               (λ x fx le. up x fx
               (bit-other x.number p.number (let a = le (numbered p.number) in let b = few p.number in let o = same p.number in let w = ap bit (eq-eqb p.number p.number refl) in omega arith))
               (let a = le holding in omega arith)) r.each fits;

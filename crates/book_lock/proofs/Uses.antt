@@ -1,5 +1,5 @@
 -- What a caller owes and gets between `enter` and `leave`, and where it takes the seats of a new lock.
-use Rattle.std.proofs.Common.{◌≡◌, ℕ, ◌+◌, List, [], ◌∷◌, ◌++◌, map, sym, refl, ap, ◌∙◌, subst, arith, Some, Result, Ok, Err, MatchResult, append-nil, append_assoc, All}
+use Rattle.std.proofs.Common.{◌≡◌, ℕ, ◌+◌, List, [], ◌∷◌, ◌++◌, map, sym, refl, ap, ◌∙◌, arith, Some, Result, Ok, Err, MatchResult, append-nil, append_assoc, All}
 use Rattle.std.proofs.lemmas.List.{map-append}
 use Rattle.std.proofs.lemmas.List.Elements.{All-nil, All-cons, All-append, All-pop}
 use Rattle.atomic_table.specs.Seated.{TableId}

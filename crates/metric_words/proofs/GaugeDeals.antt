@@ -10,32 +10,35 @@ use Rattle.seat_parts.proofs.Anys.{split-any, join-any}
 use Rattle.metric_words.specs.declared.gauge_view.GaugePart.{GaugePart}
 use Rattle.metric_words.specs.declared.gauge_view.GaugeKey.{GaugeKey}
 use Rattle.metric_words.specs.declared.gauge_seats.GaugeSeat.{GaugeSeat}
-use Rattle.metric_words.specs.Gauges.{View, net, written, Alone, WroteLast, Gauged, new_gauge, new_gauges, gauge_view, own_gauge}
+use Rattle.metric_words.specs.Gauges.{View, net, written, Alone, WroteLast, Gauged, new_gauge, new_gauges, gauge_view, own_gauge, taken_gauges}
 use Rattle.metric_words.specs.GaugeLedger.{gauge_number}
 use Rattle.metric_words.proofs.Deals.{zeros-at, range-more}
 
-new-count : (seat n : ℕ) → total (λ (_ : GaugePart). 1) (new_gauges seat n) ≡ n
-new-count seat zero = refl
-new-count seat (suc n) = omega (arith, new-count (suc seat) n)
+module _ (workers : ℕ) where
+  new-count : (seat n : ℕ) → total (λ (_ : GaugePart). 1) (new_gauges workers seat n) ≡ n
+  new-count seat zero = refl
+  new-count seat (suc n) = omega (arith, new-count (suc seat) n)
 
-new-none : (f : GaugePart → ℕ) → ((seat : ℕ) → f (new_gauge seat) ≡ 0) → (seat n : ℕ) → total f (new_gauges seat n) ≡ 0
-new-none f z seat zero = refl
-new-none f z seat (suc n) = omega (arith, z seat, new-none f z (suc seat) n)
+  new-none : (f : GaugePart → ℕ) → ((seat : ℕ) → f (new_gauge workers seat) ≡ 0) → (seat n : ℕ) → total f (new_gauges workers seat n) ≡ 0
+  new-none f z seat zero = refl
+  new-none f z seat (suc n) = omega (arith, z seat, new-none f z (suc seat) n)
 
-new-all : (F : GaugePart → Type 0) → ((seat : ℕ) → F (new_gauge seat)) → (seat n : ℕ) → All F (new_gauges seat n)
-new-all F f seat zero = All-nil F
-new-all F f seat (suc n) = All-cons F (new_gauge seat) (new_gauges (suc seat) n) (f seat) (new-all F f (suc seat) n)
+  new-all : (F : GaugePart → Type 0) → ((seat : ℕ) → F (new_gauge workers seat)) → (seat n : ℕ) → All F (new_gauges workers seat n)
+  new-all F f seat zero = All-nil F
+  new-all F f seat (suc n) = All-cons F (new_gauge workers seat) (new_gauges workers (suc seat) n) (f seat) (new-all F f (suc seat) n)
 
 pub opens : (key : GaugeKey) (words : List ℕ) → words ≡ replicate key.size 0 → Gauged key (opening words [] (gauge_view key))
 opens key words is =
-    let none : (f : GaugePart → ℕ) → ((seat : ℕ) → f (new_gauge seat) ≡ 0) → parts_total f (gauge_view key ∷ []) ≡ 0 = λ f z. let a = new-none f z 0 (key.workers + 2) in omega arith in
+    let none : (f : GaugePart → ℕ) → ((seat : ℕ) → f (new_gauge key.workers seat) ≡ 0) → parts_total f (gauge_view key ∷ []) ≡ 0 = λ f z. let a = new-none key.workers f z 0 (key.workers + 2) in omega arith in
     let zero-at : (k : ℕ) → get_or words k 0 ≡ 0 = λ k. ap (λ (l : List ℕ). get_or l k 0) is ∙ zeros-at key.size k in
     let A : GaugePart → Type 0 = Alone words (λ id. parts_total (λ (p : GaugePart). written id p.steps) (gauge_view key ∷ [])) in
+    let K : GaugePart → Type 0 = λ p. p.workers ≡ key.workers in
     record {
       wide = ap length is ∙ length-replicate key.size 0;
-      seats = (let n = new-count 0 (key.workers + 2) in omega arith);
+      seats = (let n = new-count key.workers 0 (key.workers + 2) in omega arith);
+      knows = All-cons (λ (v : View). All K v.parts) (gauge_view key) [] (new-all key.workers K (λ _. refl) 0 (key.workers + 2)) (All-nil (λ (v : View). All K v.parts));
       value = λ k. (let n = none (λ p. net k p.steps) (λ _. refl) in zero-at k ∙ ap (λ (z : ℕ). z % 2 ^ 64) (sym n));
-      alone = All-cons (λ (v : View). All A v.parts) (gauge_view key) [] (new-all A (λ seat k only. zero-at k) 0 (key.workers + 2)) (All-nil (λ (v : View). All A v.parts));
+      alone = All-cons (λ (v : View). All A v.parts) (gauge_view key) [] (new-all key.workers A (λ seat k only. zero-at k) 0 (key.workers + 2)) (All-nil (λ (v : View). All A v.parts));
       last = λ k. inl (none (λ p. written k p.steps) (λ _. refl));
     }
 
@@ -45,13 +48,15 @@ LonePart words views = Alone words (λ id. parts_total (λ (p : GaugePart). writ
 
 -- views with the same sums, in which some part still wrote last, keep the rule
 regrouped : (key : GaugeKey) (s : State (Unit {0}) View) (views : List View) → Gauged key s
-    → ((f : GaugePart → ℕ) → parts_total f views ≡ parts_total f s.views) → AllParts (LonePart s.words s.views) views
+    → ((f : GaugePart → ℕ) → parts_total f views ≡ parts_total f s.views)
+    → AllParts (λ p. p.workers ≡ key.workers) views → AllParts (LonePart s.words s.views) views
     → ((k : ℕ) → AnyPart (WroteLast k (get_or s.words k 0)) s.views → AnyPart (WroteLast k (get_or s.words k 0)) views)
     → Gauged key (record { words = s.words; homes = s.homes; views = views })
-regrouped key s views r same alone some =
+regrouped key s views r same knows alone some =
     record {
       wide = r.wide;
       seats = same (λ _. 1) ∙ r.seats;
+      knows = knows;
       value = λ k. r.value k ∙ ap (λ (z : ℕ). z % 2 ^ 64) (sym (same (λ p. net k p.steps)));
       alone = parts-mapped (LonePart s.words s.views) (LonePart s.words views) (λ p f k only. f k (sym (same (λ q. written k q.steps)) ∙ only)) views alone;
       last = λ k. ⊎_elim (λ z. inl (same (λ p. written k p.steps) ∙ z)) (λ a. inr (some k a)) (r.last k);
@@ -60,36 +65,38 @@ regrouped key s views r same alone some =
 pub splits : (key : GaugeKey) (id : ℕ) (v : View) → Splits (Gauged key) id v (undealt v) (dealt v)
 splits key id v s r at =
     regrouped key s (set s.views id (undealt v) ++ dealt v ∷ []) r (λ f. split-total f s.views id v at)
+    (split-all (λ p. p.workers ≡ key.workers) s.views id v at r.knows)
     (split-all (LonePart s.words s.views) s.views id v at r.alone)
     (λ k. split-any (WroteLast k (get_or s.words k 0)) s.views id v at)
 
 pub joins : (key : GaugeKey) (id other : ℕ) (v w : View) → Joins (Gauged key) id v other w (joined v w) spent
 joins key id other v w s r at ne at' =
     regrouped key s (set (set s.views id (joined v w)) other spent) r (λ f. join-total f s.views id other v w at at')
+    (join-all (λ p. p.workers ≡ key.workers) s.views id other v w at ne at' r.knows)
     (join-all (LonePart s.words s.views) s.views id other v w at ne at' r.alone)
     (λ k. join-any (WroteLast k (get_or s.words k 0)) s.views id other v w at ne at')
 
 abbrev Sat : Type 0
 Sat = Me (Unit {0}) View
 
-abbrev pub one_of : ℕ → Sat
-one_of seat = (record { parts = new_gauge seat ∷ [] }, [])
+abbrev pub one_of : ℕ → ℕ → Sat
+one_of workers seat = (record { parts = new_gauge workers seat ∷ [] }, [])
 
-abbrev pub rest_of : ℕ → ℕ → Sat
-rest_of seat n = (record { parts = new_gauges seat n }, [])
+abbrev pub rest_of : ℕ → ℕ → ℕ → Sat
+rest_of workers seat n = (record { parts = new_gauges workers seat n }, [])
 
-cut-new : (seat n : ℕ) → 0 < n → ((dealt (rest_of seat n).0, []) ≡ one_of seat) × ((undealt (rest_of seat n).0, []) ≡ rest_of (seat + 1) (n - 1))
-cut-new seat zero h = absurd (omega arith)
-cut-new seat (suc n) h = (refl, (let e : suc seat ≡ seat + 1 = omega arith in let f : n ≡ suc n - 1 = omega arith in λ i. rest_of (e i) (f i)))
+cut-new : (workers seat n : ℕ) → 0 < n → ((dealt (rest_of workers seat n).0, []) ≡ one_of workers seat) × ((undealt (rest_of workers seat n).0, []) ≡ rest_of workers (seat + 1) (n - 1))
+cut-new workers seat zero h = absurd (omega arith)
+cut-new workers seat (suc n) h = (refl, (let e : suc seat ≡ seat + 1 = omega arith in let f : n ≡ suc n - 1 = omega arith in λ i. rest_of workers (e i) (f i)))
 
 -- a seat is cut off
-pub cut : (m : Sat) (seat n seat' n' : ℕ) → m ≡ rest_of seat n → 0 < n → seat' ≡ seat + 1 → n' ≡ n - 1 → ((dealt m.0, []) ≡ one_of seat) × ((undealt m.0, m.1) ≡ rest_of seat' n')
-cut m seat n seat' n' e h es en = let c = cut-new seat n h in
-    (ap (λ (z : Sat). (dealt z.0, [])) e ∙ c.0, ap (λ (z : Sat). (undealt z.0, z.1)) e ∙ (c.1 ∙ (λ i. rest_of (sym es i) (sym en i))))
+pub cut : (m : Sat) (workers seat n seat' n' : ℕ) → m ≡ rest_of workers seat n → 0 < n → seat' ≡ seat + 1 → n' ≡ n - 1 → ((dealt m.0, []) ≡ one_of workers seat) × ((undealt m.0, m.1) ≡ rest_of workers seat' n')
+cut m workers seat n seat' n' e h es en = let c = cut-new workers seat n h in
+    (ap (λ (z : Sat). (dealt z.0, [])) e ∙ c.0, ap (λ (z : Sat). (undealt z.0, z.1)) e ∙ (c.1 ∙ (λ i. rest_of workers (sym es i) (sym en i))))
 
 -- a seat with this part alone
-pub part-of : (m : Sat) (seat : ℕ) → m ≡ one_of seat → (length m.0.parts ≡ 1) × (length m.1 ≡ 0) × (own_gauge m.0 ≡ new_gauge seat)
-part-of m seat e = (ap (λ (z : Sat). length z.0.parts) e, ap (λ (z : Sat). length z.1) e, ap (λ (z : Sat). own_gauge z.0) e)
+pub part-of : (m : Sat) (workers seat : ℕ) → m ≡ one_of workers seat → (0 < length m.0.parts) × (length m.1 ≡ 0) × (own_gauge m.0 ≡ new_gauge workers seat) × (taken_gauges m.0 ≡ [])
+part-of m workers seat e = (omega (arith, ap (λ (z : Sat). length z.0.parts) e), ap (λ (z : Sat). length z.1) e, ap (λ (z : Sat). own_gauge z.0) e, ap (λ (z : Sat). taken_gauges z.0) e)
 
 pub numbers-push : (ws all : List GaugeSeat) (w : GaugeSeat) (n : ℕ) → map gauge_number ws ≡ range_with_len 1 n → all ≡ ws ++ w ∷ [] → gauge_number w ≡ 1 + n → map gauge_number all ≡ range_with_len 1 (n + 1)
 numbers-push ws all w n is e number =

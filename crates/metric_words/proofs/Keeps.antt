@@ -17,7 +17,7 @@ use Rattle.metric_words.specs.declared.view.CountKind.TheVariants.{First, Second
 use Rattle.metric_words.specs.declared.view.CountStep.{CountStep}
 use Rattle.metric_words.specs.declared.view.CountPart.{CountPart}
 use Rattle.metric_words.specs.declared.view.BankKey.{BankKey}
-use Rattle.metric_words.specs.Counters.{View, new_part, role_of, worker_weight, flusher_weight, reader_weight, when, choose, as_first, as_second, as_latch, as_load, step_of, first_by, second_by, latch_by, firsts, seconds, latches, seen_by, Rises, FitsBank, Counted, FirstAdded, SecondAdded, Latched, Loaded, HasAllWorkers, longer, with_step, own_part, own_steps, taken_parts}
+use Rattle.metric_words.specs.Counters.{View, new_part, role_of, worker_weight, flusher_weight, reader_weight, when, choose, as_first, as_second, as_latch, as_load, step_of, first_by, second_by, latch_by, firsts, seconds, latches, seen_by, Rises, FitsBank, Counted, FirstAdded, SecondAdded, Latched, Loaded, OwesSecond, longer, with_step, own_part, own_steps, taken_parts}
 
 abbrev St : Type 0
 St = State (Unit {0}) View
@@ -282,6 +282,17 @@ module _ (key : BankKey) (slots id i : ℕ) where
         λ j e. let same : i ≡ j = omega arith in ap (λ (z : ℕ). (led_by (longer (step_of Second z n (get_or s.words (2 * i + 1) 0)) (longer (step_of First i n was) l)) ls, [])) same,
       ))
 
+  -- the same, where the newest step is the first one
+  pub adds-owed : (m : Sat) (n : ℕ) → 0 < length m.0.parts → length m.1 ≡ 0 → worker_weight (own_part m.0).role ≡ 1 → OwesSecond i n (own_part m.0) → i < key.size
+      → Allows (Counted key) slots id m (2 * i + 1) (λ x. (x + n) % 2 ^ 64) (SecondAdded (step slots (2 * i + 1) n 0 none) m)
+  adds-owed m n a b role owes small = let t = led m a b in let q = t.0 in let ls = t.1 in
+      subst (λ (z : Sat). worker_weight (own_part z.0).role ≡ 1 → OwesSecond i n (own_part z.0) → Allows (Counted key) slots id z (2 * i + 1) (λ x. (x + n) % 2 ^ 64) (SecondAdded (step slots (2 * i + 1) n 0 none) z)) (sym t.2)
+      (λ role owes. let l : CountPart = record { role = q.role; seat = q.seat; workers = q.workers; steps = owes.1 } in
+      let is : longer (step_of First i n owes.0) l ≡ q = (λ j. record { role = q.role; seat = q.seat; workers = q.workers; steps = sym owes.2 j }) in
+      subst (λ (p : CountPart). Allows (Counted key) slots id (led_by p ls, []) (2 * i + 1) (λ x. (x + n) % 2 ^ 64) (SecondAdded (step slots (2 * i + 1) n 0 none) (led_by p ls, []))) is
+      (adds-second (led_by l ls, []) (led_by (longer (step_of First i n owes.0) l) ls, []) n owes.0 (omega arith) refl role refl small))
+      role owes
+
   pub latches-one : (m : Sat) → 0 < length m.0.parts → length m.1 ≡ 0 → flusher_weight (own_part m.0).role ≡ 1 → total (λ (p : CountPart). worker_weight p.role) (taken_parts m.0) ≡ length (taken_parts m.0) → i < key.size
       → Allows (Counted key) slots id m (2 * i + 1) (λ _. 0) (Latched (step slots (2 * i + 1) 0 0 none) m)
   latches-one m a b role others small = let t = led m a b in let l = t.0 in let ls = t.1 in
@@ -316,17 +327,3 @@ module _ (key : BankKey) (slots id i : ℕ) where
 pub after-step : (m m' : Sat) (x : CountStep) → 0 < length m.0.parts → m' ≡ (with_step x m.0, m.1)
     → (length m'.0.parts ≡ length m.0.parts) × (own_part m'.0 ≡ longer x (own_part m.0)) × (taken_parts m'.0 ≡ taken_parts m.0) × (length m'.1 ≡ length m.1)
 after-step m m' x a e = after-own (longer x) (new_part Reader 0 0) m m' a e
-
-pub after-add : (m m' m'' : Sat) (x y : CountStep) → 0 < length m.0.parts → m' ≡ (with_step x m.0, m.1) → m'' ≡ (with_step y m'.0, m'.1)
-    → (length m''.0.parts ≡ length m.0.parts) × (own_part m''.0 ≡ longer y (longer x (own_part m.0))) × (length m''.1 ≡ length m.1)
-after-add m m' m'' x y a e e' = let f = after-step m m' x a e in let g = after-step m' m'' y (omega (arith, f.0)) e' in
-    (g.0 ∙ f.0, g.1 ∙ ap (longer y) f.1, g.3 ∙ f.3)
-
--- what a latch tells of the seat after it
-pub latched-all : (m m' : Sat) (i found : ℕ) → own_part m'.0 ≡ longer (step_of Latch i 0 found) (own_part m.0) → taken_parts m'.0 ≡ taken_parts m.0
-    → (HasAllWorkers m.0 → latches i (own_steps m.0) + found ≡ total (λ p. seconds i p.steps) (taken_parts m.0))
-    → length (taken_parts m'.0) ≡ (own_part m'.0).workers → latches i (own_steps m'.0) ≡ total (λ p. seconds i p.steps) (taken_parts m'.0)
-latched-all m m' i found own taken whole count =
-    let before : HasAllWorkers m.0 = ap length (sym taken) ∙ (count ∙ ap (λ p. p.workers) own) in
-    let w = whole before in let one = when-same i i found refl in
-    ap (λ p. latches i p.steps) own ∙ (omega (arith, w) ∙ ap (λ ps. total (λ p. seconds i p.steps) ps) (sym taken))

@@ -189,6 +189,10 @@ FirstAdded st m r m' = (id : ℕ) → st.word ≡ 2 * id → m' ≡ (with_step (
 abbrev pub SecondAdded : Step (Unit {0}) → Sat → ℕ → Sat → Type 0
 SecondAdded st m r m' = (id : ℕ) → st.word ≡ 2 * id + 1 → m' ≡ (with_step (step_of Second id st.first r) m.0, m.1)
 
+-- the newest step of the seat is the first one of an add of n to this counter
+abbrev pub OwesSecond : ℕ → ℕ → CountPart → Type 0
+OwesSecond id n p = (found : ℕ) × (before : List CountStep) × (p.steps ≡ step_of First id n found ∷ before)
+
 -- all seats of workers stand behind the own part
 abbrev pub HasAllWorkers : View → Type 0
 HasAllWorkers v = length (taken_parts v) ≡ (own_part v).workers

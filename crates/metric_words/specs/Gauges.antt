@@ -11,10 +11,12 @@
 -- Where one seat alone has written the gauge, its word is the fold of that seat's steps, since no other step came in between.
 -- The seat that wrote last is some seat. Where its newest write is a set, the word is the number of that set; so where
 -- each seat that wrote has a set as its newest write, the word is the number of one of these.
-use Rattle.std.specs.Prelude.{◌≡◌, ℕ, zero, suc, ◌+◌, ◌-◌, ◌%◌, ◌^◌, ◌≤◌, Bool, true, false, ◌==◌, List, [], ◌∷◌, ◌⊎◌, length, slice_index}
+-- A seat that took all others in has the steps of all, so a load by it finds the word that all of them left.
+use Rattle.std.specs.Prelude.{◌≡◌, ℕ, zero, suc, ◌+◌, ◌-◌, ◌%◌, ◌^◌, ◌≤◌, Bool, true, false, ◌==◌, List, [], ◌∷◌, ◌⊎◌, length, slice_index, All}
+use Rattle.std.specs.List.{Any}
 use Rattle.atomic_table.specs.Table.{State, Me, Step}
 use Rattle.seat_parts.specs.declared.Parts.{Parts}
-use Rattle.seat_parts.specs.Parts.{total, parts_total, AllParts, AnyPart, first_or, own_changed}
+use Rattle.seat_parts.specs.Parts.{total, parts_total, AllParts, AnyPart, first_or, others_of, own_changed}
 use Rattle.metric_words.specs.declared.gauge_view.GaugeKind.{GaugeKind}
 use Rattle.metric_words.specs.declared.gauge_view.GaugeKind.TheVariants.{Add, Sub, Set, Load}
 use Rattle.metric_words.specs.declared.gauge_view.GaugeStep.{GaugeStep}
@@ -91,32 +93,46 @@ Alone words writes_of p = (id : ℕ) → writes_of id ≡ written id p.steps →
 abbrev pub WroteLast : ℕ → ℕ → GaugePart → Type 0
 WroteLast id word p = (1 ≤ written id p.steps) × LastSet id p.steps word
 
+-- What the word of a gauge is after all steps of these seats, which are all seats of the bank: the net of the
+-- steps modulo 2^64; where one seat alone has written, the fold of its steps; and where each seat that wrote has
+-- a set as its newest write, the number of one of these.
+pub record IsGaugeWord (id : ℕ) (seats : List GaugePart) (word : ℕ) : Type 0 where
+  pub value : word ≡ total (λ p. net id p.steps) seats % 2 ^ 64
+  pub alone : All (λ p. total (λ q. written id q.steps) seats ≡ written id p.steps
+      → word ≡ fold_of id p.steps) seats
+  pub last : (total (λ p. written id p.steps) seats ≡ 0) ⊎ Any (WroteLast id word) seats
+
 pub record Gauged (key : GaugeKey) (s : State (Unit {0}) View) : Type 0 where
   pub wide : length s.words ≡ key.size
   pub seats : parts_total (λ _. 1) s.views ≡ key.workers + 2
+  pub knows : AllParts (λ p. p.workers ≡ key.workers) s.views
   pub value : (id : ℕ) → slice_index s.words id ≡ parts_total (λ p. net id p.steps) s.views % 2 ^ 64
   pub alone : AllParts (Alone s.words (λ id. parts_total (λ p. written id p.steps) s.views)) s.views
   pub last : (id : ℕ) → (parts_total (λ p. written id p.steps) s.views ≡ 0) ⊎ AnyPart (WroteLast id (slice_index s.words id)) s.views
 
 -- a seat that has made no step
-abbrev pub new_gauge : ℕ → GaugePart
-new_gauge seat = record { seat = seat; steps = [] }
+abbrev pub new_gauge : ℕ → ℕ → GaugePart
+new_gauge workers seat = record { seat = seat; workers = workers; steps = [] }
 
 -- n seats, numbered from `seat` on
-abbrev pub new_gauges : ℕ → ℕ → List GaugePart
-new_gauges seat zero = []
-new_gauges seat (suc n) = new_gauge seat ∷ new_gauges (suc seat) n
+abbrev pub new_gauges : ℕ → ℕ → ℕ → List GaugePart
+new_gauges workers seat zero = []
+new_gauges workers seat (suc n) = new_gauge workers seat ∷ new_gauges workers (suc seat) n
 
 -- a new bank: the flusher has the number 0, the workers 1 to W, and the reader W + 1
 abbrev pub gauge_view : GaugeKey → View
-gauge_view key = record { parts = new_gauges 0 (key.workers + 2) }
+gauge_view key = record { parts = new_gauges key.workers 0 (key.workers + 2) }
 
 -- a view's own part; each seat of a bank has one
 abbrev pub own_gauge : View → GaugePart
-own_gauge v = first_or (new_gauge 0) v.parts
+own_gauge v = first_or (new_gauge 0 0) v.parts
+
+-- the parts of the seats that were taken in
+abbrev pub taken_gauges : View → List GaugePart
+taken_gauges v = others_of v.parts
 
 abbrev pub longer_gauge : GaugeStep → GaugePart → GaugePart
-longer_gauge s p = record { seat = p.seat; steps = s ∷ p.steps }
+longer_gauge s p = record { seat = p.seat; workers = p.workers; steps = s ∷ p.steps }
 
 abbrev pub with_gauge_step : GaugeStep → View → View
 with_gauge_step s v = own_changed (longer_gauge s) v
@@ -134,5 +150,11 @@ Subtracted st m r m' = m' ≡ (with_gauge_step (gauge_step Sub st.word st.first 
 abbrev pub SetTo : Step (Unit {0}) → Sat → ℕ → Sat → Type 0
 SetTo st m r m' = m' ≡ (with_gauge_step (gauge_step Set st.word st.first r) m.0, m.1)
 
+-- all other seats stand behind the own part
+abbrev pub HasAllSeats : View → Type 0
+HasAllSeats v = length (taken_gauges v) ≡ (own_gauge v).workers + 1
+
+-- a load by a seat that has taken in all others finds the word that all steps left
 abbrev pub Read : Step (Unit {0}) → Sat → ℕ → Sat → Type 0
-Read st m r m' = m' ≡ (with_gauge_step (gauge_step Load st.word 0 r) m.0, m.1)
+Read st m r m' = (m' ≡ (with_gauge_step (gauge_step Load st.word 0 r) m.0, m.1))
+    × (HasAllSeats m.0 → IsGaugeWord st.word m.0.parts r)

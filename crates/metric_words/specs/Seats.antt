@@ -12,7 +12,7 @@ use Rattle.metric_words.specs.declared.seats.WorkerSeat.{WorkerSeat}
 use Rattle.metric_words.specs.declared.seats.FlushSeat.{FlushSeat}
 use Rattle.metric_words.specs.declared.seats.ReadSeat.{ReadSeat}
 use Rattle.metric_words.specs.declared.seats.WordSeats.{WordSeats}
-use Rattle.metric_words.specs.Counters.{View, own_part, own_steps, taken_parts, later_parts, firsts, seconds, latches, Rises}
+use Rattle.metric_words.specs.Counters.{View, own_part, own_steps, taken_parts, later_parts, longer, firsts, seconds, latches, Rises}
 
 -- which bank it is, and with how many counters and workers
 abbrev pub bank_id : CounterBank → TableId
@@ -62,6 +62,14 @@ read_number r = (own_part r.seat.me.0).seat
 
 abbrev pub read_steps : ReadSeat → List CountStep
 read_steps r = own_steps r.seat.me.0
+
+-- the seat has made this step more, and keeps those that it took in
+pub record IsStepOf (x : CountStep) (old new : Seat (Unit {0}) View) : Type 0 where
+  pub table : new.table_id ≡ old.table_id
+  pub parts : length new.me.0.parts ≡ length old.me.0.parts
+  pub slots : length new.me.1 ≡ length old.me.1
+  pub own : own_part new.me.0 ≡ longer x (own_part old.me.0)
+  pub taken : taken_parts new.me.0 ≡ taken_parts old.me.0
 
 -- a worker's seat of the bank that has made no step
 abbrev pub IsNewWorker : TableId → WorkerSeat → Type 0

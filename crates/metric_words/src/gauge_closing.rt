@@ -1,7 +1,7 @@
 //! The end of a gauge bank.
-ghost use Rattle.std.specs.Prelude.{◌≡◌, ◌≤◌, [], length, IfOk, vec_capacity};
+ghost use Rattle.std.specs.Prelude.{◌≡◌, ◌≤◌, [], ◌++◌, length, flat_map, IfOk, vec_capacity};
 ghost use Rattle.std.specs.Mem.Slots.{slots_items, slots_len, IsFull};
-ghost use Rattle.metric_words.specs.GaugeLedger.{gauges_id, gauges_size, gauges_workers, AreAllGauges, gauge_parts, IsGaugeLedger, SameWords};
+ghost use Rattle.metric_words.specs.GaugeLedger.{gauges_id, gauges_size, gauges_workers, AreAllGauges, gauge_all, gauge_parts, IsGaugeLedger, SameWords};
 
 use crate::gauge_bank::{GaugeBank, GaugePlace};
 use crate::gauge_seats::{GaugeSeat, GaugeSeats};
@@ -26,11 +26,12 @@ impl GaugeBank {
         Ok(Words::of(words))
     }
 
-    // One seat that keeps the parts of all, in the order of their numbers.
+    // One seat that keeps the parts of all.
     fn gather(&self, seats: GaugeSeats) -> GaugePlace
         requires { AreAllGauges (gauges_id self.now) (gauges_workers self.now) seats }
         ensures seat { (result.table_id ≡ gauges_id self.now) × (length result.me.1 ≡ 0) }
-        ensures parts { result.me.0.parts ≡ gauge_parts seats }
+        ensures parts { result.me.0.parts ≡ gauge_all seats.flusher
+            ++ (flat_map gauge_all seats.workers.items ++ gauge_all seats.reader) }
     {
         let GaugeSeats {
             workers,

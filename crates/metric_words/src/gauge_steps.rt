@@ -1,12 +1,13 @@
 //! The steps of a gauge bank. None takes memory, waits or refuses.
-ghost use Rattle.std.specs.Prelude.{◌≡◌, ℕ, ◌<◌, ◌∷◌};
+ghost use Rattle.std.specs.Prelude.{◌≡◌, ℕ, ◌+◌, ◌<◌, ◌∷◌, ◌++◌, length};
 ghost use Rattle.metric_words.specs.declared.gauge_view.GaugeKind.TheVariants.{Add, Sub, Set, Load};
-ghost use Rattle.metric_words.specs.Gauges.{gauge_step};
-ghost use Rattle.metric_words.specs.GaugeLedger.{gauges_id, gauges_size, gauge_bank, gauge_number, gauge_steps};
+ghost use Rattle.metric_words.specs.Gauges.{gauge_step, IsGaugeWord};
+ghost use Rattle.metric_words.specs.GaugeLedger.{gauges_id, gauges_size, gauge_bank, gauge_number, gauge_workers, gauge_steps, gauge_taken, gauge_all};
 
 use crate::gauge_bank::GaugeBank;
 use crate::gauge_plays::{Adding, Reading, Setting, Subtracting};
 use crate::gauge_seats::GaugeSeat;
+use seat_parts::Merge;
 use stat_defs::MetricId;
 
 impl GaugeBank {
@@ -16,7 +17,9 @@ impl GaugeBank {
         requires id { id.0 < gauges_size self.now }
         ensures bank { gauge_bank seat.new ≡ gauge_bank seat.old }
         ensures number { gauge_number seat.new ≡ gauge_number seat.old }
+        ensures workers { gauge_workers seat.new ≡ gauge_workers seat.old }
         ensures steps { (x : ℕ) × (gauge_steps seat.new ≡ gauge_step Add id.0 n x ∷ gauge_steps seat.old) }
+        ensures taken { gauge_taken seat.new ≡ gauge_taken seat.old }
     {
         let shared = &self.table.shared;
         shared.fetch_add::<Adding>(&mut seat.seat, id.0 as usize, n);
@@ -28,7 +31,9 @@ impl GaugeBank {
         requires id { id.0 < gauges_size self.now }
         ensures bank { gauge_bank seat.new ≡ gauge_bank seat.old }
         ensures number { gauge_number seat.new ≡ gauge_number seat.old }
+        ensures workers { gauge_workers seat.new ≡ gauge_workers seat.old }
         ensures steps { (x : ℕ) × (gauge_steps seat.new ≡ gauge_step Sub id.0 n x ∷ gauge_steps seat.old) }
+        ensures taken { gauge_taken seat.new ≡ gauge_taken seat.old }
     {
         let shared = &self.table.shared;
         shared.fetch_sub::<Subtracting>(&mut seat.seat, id.0 as usize, n);
@@ -40,7 +45,9 @@ impl GaugeBank {
         requires id { id.0 < gauges_size self.now }
         ensures bank { gauge_bank seat.new ≡ gauge_bank seat.old }
         ensures number { gauge_number seat.new ≡ gauge_number seat.old }
+        ensures workers { gauge_workers seat.new ≡ gauge_workers seat.old }
         ensures steps { gauge_steps seat.new ≡ gauge_step Set id.0 n result ∷ gauge_steps seat.old }
+        ensures taken { gauge_taken seat.new ≡ gauge_taken seat.old }
     {
         let shared = &self.table.shared;
         shared.swap::<Setting>(&mut seat.seat, id.0 as usize, n)
@@ -52,9 +59,29 @@ impl GaugeBank {
         requires id { id.0 < gauges_size self.now }
         ensures bank { gauge_bank seat.new ≡ gauge_bank seat.old }
         ensures number { gauge_number seat.new ≡ gauge_number seat.old }
+        ensures workers { gauge_workers seat.new ≡ gauge_workers seat.old }
         ensures steps { gauge_steps seat.new ≡ gauge_step Load id.0 0 result ∷ gauge_steps seat.old }
+        ensures taken { gauge_taken seat.new ≡ gauge_taken seat.old }
+        // once all other seats are taken in, the word is what all steps on the gauge left
+        ensures whole { length (gauge_taken seat.old) ≡ gauge_workers seat.old + 1 →
+            IsGaugeWord id.0 (gauge_all seat.old) result }
     {
         let shared = &self.table.shared;
         shared.load::<Reading>(&mut seat.seat, id.0 as usize)
+    }
+
+    /// Joins another seat into a seat, which keeps its list under its number, behind those of the seats that it
+    /// took in before.
+    pub fn take_in(&self, seat: &mut GaugeSeat, other: GaugeSeat)
+        requires seat { gauge_bank seat.old ≡ gauges_id self.now }
+        requires other { gauge_bank other ≡ gauges_id self.now }
+        ensures bank { gauge_bank seat.new ≡ gauge_bank seat.old }
+        ensures number { gauge_number seat.new ≡ gauge_number seat.old }
+        ensures workers { gauge_workers seat.new ≡ gauge_workers seat.old }
+        ensures steps { gauge_steps seat.new ≡ gauge_steps seat.old }
+        ensures taken { gauge_taken seat.new ≡ gauge_taken seat.old ++ gauge_all other }
+    {
+        let GaugeSeat { seat: joined } = other;
+        self.table.shared.join_seat::<Merge>(&mut seat.seat, joined);
     }
 }

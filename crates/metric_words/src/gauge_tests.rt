@@ -63,6 +63,31 @@ fn set_set_add(rt: HostRuntime) -> Result<(), Fail> {
     Ok(())
 }
 
+// The last flush takes the workers in, and then reads.
+#[test]
+fn takes_workers_in(rt: HostRuntime) -> Result<(), Fail> {
+    let (bank, seats) = GaugeBank::new(rt.alloc(), 2, 3)?;
+    let GaugeSeats {
+        mut workers,
+        mut flusher,
+        reader,
+    } = seats;
+    bank.set(&mut workers[0], MetricId(2), 4);
+    bank.add(&mut workers[1], MetricId(2), 3);
+    while let Some(worker) = workers.pop() {
+        bank.take_in(&mut flusher, worker);
+    }
+    let value = bank.value(&mut flusher, MetricId(2));
+    let seats = GaugeSeats {
+        workers,
+        flusher,
+        reader,
+    };
+    let words = bank.close(rt.alloc(), seats)?;
+    assert!(rt; value == 7 && words.items()[2] == 7);
+    Ok(())
+}
+
 fn add_and_set(bank: &GaugeBank, mut seat: GaugeSeat, n: u64) -> GaugeSeat
     requires { (gauge_bank seat ≡ gauges_id bank.now) × (0 < gauges_size bank.now) }
     ensures { gauge_bank result ≡ gauges_id bank.now }

@@ -19,13 +19,14 @@ pub struct GaugeStep {
     pub found: u64,
 }
 
-/// A seat by its number, with its steps, the newest first.
+/// A seat of a bank of so many workers, by its number, with its steps, the newest first.
 pub struct GaugePart {
     pub seat: u64,
+    pub workers: u64,
     pub steps: LinkedList<GaugeStep>,
 }
 
-/// The part of a seat.
+/// The part of a seat, and behind it those of the seats that it took in.
 pub type GaugeView = Parts<GaugePart>;
 
 /// What the table of a bank is told: how many workers it has, and how many gauges.

@@ -10,6 +10,7 @@ mod gauge_plays;
 mod gauge_seats;
 mod gauge_steps;
 mod gauge_view;
+mod laws;
 mod limits;
 mod making;
 mod plays;
@@ -22,6 +23,10 @@ pub use closing::CounterClose;
 pub use gauge_bank::GaugeBank;
 pub use gauge_seats::{GaugeSeat, GaugeSeats};
 pub use gauge_view::{GaugeKey, GaugeKind, GaugePart, GaugeStep, GaugeView};
+pub use laws::{
+    counter_sums_grow, gauge_sums_grow, one_counter_at_the_end, one_writer_of_a_gauge,
+    the_newest_load_is_the_greatest,
+};
 pub use limits::{MAX_SIZE, MAX_UNITS, MAX_WORKERS};
 pub use seats::{FlushSeat, ReadSeat, WordSeats, WorkerSeat};
 pub use view::{BankKey, CountKind, CountPart, CountStep, CountView, SeatRole};

@@ -3,12 +3,12 @@ ghost use Rattle.std.specs.Prelude.{◌≡◌, ℕ, ◌+◌, ◌<◌, ◌≤◌,
 ghost use Rattle.seat_parts.specs.Parts.{total};
 ghost use Rattle.metric_words.specs.declared.limits.TheConstants.{MAX_UNITS};
 ghost use Rattle.metric_words.specs.declared.view.CountKind.TheVariants.{First, Second, Latch, Load};
-ghost use Rattle.metric_words.specs.Counters.{step_of, firsts, seconds, latches, Rises};
-ghost use Rattle.metric_words.specs.Seats.{bank_id, size_of, worker_bank, worker_part, worker_number, worker_steps, flush_bank, flush_number, flush_workers, flush_steps, flush_taken, read_bank, read_number, read_steps};
+ghost use Rattle.metric_words.specs.Counters.{worker_weight, flusher_weight, own_part, own_steps, taken_parts, HasAllWorkers, OwesSecond, step_of, firsts, seconds, latches, Rises};
+ghost use Rattle.metric_words.specs.Seats.{bank_id, size_of, worker_bank, worker_part, worker_number, worker_steps, flush_bank, flush_number, flush_workers, flush_steps, flush_taken, read_bank, read_number, read_steps, IsStepOf};
 
 use crate::bank::CounterBank;
 use crate::plays::{AddFirst, AddSecond, Latching, Loading};
-use crate::seats::{FlushSeat, ReadSeat, WorkerSeat};
+use crate::seats::{FlushSeat, Place, ReadSeat, WorkerSeat};
 use seat_parts::Merge;
 use stat_defs::MetricId;
 
@@ -23,10 +23,38 @@ impl CounterBank {
         ensures number { worker_number seat.new ≡ worker_number seat.old }
         ensures steps { (x y : ℕ) × (worker_steps seat.new ≡ step_of Second id.0 n y ∷ step_of First id.0 n x ∷ worker_steps seat.old) }
     {
-        let (value, pending) = (2 * id.0 as usize, 2 * id.0 as usize + 1);
-        let shared = &self.table.shared;
-        shared.fetch_add::<AddFirst>(&mut seat.seat, value, n as u64);
-        shared.fetch_add::<AddSecond>(&mut seat.seat, pending, n as u64);
+        self.add_first(&mut seat.seat, id, n);
+        self.add_second(&mut seat.seat, id, n);
+    }
+
+    // The first step of an add, to the value. It gives the word found.
+    fn add_first(&self, place: &mut Place, id: MetricId, n: u32) -> u64
+        requires bank { (place.old.table_id ≡ bank_id self.now) × (id.0 < size_of self.now) }
+        requires alone { (length place.old.me.0.parts ≡ 1) × (length place.old.me.1 ≡ 0) }
+        requires role { worker_weight (own_part place.old.me.0).role ≡ 1 }
+        requires even { (k : ℕ) → firsts k (own_steps place.old.me.0) ≡ seconds k (own_steps place.old.me.0) }
+        requires units { firsts id.0 (own_steps place.old.me.0) + n ≤ MAX_UNITS }
+        ensures step { IsStepOf (step_of First id.0 n result) place.old place.new }
+        ensures owes { OwesSecond id.0 n (own_part place.new.me.0) }
+    {
+        let word = 2 * id.0 as usize;
+        self.table
+            .shared
+            .fetch_add::<AddFirst>(place, word, n as u64)
+    }
+
+    // Its second step, to what is pending. It gives the word found.
+    fn add_second(&self, place: &mut Place, id: MetricId, n: u32) -> u64
+        requires bank { (place.old.table_id ≡ bank_id self.now) × (id.0 < size_of self.now) }
+        requires alone { (length place.old.me.0.parts ≡ 1) × (length place.old.me.1 ≡ 0) }
+        requires role { worker_weight (own_part place.old.me.0).role ≡ 1 }
+        requires first { OwesSecond id.0 n (own_part place.old.me.0) }
+        ensures { IsStepOf (step_of Second id.0 n result) place.old place.new }
+    {
+        let word = 2 * id.0 as usize + 1;
+        self.table
+            .shared
+            .fetch_add::<AddSecond>(place, word, n as u64)
     }
 
     /// Takes the units that are pending, by one atomic swap with 0, and gives them.
@@ -42,8 +70,22 @@ impl CounterBank {
         ensures whole { length (flush_taken seat.new) ≡ flush_workers seat.new →
             latches id.0 (flush_steps seat.new) ≡ total (λ p. seconds id.0 p.steps) (flush_taken seat.new) }
     {
+        self.swap_pending(&mut seat.seat, id)
+    }
+
+    // The one step of a latch.
+    fn swap_pending(&self, place: &mut Place, id: MetricId) -> u64
+        requires bank { (place.old.table_id ≡ bank_id self.now) × (id.0 < size_of self.now) }
+        requires leads { (0 < length place.old.me.0.parts) × (length place.old.me.1 ≡ 0) }
+        requires role { flusher_weight (own_part place.old.me.0).role ≡ 1 }
+        requires others { total (λ p. worker_weight p.role) (taken_parts place.old.me.0)
+            ≡ length (taken_parts place.old.me.0) }
+        ensures step { IsStepOf (step_of Latch id.0 0 result) place.old place.new }
+        ensures whole { HasAllWorkers place.old.me.0 → latches id.0 (own_steps place.old.me.0) + result
+            ≡ total (λ p. seconds id.0 p.steps) (taken_parts place.old.me.0) }
+    {
         let word = 2 * id.0 as usize + 1;
-        self.table.shared.swap::<Latching>(&mut seat.seat, word, 0)
+        self.table.shared.swap::<Latching>(place, word, 0)
     }
 
     /// Reads the counter's value by one atomic load. It may be ahead of the latched and pending units by adds that are under way.

@@ -33,9 +33,6 @@ module _ {A : Type 0} where
     any-behind : (x : A) (xs : List A) → Any P xs → Any P (x ∷ xs)
     any-behind x xs a = (suc a.0, a.1, (let h = a.2 in omega arith), a.3, a.4)
 
-    any-none : Any P [] → ⊥
-    any-none a = let h = a.2 in absurd (omega arith)
-
     any-left : (l m : List A) → Any P l → Any P (l ++ m)
     any-left l m a = let t = any-at l a in at-any (l ++ m) t.0 t.1 (at_longer l m t.0 t.1 t.2) t.3
 
@@ -47,8 +44,8 @@ module _ {A : Type 0} where
   any-mapped P Q up l a = (a.0, a.1, a.2, a.3, up a.1 a.4)
 
 module _ {P : Type 0} where
-  single : (F : P → Type 0) (p : P) → Any F (p ∷ []) → F p
-  single F p a = ⊎_elim (λ f. f) (λ n. absurd (any-none F n)) (any-cons F p [] a)
+  here-any : (F : P → Type 0) (p : P) (ps : List P) → F p → Any F (p ∷ ps)
+  here-any F p ps f = at-any F (p ∷ ps) 0 p refl f
 
   cut-any : (F : P → Type 0) (ps : List P) → Any F ps → Any F (first_of ps) ⊎ Any F (others_of ps)
   cut-any F [] a = inl a
@@ -58,15 +55,16 @@ module _ {P : Type 0} where
   there views id v w at = set_here views id w (at-below views id v at)
 
   -- where some part had F, some part has G after a step of the seat with the part p
-  pub step-any : (F G : P → Type 0) (views : List (Parts P)) (id : ℕ) (p q : P) → get_elem? views id ≡ some (led_by p []) → (F p → G q) → ((x : P) → F x → G x) → AnyPart F views → AnyPart G (set views id (led_by q []))
-  step-any F G views id p q at own up a = let R : Parts P → Type 0 = λ z. Any G z.parts in let t = any-at (λ (z : Parts P). Any F z.parts) views a in
+  pub step-any : (F G : P → Type 0) (views : List (Parts P)) (id : ℕ) (p q : P) (ps : List P) → get_elem? views id ≡ some (led_by p ps) → (F p → G q) → ((x : P) → F x → G x) → AnyPart F views → AnyPart G (set views id (led_by q ps))
+  step-any F G views id p q ps at own up a = let R : Parts P → Type 0 = λ z. Any G z.parts in let t = any-at (λ (z : Parts P). Any F z.parts) views a in
       dite (ℕ_discrete t.0 id)
-      (λ e. at-any R (set views id (led_by q [])) id (led_by q []) (there views id (led_by p []) (led_by q []) at)
-      (any-one G q (own (single F p (subst (λ (z : Parts P). Any F z.parts) (some-injective t.1 (led_by p []) (sym t.2 ∙ (ap (get_elem? views) e ∙ at))) t.3)))))
-      (λ n. at-any R (set views id (led_by q [])) t.0 t.1 (set_else views id t.0 (led_by q []) n ∙ t.2) (any-mapped F G up t.1.parts t.3))
+      (λ e. at-any R (set views id (led_by q ps)) id (led_by q ps) (there views id (led_by p ps) (led_by q ps) at)
+      (⊎_elim (λ f. here-any G q ps (own f)) (λ n. any-behind G q ps (any-mapped F G up ps n))
+      (any-cons F p ps (subst (λ (z : Parts P). Any F z.parts) (some-injective t.1 (led_by p ps) (sym t.2 ∙ (ap (get_elem? views) e ∙ at))) t.3))))
+      (λ n. at-any R (set views id (led_by q ps)) t.0 t.1 (set_else views id t.0 (led_by q ps) n ∙ t.2) (any-mapped F G up t.1.parts t.3))
 
-  pub own-any : (G : P → Type 0) (views : List (Parts P)) (id : ℕ) (p q : P) → get_elem? views id ≡ some (led_by p []) → G q → AnyPart G (set views id (led_by q []))
-  own-any G views id p q at g = at-any (λ (z : Parts P). Any G z.parts) (set views id (led_by q [])) id (led_by q []) (there views id (led_by p []) (led_by q []) at) (any-one G q g)
+  pub own-any : (G : P → Type 0) (views : List (Parts P)) (id : ℕ) (p q : P) (ps : List P) → get_elem? views id ≡ some (led_by p ps) → G q → AnyPart G (set views id (led_by q ps))
+  own-any G views id p q ps at g = at-any (λ (z : Parts P). Any G z.parts) (set views id (led_by q ps)) id (led_by q ps) (there views id (led_by p ps) (led_by q ps) at) (here-any G q ps g)
 
   pub split-any : (F : P → Type 0) (views : List (Parts P)) (id : ℕ) (v : Parts P) → get_elem? views id ≡ some v → AnyPart F views → AnyPart F (set views id (undealt v) ++ dealt v ∷ [])
   split-any F views id v at a = let R : Parts P → Type 0 = λ z. Any F z.parts in let left : List (Parts P) = set views id (undealt v) in let t = any-at R views a in

@@ -7,7 +7,7 @@ use Rattle.atomic_table.specs.Table.{Me}
 use Rattle.atomic_table.proofs.Lists.{set_else}
 use Rattle.seat_parts.specs.declared.Parts.{Parts}
 use Rattle.seat_parts.specs.Parts.{total, parts_total, AllParts, led_by, first_or, first_of, others_of, first_changed, own_changed, dealt, undealt, joined, spent}
-use Rattle.seat_parts.proofs.Sums.{total-append, total-set, total-bound, total-none, total-one, all-at, all-mapped, all-in, all-beside}
+use Rattle.seat_parts.proofs.Sums.{total-append, total-set, total-bound, total-none, total-one, term-le, all-at, all-mapped, all-in, all-beside}
 
 module _ {P : Type 0} where
   first-others-total : (f : P → ℕ) (ps : List P) → total f (first_of ps) + total f (others_of ps) ≡ total f ps
@@ -47,10 +47,15 @@ module _ {P : Type 0} where
       All-set R views id (led_by q ps) (All-cons G q ps g (All-tail G p ps own)) (all-mapped Q R (λ z. all-mapped F G up z.parts) views e)
 
   -- what each other part keeps, which is beside the part q in each sum
-  pub step-beside : (F G : P → Type 0) (views : List (Parts P)) (id : ℕ) (p q : P) → get_elem? views id ≡ some (led_by p [])
-      → ((x : P) → F x → ((f : P → ℕ) → f q + f x ≤ parts_total f (set views id (led_by q []))) → G x) → AllParts F views → G q → AllParts G (set views id (led_by q []))
-  step-beside F G views id p q at up e g = all-beside (λ (z : Parts P). All F z.parts) (λ (z : Parts P). All G z.parts) (λ h. total h (set views id (led_by q []))) views id (led_by p []) (led_by q [])
-      (λ v ev h. all-in F G v.parts (λ x fx le. up x fx (λ w. let a = le w in let b = h (λ (z : Parts P). total w z.parts) in omega arith)) ev) at (λ h. le_refl _) e (All-cons G q [] g (All-nil G))
+  pub step-beside : (F G : P → Type 0) (views : List (Parts P)) (id : ℕ) (p q : P) (ps : List P) → get_elem? views id ≡ some (led_by p ps)
+      → ((x : P) → F x → ((f : P → ℕ) → f q + f x ≤ parts_total f (set views id (led_by q ps))) → G x) → AllParts F views → G q → AllParts G (set views id (led_by q ps))
+  step-beside F G views id p q ps at up e g =
+      let Q : Parts P → Type 0 = λ z. All F z.parts in let views' : List (Parts P) = set views id (led_by q ps) in
+      let own : All F (p ∷ ps) = all-at Q views id (led_by p ps) e at in
+      let behind : (f : P → ℕ) → f q + total f ps ≤ parts_total f views' = λ f. let t = step-total f views id p q ps at in let b = term-le (λ (z : Parts P). total f z.parts) views id (led_by p ps) at in omega arith in
+      all-beside Q (λ (z : Parts P). All G z.parts) (λ h. total h views') views id (led_by p ps) (led_by q ps)
+      (λ v ev h. all-in F G v.parts (λ x fx le. up x fx (λ w. let a = le w in let b = h (λ (z : Parts P). total w z.parts) in omega arith)) ev) at (λ h. le_refl _) e
+      (All-cons G q ps g (all-in F G ps (λ x fx le. up x fx (λ w. let a = le w in let b = behind w in omega arith)) (All-tail F p ps own)))
 
   pub parts-mapped : (F G : P → Type 0) → ((p : P) → F p → G p) → (views : List (Parts P)) → AllParts F views → AllParts G views
   parts-mapped F G up views e = all-mapped (λ (z : Parts P). All F z.parts) (λ (z : Parts P). All G z.parts) (λ z. all-mapped F G up z.parts) views e

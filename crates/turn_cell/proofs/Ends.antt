@@ -19,7 +19,7 @@ use Rattle.turn_cell.specs.declared.view.FlusherStage.TheVariants.{Resting, Wait
 use Rattle.turn_cell.specs.declared.view.Party.{Party}
 use Rattle.turn_cell.specs.declared.view.Party.TheVariants.{Worker, Flusher}
 use Rattle.turn_cell.specs.declared.view.TurnPart.{TurnPart}
-use Rattle.turn_cell.specs.Turned.{word_of, WorkerFits, FlusherFits, SlotFits, worker_weight, flusher_weight, Knows, Turned, own_turn, new_turn, turn_view, has_left, has_no_slot}
+use Rattle.turn_cell.specs.Turned.{word_of, WorkerFits, FlusherFits, SlotFits, worker_weight, flusher_weight, Knows, Turned, own_turn, new_turn, turn_view, has_left, has_no_slot, is_resting}
 use Rattle.turn_cell.specs.Answers.{full_one}
 use Rattle.turn_cell.proofs.Fits.{leaver}
 
@@ -104,6 +104,15 @@ module _ {H : Type 0} (weighs : H → ℕ) where
   party-of (Flusher stage) e = (stage, refl)
   party-of (Worker stage) e = absurd (true≢false (sym e))
 
+  resting-of : (party : Party) → is_resting party ≡ true → party ≡ Flusher Resting
+  resting-of (Flusher Resting) e = refl
+  resting-of party e = absurd (true≢false (sym e))
+
+  idle-word : (left : Bool) (phase : Phase) → WorkerFits Departed left phase → FlusherFits Resting left phase → (word_of left phase == 11) ≡ false
+  idle-word true Idle w f = refl
+  idle-word false phase w f = absurd w
+  idle-word left phase w f = absurd f
+
   module _ (s : St) (r : Turned weighs s) (id : ℕ) (p q : TurnPart H) (at : get_elem? s.views id ≡ some (record { parts = p ∷ q ∷ [] })) where
     both-known : KnownPart r p × KnownPart r q
     both-known = let own = all-at (λ (v : Parts (TurnPart H)). Rattle.std.proofs.Common.All (KnownPart r) v.parts) s.views id (record { parts = p ∷ q ∷ [] }) r.parts at in
@@ -119,6 +128,13 @@ module _ {H : Type 0} (weighs : H → ℕ) where
           subst (λ hs. total weighs hs ≤ MAX_TURNED) (sym a.1) r.bound,
         )
 
+    -- a flusher that rests leaves no full half
+    pub idle-ends : has_left p.party ≡ true → is_resting q.party ≡ true → (get_or s.words 0 0 == 11) ≡ false
+    idle-ends l n =
+        let a : (Departed ≡ r.worker) × (p.halves ≡ r.turned) = subst (λ party. Knows r.worker r.turned r.flusher r.taken party p.halves) (leaver p.party l) both-known.0 in
+        let b : (Resting ≡ r.flusher) × (q.halves ≡ r.taken) = subst (λ party. Knows r.worker r.turned r.flusher r.taken party q.halves) (resting-of q.party n) both-known.1 in
+        subst (λ w. (w == 11) ≡ false) (sym r.word) (idle-word r.left r.phase (subst (λ k. WorkerFits k r.left r.phase) (sym a.0) r.worker_fits) (subst (λ k. FlusherFits k r.left r.phase) (sym b.0) r.flusher_fits))
+
   own-only : (v : Parts (TurnPart H)) → length v.parts ≡ 1 → v.parts ≡ own_turn v ∷ []
   own-only v a = one-part (new_turn (Worker Working)) v.parts a
 
@@ -130,6 +146,13 @@ module _ {H : Type 0} (weighs : H → ℕ) where
       let t = ends s seen.0 id (own_turn v) (own_turn w) (seen.1 ∙ ap some view) l n in let h = t.0 in
       let same : get_or s.words 0 0 ≡ word = ap (λ ws. get_or ws 0 0) is ∙ at-or words 0 word 0 at in
       (h.0, homes 0 (Some h.0) h.1, subst (λ k. Last (own_turn v).halves (own_turn w).halves k h.0) same h.2, t.1)
+
+  pub closes-idle : (id : ℕ) (v w : Parts (TurnPart H)) (z : Parts (TurnPart H)) (words : List ℕ) (xs : List (Option H)) (word : ℕ) → Final (Seen (Turned weighs) id z) words xs → z ≡ joined v w
+      → length v.parts ≡ 1 → length w.parts ≡ 1 → has_left (own_turn v).party ≡ true → is_resting (own_turn w).party ≡ true → get_elem? words 0 ≡ some word → (word == 11) ≡ false
+  closes-idle id v w z words xs word (s, seen, is, _, _) e a b l n at =
+      let view : z ≡ record { parts = own_turn v ∷ own_turn w ∷ [] } = e ∙ (λ i. record { parts = own-only v a i ++ own-only w b i }) in
+      let same : get_or s.words 0 0 ≡ word = ap (λ ws. get_or ws 0 0) is ∙ at-or words 0 word 0 at in
+      subst (λ k. (k == 11) ≡ false) same (idle-ends s seen.0 id (own_turn v) (own_turn w) (seen.1 ∙ ap some view) l n)
 
   half-of : H → Option H → H
   half-of d None = d

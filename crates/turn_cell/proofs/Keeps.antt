@@ -89,7 +89,7 @@ module _ {H : Type 0} (weighs : H → ℕ) where
           bound = bound;
           one_worker = omega arith;
           one_flusher = omega arith;
-          parts = step-beside (λ (x : TurnPart H). Knows r.worker r.turned r.flusher r.taken x.party x.halves) (λ (x : TurnPart H). Knows k' q.halves r.flusher r.taken x.party x.halves) s.views id p q at
+          parts = step-beside (λ (x : TurnPart H). Knows r.worker r.turned r.flusher r.taken x.party x.halves) (λ (x : TurnPart H). Knows k' q.halves r.flusher r.taken x.party x.halves) s.views id p q [] at
               (λ x e beside. keep-flusher r.worker k' r.turned q.halves r.flusher r.taken x.party x.halves (let b = beside (λ (z : TurnPart H). worker_weight z.party) in omega arith) e)
               r.parts (subst (λ party. Knows k' q.halves r.flusher r.taken party q.halves) (sym is') (refl, refl));
         }
@@ -123,7 +123,7 @@ module _ {H : Type 0} (weighs : H → ℕ) where
           bound = r.bound;
           one_worker = omega arith;
           one_flusher = omega arith;
-          parts = step-beside (λ (x : TurnPart H). Knows r.worker r.turned r.flusher r.taken x.party x.halves) (λ (x : TurnPart H). Knows r.worker r.turned k' q.halves x.party x.halves) s.views id p q at
+          parts = step-beside (λ (x : TurnPart H). Knows r.worker r.turned r.flusher r.taken x.party x.halves) (λ (x : TurnPart H). Knows r.worker r.turned k' q.halves x.party x.halves) s.views id p q [] at
               (λ x e beside. keep-worker r.worker r.turned r.flusher k' r.taken q.halves x.party x.halves (let b = beside (λ (z : TurnPart H). flusher_weight z.party) in omega arith) e)
               r.parts (subst (λ party. Knows r.worker r.turned k' q.halves party q.halves) (sym is') (refl, refl));
         }

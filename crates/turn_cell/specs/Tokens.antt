@@ -68,3 +68,8 @@ module _ {H : Type 0} where
   abbrev pub flusher_known : FlushAny H → TurnKnown H
   flusher_known (Idle f) = idle_known f
   flusher_known (Waiting f) = waiting_known f
+
+  -- the flusher has asked for nothing that it did not get
+  abbrev pub IsIdle : FlushAny H → Type 0
+  IsIdle (Idle f) = Unit {0}
+  IsIdle (Waiting f) = ⊥

@@ -20,9 +20,10 @@ pub enum Shape {
     FourCounters,
 }
 
-/// What the words of all counters sum up to.
+/// The values of the four counters that may be added to, and what the words of all counters sum up to.
 #[derive(Drop)]
 pub struct Totals {
+    pub values: [u64; 4],
     pub value: u64,
     pub pending: u64,
 }
@@ -57,10 +58,16 @@ pub fn run<R: Threads + Sync>(
         reader,
     };
     let closed = bank.close(alloc, seats)?;
+    let values = closed.values.items();
     Ok(Totals {
-        value: sum_of(closed.values.items()),
+        values: [0, 1, 2, 3].map(|place| word_at(values, place * APART)),
+        value: sum_of(values),
         pending: sum_of(closed.pending.items()),
     })
+}
+
+fn word_at(words: &[u64], id: u32) -> u64 {
+    words.get(id as usize).copied().unwrap_or(0)
 }
 
 fn sum_of(words: &[u64]) -> u64 {

@@ -56,8 +56,8 @@ fn main(rt: HostRuntime) -> io::Result<()> {
         } else {
             let totals = counters::run(&rt, rt.alloc(), shape, COUNTED).map_err(no_memory)?;
             println!(rt;
-                "{name}: value {}, pending {}",
-                totals.value, totals.pending
+                "{name}: value {}, pending {}, of the four {:?}",
+                totals.value, totals.pending, totals.values
             )?;
         }
     }

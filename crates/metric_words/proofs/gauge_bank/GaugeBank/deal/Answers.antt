@@ -12,16 +12,16 @@ split_seat-worker-requires c = (search rules, search rules, splits _ _ _)
 
 pub invariant_of-push : goal.invariant_of-push
 invariant_of-push c = let n = c.loop.counter in let w = c.args.workers in
-    let k = cut c.loop.seat.me (1 + n) (w + 1 - n) (1 + (n + 1)) (w + 1 - (n + 1)) c.loop.invariant.1 (search rules) (omega arith) (omega arith) in
-    let p = part-of _ _ (c.split_seat-worker.ensures.4 ∙ k.0) in record { alone = (p.0, p.1) }
+    let k = cut c.loop.seat.me w (1 + n) (w + 1 - n) (1 + (n + 1)) (w + 1 - (n + 1)) c.loop.invariant.1 (search rules) (omega arith) (omega arith) in
+    let p = part-of _ _ _ (c.split_seat-worker.ensures.4 ∙ k.0) in record { leads = (p.0, p.1) }
 
 pub loop-preserved : goal.loop-preserved
 loop-preserved c = let n = c.loop.counter in let w = c.args.workers in let i = c.loop.invariant in let items = c.in_ok-push.ensures.items in
-    let k = cut c.loop.seat.me (1 + n) (w + 1 - n) (1 + (n + 1)) (w + 1 - (n + 1)) i.1 (search rules) (omega arith) (omega arith) in
-    let p = part-of _ _ (c.split_seat-worker.ensures.4 ∙ k.0) in let P = IsNewGauge c.args.seat.table_id in (
+    let k = cut c.loop.seat.me w (1 + n) (w + 1 - n) (1 + (n + 1)) (w + 1 - (n + 1)) i.1 (search rules) (omega arith) (omega arith) in
+    let p = part-of _ _ _ (c.split_seat-worker.ensures.4 ∙ k.0) in let P = IsNewGauge c.args.seat.table_id in (
       search rules,
       c.split_seat-worker.ensures.2 ∙ k.1,
       search rules,
       numbers-push c.loop.list.items _ _ n i.3 items (ap (λ z. z.seat) p.2),
-      subst (All P) (sym items) (All-push P c.loop.list.items _ i.4 ((c.split_seat-worker.ensures.3 ∙ i.0), ap (λ z. z.steps) p.2)),
+      subst (All P) (sym items) (All-push P c.loop.list.items _ i.4 (c.split_seat-worker.ensures.3 ∙ i.0, ap (λ z. z.steps) p.2, p.3)),
     )

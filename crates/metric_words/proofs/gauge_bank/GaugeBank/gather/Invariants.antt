@@ -1,11 +1,12 @@
-use Rattle.std.proofs.Common.{◌≡◌, ◌++◌, ◌∷◌, [], length, map, All}
-use Rattle.metric_words.specs.GaugeLedger.{gauges_id, gauge_bank, gauge_part}
+use Rattle.std.proofs.Common.{◌≡◌, ◌++◌, length, All}
+use Rattle.std.specs.List.{flat_map}
+use Rattle.metric_words.specs.GaugeLedger.{gauges_id, gauge_bank, gauge_all}
 use Rattle.metric_words.proofs.gauge_bank.GaugeBank.gather.Given as goal
 
 abbrev pub invariant-loop-worker : goal.invariant-loop-worker
 invariant-loop-worker l =
     (l.all.table_id ≡ gauges_id l.self) × (length l.all.me.1 ≡ 0)
-    × (map gauge_part l.workers.items ++ l.all.me.0.parts ≡ map gauge_part l.fn.seats.workers.items ++ gauge_part l.fn.seats.reader ∷ [])
+    × (flat_map gauge_all l.workers.items ++ l.all.me.0.parts ≡ flat_map gauge_all l.fn.seats.workers.items ++ gauge_all l.fn.seats.reader)
     × All (λ w. gauge_bank w ≡ gauges_id l.self) l.workers.items
 
 abbrev pub decreases-loop-worker : goal.decreases-loop-worker

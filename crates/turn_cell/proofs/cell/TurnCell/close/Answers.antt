@@ -1,7 +1,7 @@
 use Rattle.std.proofs.Common.{rules, ◌∙◌, ap, sym, Some}
 use mathlib.Core.Option.{some-injective}
 use Rattle.seat_parts.proofs.Cuts.{no-slots}
-use Rattle.turn_cell.proofs.Ends.{joins, closes, out-of}
+use Rattle.turn_cell.proofs.Ends.{joins, closes, closes-idle, out-of}
 use Rattle.turn_cell.proofs.cell.TurnCell.close.Goals as goal
 
 pub join_seat-requires : goal.join_seat-requires
@@ -25,3 +25,7 @@ returns-clause-spare g c = let note = c.args.note in let f = c.seat_of.ensures i
 pub returns-clause-weights : goal.returns-clause-weights
 returns-clause-weights g c = let note = c.args.note in let f = c.seat_of.ensures in
     (closes g.H.Weighed.weighs _ note.seat.me.0 c.seat_of.result.me.0 _ _ _ c.word-word.result c.close_with-closed.ensures.values.2 (ap (λ z. z.0) c.join_seat.ensures.2) note.alone.0 f.alone.0 note.stage f.stage c.word-word.ensures).3
+
+pub returns-clause-idle : goal.returns-clause-idle
+returns-clause-idle g c idle = let note = c.args.note in let f = c.seat_of.ensures in
+    closes-idle g.H.Weighed.weighs _ note.seat.me.0 c.seat_of.result.me.0 _ _ _ c.word-word.result c.close_with-closed.ensures.values.2 (ap (λ z. z.0) c.join_seat.ensures.2) note.alone.0 f.alone.0 note.stage (f.idle idle) c.word-word.ensures
