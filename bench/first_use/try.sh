@@ -1,0 +1,78 @@
+#!/usr/bin/env bash
+# Tries the script ./envoy_stats on a copy of this repository, with a stand-in for rt that proves nothing and takes a second
+# a crate. It prints a line for each case, and the status is the number of cases that went wrong.
+set -u
+here=$(dirname "$(readlink -f "${BASH_SOURCE[0]}")")
+place=$(mktemp -d)
+trap 'rm -rf "$place"' EXIT
+mkdir "$place/bin"
+cat >"$place/bin/rt" <<'STANDIN'
+#!/usr/bin/env bash
+case $1 in
+  check) sleep "${SECONDS_EACH:-1}"; [ "$(basename "$PWD")" != "${BAD:-}" ] ;;
+  run) mkdir -p out; printf '#!/bin/sh\necho "ran $@"\nexit 3\n' >out/envoy_stats; chmod +x out/envoy_stats ;;
+esac
+STANDIN
+chmod +x "$place/bin/rt"
+PATH=$place/bin:$PATH
+top=$place/repository
+mkdir "$top"
+(cd "$here/../.." && tar -c --exclude=./.git --exclude=out .) | tar -x -C "$top"
+wrong=0
+
+# A case: what it is, the wanted status, a text that the output has, and one that it has not.
+try() {
+  local case=$1 status=$2 has=$3 lacks=$4 got
+  shift 4
+  "$@" >"$place/said" 2>&1 </dev/null
+  got=$?
+  if [ "$got" = "$status" ] && grep -q -- "$has" "$place/said" && ! grep -q -- "$lacks" "$place/said"; then
+    echo "ok: $case"
+  else
+    echo "WRONG: $case: status $got"
+    sed 's/^/  /' "$place/said"
+    wrong=$((wrong + 1))
+  fi
+}
+
+none='no such text'
+source=$top/crates/stat_defs/src/ids.rt
+start=$(date +%s)
+try 'a fresh copy is proved and built, and the words are given on' 3 'ran replay - a b' "$none" "$top/envoy_stats" replay - 'a b'
+took=$(($(date +%s) - start))
+crates=$(grep -c ': proved crate' "$place/said")
+echo "$crates crates of a second each took $took seconds"
+try 'it says so before it builds' 3 'proved and built first' "$none" sh -c "rm $top/crates/envoy_stats/out/script.sum; $top/envoy_stats no command"
+try 'nothing is proved again' 3 'ran x' 'proved' "$top/envoy_stats" x
+try 'from another folder' 3 'ran x' 'proved' sh -c "cd / && $top/envoy_stats x"
+touch "$source"
+try 'a new time of a file is no change' 3 'ran x' 'proved' "$top/envoy_stats" x
+echo '// changed' >>"$source"
+touch -d 2001-01-01 "$source"
+try 'a change is seen though its file is older than the program' 3 'proved crate' "$none" "$top/envoy_stats" x
+echo '// changed' >>"$source"
+try 'a crate that is not proved' 70 'crate stats_io is not proved' 'ran' env BAD=stats_io "$top/envoy_stats" x
+try 'and then it is' 3 'ran x' "$none" "$top/envoy_stats" x
+
+echo '// changed' >>"$source"
+SECONDS_EACH=60 "$top/envoy_stats" x >/dev/null 2>&1 &
+interrupted=$!
+sleep 2
+kill -TERM "$interrupted"
+wait "$interrupted"
+try 'an interrupted build has the status of its signal' 0 '^143$' "$none" echo $?
+try 'and leaves no process' 0 '^0$' "$none" sh -c 'pgrep -ax sleep | grep -c "sleep 60"; true'
+try 'and nothing that matters' 3 'ran x' "$none" "$top/envoy_stats" x
+
+echo '// changed' >>"$source"
+"$top/envoy_stats" first >"$place/first" 2>&1 &
+sleep 1
+try 'a second build waits for the first' 3 'waiting for it' 'proved crate' "$top/envoy_stats" second
+wait $!
+try 'which was made meanwhile' 0 'ran first' "$none" cat "$place/first"
+
+try 'no rt' 70 'rt is not on the PATH' "$none" sh -c "echo >>$source; PATH=/usr/bin:/bin $top/envoy_stats x"
+mv "$top/crates/envoy_stats/out" "$place/out"
+: >"$top/crates/envoy_stats/out"
+try 'a folder that cannot be written' 70 'cannot be written' "$none" "$top/envoy_stats" x
+exit "$wrong"
