@@ -1,13 +1,19 @@
 -- How what a report says grows by one event, by log entries and by one flush at the end. This project's own.
-use Rattle.std.specs.Prelude.{◌≡◌, ◌≤◌, ◌<◌, ℕ, suc, ◌+◌, true, false, Option, None, Some, List, [], ◌∷◌, ◌++◌, length, take, option_to_list}
+use Rattle.std.specs.Prelude.{◌≡◌, ◌≤◌, ◌<◌, ℕ, suc, ◌+◌, if◌then◌else◌, Bool, true, false, Option, None, Some, List, [], ◌∷◌, ◌++◌, length, map, filter, take, slice_get, option_to_list}
+use Rattle.std.specs.Option.{option_map_or}
 use Rattle.std.specs.List.{flat_map}
 use Rattle.stat_defs.specs.declared.configs.ScopeSpec.{ScopeSpec}
 use Rattle.stat_defs.specs.declared.events.Event.{Event}
 use Rattle.stat_defs.specs.declared.history.Verdict.{Verdict}
 use Rattle.stat_defs.specs.declared.history.Entry.{Entry}
+use Rattle.stat_defs.specs.declared.ids.Kind.{Kind}
+use Rattle.stat_defs.specs.declared.ids.MetricId.{MetricId}
+use Rattle.stat_defs.specs.declared.metrics.Metric.{Metric}
+use Rattle.stat_defs.specs.declared.reports.Delta.{Delta}
 use Rattle.stat_defs.specs.declared.reports.FlushRecord.{FlushRecord}
+use Rattle.stat_defs.specs.Keys.{same_kind}
 use Rattle.merge_round.specs.Rounds.{ArePartsOf}
-use Rattle.book_state.specs.State.{NameRules}
+use Rattle.book_state.specs.State.{NameRules, State, metrics_of, ids_from, names_in}
 use Rattle.book_state.specs.Step.{change_at}
 use Rattle.book_state.specs.Log.{openings}
 use Rattle.book_state.specs.Follows.{FollowsSoFar}
@@ -15,7 +21,7 @@ use Rattle.ledger.specs.Lists.{EachNumbered}
 use Rattle.ledger.specs.Work.{Work, Recording, units_in, units_of, recording_in, recordings}
 use Rattle.ledger.specs.Gauges.{GaugeMove, move_in, movers, all_moves, word_after, word_of_moves, gauge_word, GaugeFits}
 use Rattle.ledger.specs.Segments.{taken_from, segments, left_over, TakesLess, taken_now, segment_of, bins_by_worker}
-use Rattle.ledger.specs.Flushes.{Fits, FitSoFar, FitAll, flushed, flushed_in}
+use Rattle.ledger.specs.Flushes.{ids_not_gone, Fits, FitSoFar, FitAll, flushed, flushed_in}
 
 -- one more event of the worker at this place
 abbrev pub with_event : ℕ → Event × Verdict → List Work → List Work
@@ -83,6 +89,22 @@ pub record PartsTake : Type 0 where
       → ArePartsOf (bins_by_worker (left_over 1 work flushes ∷ [])) flush.parts → left_over 1 work (flushes ++ flush ∷ []) ≡ []
   pub less : (work : Work) (flushes : List FlushRecord) (flush : FlushRecord) → TakesLess 1 work flushes
       → ArePartsOf (bins_by_worker (left_over 1 work flushes ∷ [])) flush.parts → TakesLess 1 work (flushes ++ flush ∷ [])
+
+-- the metrics of these numbers of which this holds too
+abbrev pub those_of : (Metric → Bool) → List Metric → List MetricId → List MetricId
+those_of holds metrics ids = filter (λ id. option_map_or holds (slice_get metrics id.0) false) ids
+
+abbrev pub delta_by : (ℕ → ℕ) → MetricId → Delta
+delta_by n id = record { id = id; n = n id.0 }
+
+pub record NamesShown : Type 0 where
+  -- what is not gone of a kind are those of the kind among all that is not gone
+  pub kinds : (kind : Kind) (s : State)
+      → those_of (λ metric. same_kind metric.kind kind) (metrics_of s) (names_in s) ≡ ids_not_gone kind s
+  -- a delta for each of some metrics adds the units of a metric among them, and none of any other
+  pub deltas : (holds : Metric → Bool) (metrics : List Metric) (n : ℕ → ℕ) (flush : FlushRecord) (id : ℕ)
+      → flush.deltas ≡ map (delta_by n) (ids_from holds 0 metrics)
+      → flushed_in id flush ≡ (if option_map_or holds (slice_get metrics id) false then n id else 0)
 
 -- the openings of the configuration are no entries of a worker, so it follows no event so far
 abbrev pub FollowsFromOpenings : Type 0

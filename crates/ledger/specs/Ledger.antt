@@ -1,5 +1,5 @@
 -- The ledger of a run, in five parts, and the form that it has where one worker replays all files. This project's own.
-use Rattle.std.specs.Prelude.{◌≡◌, ℕ, ◌+◌, not, Bool, true, Option, List, length, map, count_by, drop, AllPairs}
+use Rattle.std.specs.Prelude.{◌≡◌, ℕ, ◌+◌, not, true, Option, List, length, map, count_by, drop, AllPairs}
 use Rattle.std.specs.List.{zip, list_all, flat_map, AllZip, AllByRecursion}
 use Rattle.std.specs.List.Sorted.{IsStrictlyIncreasing, IsNonDecreasing}
 use Rattle.stat_defs.specs.declared.ids.Kind.TheVariants.{Counter}

@@ -159,17 +159,17 @@ Read report = AreRead (file_of increments ∷ []) (increments ∷ []) report
 abbrev pub workers : Report → List Work
 workers report = apart (increments ∷ []) report.verdicts
 
-abbrev pub History : Report → Type 0
-History report = HasHistory plain_plan (workers report) report
+abbrev pub History : RunPlan → Report → Type 0
+History plan report = HasHistory plan (workers report) report
 
-abbrev pub Swept : Report → Type 0
-Swept report = AreSwept plain_plan report
+abbrev pub Swept : RunPlan → Report → Type 0
+Swept plan report = AreSwept plan report
 
-abbrev pub Accounted : Report → Type 0
-Accounted report = Account plain_plan (workers report) report
+abbrev pub Accounted : RunPlan → Report → Type 0
+Accounted plan report = Account plan (workers report) report
 
-abbrev pub Shown : Report → Type 0
-Shown report = AreShown plain_plan (workers report) report
+abbrev pub Shown : RunPlan → Report → Type 0
+Shown plan report = AreShown plan (workers report) report
 
 -- no end of the file
 abbrev pub without_end : Report
@@ -194,43 +194,40 @@ plan_of_reading = record plain_plan { reads = 1 }
 abbrev pub with_reading : ℕ → Report
 with_reading units = record of_increments { reads = record { at = 2; counters = reading 0 units ∷ []; gauges = [] } ∷ [] }
 
-abbrev pub ShownOnce : Report → Type 0
-ShownOnce report = AreShown plan_of_reading (workers report) report
-
-pub record FirstAloneBroken (report : Report) : Type 0 where
+pub record FirstAloneBroken (plan : RunPlan) (report : Report) : Type 0 where
   pub not_read : Read report → ⊥
-  pub history : History report
-  pub swept : Swept report
-  pub account : Accounted report
-  pub shown : Shown report
+  pub history : History plan report
+  pub swept : Swept plan report
+  pub account : Accounted plan report
+  pub shown : Shown plan report
 
-pub record SecondAloneBroken (report : Report) : Type 0 where
+pub record SecondAloneBroken (plan : RunPlan) (report : Report) : Type 0 where
   pub read : Read report
-  pub no_history : History report → ⊥
-  pub swept : Swept report
-  pub account : Accounted report
-  pub shown : Shown report
+  pub no_history : History plan report → ⊥
+  pub swept : Swept plan report
+  pub account : Accounted plan report
+  pub shown : Shown plan report
 
-pub record ThirdAloneBroken (report : Report) : Type 0 where
+pub record ThirdAloneBroken (plan : RunPlan) (report : Report) : Type 0 where
   pub read : Read report
-  pub history : History report
-  pub not_swept : Swept report → ⊥
-  pub account : Accounted report
-  pub shown : Shown report
+  pub history : History plan report
+  pub not_swept : Swept plan report → ⊥
+  pub account : Accounted plan report
+  pub shown : Shown plan report
 
-pub record FourthAloneBroken (report : Report) : Type 0 where
+pub record FourthAloneBroken (plan : RunPlan) (report : Report) : Type 0 where
   pub read : Read report
-  pub history : History report
-  pub swept : Swept report
-  pub no_account : Accounted report → ⊥
-  pub shown : Shown report
+  pub history : History plan report
+  pub swept : Swept plan report
+  pub no_account : Accounted plan report → ⊥
+  pub shown : Shown plan report
 
-pub record FifthAloneBroken (report : Report) : Type 0 where
+pub record FifthAloneBroken (plan : RunPlan) (report : Report) : Type 0 where
   pub read : Read report
-  pub history : History report
-  pub swept : Swept report
-  pub account : Accounted report
-  pub not_shown : ShownOnce report → ⊥
+  pub history : History plan report
+  pub swept : Swept plan report
+  pub account : Accounted plan report
+  pub not_shown : Shown plan report → ⊥
 
 -- two workers, one flush besides the last, and one reading
 abbrev pub plan_of_two : RunPlan

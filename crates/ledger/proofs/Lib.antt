@@ -1,0 +1,16 @@
+pub mod Lists
+pub mod Sums
+pub mod Words
+pub mod Pieces
+pub mod FlushesFit
+pub mod PartLists
+pub mod Drawings
+pub mod Replies
+pub mod Packed
+pub mod OneEvent
+pub mod OneLog
+pub mod OneFlush
+pub mod Contents
+pub mod Openings
+pub mod WorkedParts
+pub mod Names
