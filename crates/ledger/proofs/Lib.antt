@@ -14,3 +14,5 @@ pub mod Contents
 pub mod Openings
 pub mod WorkedParts
 pub mod Names
+pub mod WorkLists
+pub mod Sweeps

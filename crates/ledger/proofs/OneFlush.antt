@@ -2,7 +2,6 @@
 use Rattle.std.proofs.Common.{◌≡◌, ℕ, ◌+◌, ◌<◌, ◌≤◌, ◌==◌, cond, Bool, true, false, Option, List, [], ◌∷◌, ◌++◌, map, length, take, refl, ap, sym, ◌∙◌, subst, arith, append-nil}
 use Rattle.std.specs.Prelude.{sum_by}
 use Rattle.std.specs.List.{zip, flat_map, AllByRecursion}
-use Rattle.std.proofs.lemmas.List.{map-append}
 use Rattle.std.proofs.lemmas.List.Sums.{sum_by-cons}
 use Rattle.stat_defs.specs.declared.ids.MetricId.{MetricId}
 use Rattle.stat_defs.specs.declared.ids.Kind.TheVariants.{Counter, Gauge}
@@ -22,13 +21,14 @@ use Rattle.merge_round.specs.Rounds.{ArePartsOf}
 use Rattle.book_state.specs.State.{State, metrics_of, ids_from}
 use Rattle.book_state.specs.Log.{replay}
 use Rattle.book_state.specs.Follows.{Follows}
-use Rattle.ledger.specs.Work.{Work, events_in, verdicts_in, event_told, verdict_told, work_of, units_of, recordings}
+use Rattle.ledger.specs.Work.{Work, events_in, verdicts_in, work_of, units_of, recordings}
 use Rattle.ledger.specs.Gauges.{movers, all_moves, word_of_moves, GaugeFits}
 use Rattle.ledger.specs.Segments.{taken_from, bins_by_worker}
 use Rattle.ledger.specs.Flushes.{ids_made, ids_not_gone, id_of_delta, id_of_reading, delta_on, flushed}
 use Rattle.ledger.specs.Ledger.{RunPlan, ReplayLedger}
 use Rattle.ledger.specs.OneReport.{without_ends}
-use Rattle.ledger.proofs.Lists.{nil_cons, cons_same, head_same, tail_same, both_appended, none_of, one_of, number_apart, number_same}
+use Rattle.ledger.proofs.Lists.{nil_cons, cons_same, head_same, tail_same, none_of, one_of, number_apart, number_same}
+use Rattle.ledger.proofs.WorkLists.{lengths, events_back, verdicts_back}
 use Rattle.ledger.proofs.Words.{one_mover}
 use Rattle.ledger.proofs.PartLists.{one_list}
 use Rattle.ledger.proofs.OneLog.{one_log}
@@ -36,38 +36,6 @@ use Rattle.ledger.proofs.OneLog.{one_log}
 both_all : {X : Type 0} (P Q R : X → Type 0) → ((x : X) → P x → Q x → R x) → (xs : List X) → AllByRecursion P xs → AllByRecursion Q xs → AllByRecursion R xs
 both_all P Q R f [] p q = tt
 both_all P Q R f (x ∷ xs) p q = (f x p.0 q.0, both_all P Q R f xs p.1 q.1)
-
--- verdicts of files in a row
-zip_events : (es : List Event) (vs : List Verdict) → length vs ≡ length es → map event_told (zip es vs) ≡ es
-zip_events [] vs e = refl
-zip_events (x ∷ es) [] e = absurd (omega (arith, e))
-zip_events (x ∷ es) (v ∷ vs) e = ap (λ (l : List Event). x ∷ l) (zip_events es vs (omega (arith, e)))
-
-zip_verdicts : (es : List Event) (vs : List Verdict) → length vs ≡ length es → map verdict_told (zip es vs) ≡ vs
-zip_verdicts [] [] e = refl
-zip_verdicts [] (v ∷ vs) e = absurd (omega (arith, e))
-zip_verdicts (x ∷ es) [] e = absurd (omega (arith, e))
-zip_verdicts (x ∷ es) (v ∷ vs) e = ap (λ (l : List Verdict). v ∷ l) (zip_verdicts es vs (omega (arith, e)))
-
-abbrev lengths : {X : Type 0} → List (List X) → List ℕ
-lengths xss = map (λ xs. length xs) xss
-
-events_back : (events : List (List Event)) (verdicts : List (List Verdict)) → lengths verdicts ≡ lengths events → events_in (flat_map work_of (zip events verdicts)) ≡ flat_map (λ es. es) events
-events_back [] verdicts e = refl
-events_back (es ∷ events) [] e = absurd (nil_cons (length es) (lengths events) e)
-events_back (es ∷ events) (vs ∷ verdicts) e =
-    map-append event_told (zip es vs) (flat_map work_of (zip events verdicts))
-    ∙ both_appended (map event_told (zip es vs)) es (map event_told (flat_map work_of (zip events verdicts))) (flat_map (λ x. x) events)
-    (zip_events es vs (head_same (length vs) (length es) (lengths verdicts) (lengths events) e)) (events_back events verdicts (tail_same (length vs) (length es) (lengths verdicts) (lengths events) e))
-
-verdicts_back : (events : List (List Event)) (verdicts : List (List Verdict)) → lengths verdicts ≡ lengths events → verdicts_in (flat_map work_of (zip events verdicts)) ≡ flat_map (λ vs. vs) verdicts
-verdicts_back [] [] e = refl
-verdicts_back [] (vs ∷ verdicts) e = absurd (nil_cons (length vs) (lengths verdicts) (sym e))
-verdicts_back (es ∷ events) [] e = absurd (nil_cons (length es) (lengths events) e)
-verdicts_back (es ∷ events) (vs ∷ verdicts) e =
-    map-append verdict_told (zip es vs) (flat_map work_of (zip events verdicts))
-    ∙ both_appended (map verdict_told (zip es vs)) vs (map verdict_told (flat_map work_of (zip events verdicts))) (flat_map (λ x. x) verdicts)
-    (zip_verdicts es vs (head_same (length vs) (length es) (lengths verdicts) (lengths events) e)) (verdicts_back events verdicts (tail_same (length vs) (length es) (lengths verdicts) (lengths events) e))
 
 split_same : {X : Type 0} (v w r q : List X) → length v ≡ length w → v ++ r ≡ w ++ q → (v ≡ w) × (r ≡ q)
 split_same [] [] r q l e = (refl, e)

@@ -23,7 +23,8 @@ ids_made kind s = ids_from (λ metric. same_kind metric.kind kind) 0 (metrics_of
 abbrev pub ids_not_gone : Kind → State → List MetricId
 ids_not_gone kind s = ids_from (λ metric. same_kind metric.kind kind && not (is_gone metric.life)) 0 (metrics_of s)
 
--- the counters that a flush shows: those that were not gone before its sweep, and in the last flush all that were ever made
+-- the counters that a flush shows: those that were not gone before its sweep, and in the last flush all that were
+-- ever made
 abbrev pub counters_shown : Bool → State → State → List MetricId
 counters_shown last before whole = if last then ids_made Counter whole else ids_not_gone Counter before
 
@@ -33,18 +34,20 @@ id_of_delta delta = delta.id
 abbrev pub id_of_reading : Reading → MetricId
 id_of_reading reading = reading.id
 
--- A flush whose sweep stands in this log, and which took these segments, one of each worker. `last` tells whether it is the
--- last.
-pub record Fits (rules : NameRules) (log : List Entry) (last : Bool) (segments : List (List Recording)) (flush : FlushRecord) : Type 0 where
+-- A flush whose sweep stands in this log, and which took these segments, one of each worker. `last` tells whether it
+-- is the last.
+pub record Fits (rules : NameRules) (log : List Entry) (last : Bool) (segs : List (List Recording)) (flush : FlushRecord)
+    : Type 0 where
   -- the entry at its place is a sweep
   pub sweep : option_map (λ e. e.call) (slice_get log flush.at) ≡ Some call.Sweep
   -- a delta for each counter that it shows
   pub deltas : map id_of_delta flush.deltas
-      ≡ counters_shown last (replay rules (length segments) (take flush.at log)) (replay rules (length segments) log)
+      ≡ counters_shown last (replay rules (length segs) (take flush.at log)) (replay rules (length segs) log)
   -- a reading for each gauge that was not gone before the sweep
-  pub gauges : map id_of_reading flush.gauges ≡ ids_not_gone Gauge (replay rules (length segments) (take flush.at log))
+  pub gauges : map id_of_reading flush.gauges
+      ≡ ids_not_gone Gauge (replay rules (length segs) (take flush.at log))
   -- a part exactly where a worker's segment has a value on a histogram: the bins of these values
-  pub parts : ArePartsOf (bins_by_worker segments) flush.parts
+  pub parts : ArePartsOf (bins_by_worker segs) flush.parts
 
 -- each of these flushes fits, where none is the last
 abbrev pub FitSoFar : NameRules → List Entry → List Work → List FlushRecord → Type 0

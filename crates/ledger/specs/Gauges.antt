@@ -1,5 +1,5 @@
--- What the last word of a gauge can be, as far as the order of one worker's events tells it (Envoy's statistics overview:
--- gauges are added to, subtracted from and set; words of 64 bits and their order are this project's own).
+-- What the last word of a gauge can be, as far as the order of one worker's events tells it (Envoy's statistics
+-- overview: gauges are added to, subtracted from and set; words of 64 bits and their order are this project's own).
 use Rattle.std.specs.Prelude.{◌≡◌, ◌≤◌, ℕ, ◌+◌, ◌-◌, ◌%◌, ◌^◌, ◌==◌, if◌then◌else◌, not, Bool, true, false, Option, None, Some, is_some, List, [], ◌∷◌, length, map, fold, filter, sum_by, filter_map, Contains}
 use Rattle.std.specs.List.{list_all, flat_map}
 use Rattle.stat_defs.specs.declared.events.GaugeOp.{GaugeOp}
@@ -73,11 +73,13 @@ last_set (m ∷ (next ∷ ms)) = last_set (next ∷ ms)
 -- the word that these workers' moves leave, as far as it is told
 pub record IsLastWord (by : List (List GaugeMove)) (word : ℕ) : Type 0 where
   -- where none is a set, it is their sum modulo 2^64
-  pub no_set : list_all (λ m. not (is_set m)) (all_moves by) ≡ true → word ≡ sum_by added_by (all_moves by) % 2 ^ 64
+  pub no_set : list_all (λ m. not (is_set m)) (all_moves by) ≡ true
+      → word ≡ sum_by added_by (all_moves by) % 2 ^ 64
   -- where one worker at most makes any, it is their fold from 0, in order
   pub one_mover : length by ≤ 1 → word ≡ word_of_moves (all_moves by)
   -- where there are some, and the last of each worker that makes any is a set, it is the number of one of these
-  pub last_sets : 1 ≤ length by → list_all (λ ms. is_some (last_set ms)) by ≡ true → Contains (filter_map last_set by) word
+  pub last_sets : 1 ≤ length by → list_all (λ ms. is_some (last_set ms)) by ≡ true
+      → Contains (filter_map last_set by) word
 
 -- the last word of the gauge of this number
 abbrev pub GaugeFits : ℕ → ℕ → List Work → Type 0

@@ -1,12 +1,14 @@
 -- How what a report says grows by one event, by log entries and by one flush at the end. This project's own.
 use Rattle.std.specs.Prelude.{◌≡◌, ◌≤◌, ◌<◌, ℕ, suc, ◌+◌, if◌then◌else◌, Bool, true, false, Option, None, Some, List, [], ◌∷◌, ◌++◌, length, map, filter, take, slice_get, option_to_list}
 use Rattle.std.specs.Option.{option_map_or}
-use Rattle.std.specs.List.{flat_map}
+use Rattle.std.specs.List.{zip, flat_map}
 use Rattle.stat_defs.specs.declared.configs.ScopeSpec.{ScopeSpec}
 use Rattle.stat_defs.specs.declared.events.Event.{Event}
 use Rattle.stat_defs.specs.declared.history.Verdict.{Verdict}
 use Rattle.stat_defs.specs.declared.history.Entry.{Entry}
+use Rattle.stat_defs.specs.declared.history.Call.TheVariants as call
 use Rattle.stat_defs.specs.declared.ids.Kind.{Kind}
+use Rattle.stat_defs.specs.declared.ids.Kind.TheVariants.{Gauge}
 use Rattle.stat_defs.specs.declared.ids.MetricId.{MetricId}
 use Rattle.stat_defs.specs.declared.metrics.Metric.{Metric}
 use Rattle.stat_defs.specs.declared.reports.Delta.{Delta}
@@ -15,13 +17,27 @@ use Rattle.stat_defs.specs.Keys.{same_kind}
 use Rattle.merge_round.specs.Rounds.{ArePartsOf}
 use Rattle.book_state.specs.State.{NameRules, State, metrics_of, ids_from, names_in}
 use Rattle.book_state.specs.Step.{change_at}
-use Rattle.book_state.specs.Log.{openings}
+use Rattle.book_state.specs.Log.{openings, replay}
 use Rattle.book_state.specs.Follows.{FollowsSoFar}
 use Rattle.ledger.specs.Lists.{EachNumbered}
-use Rattle.ledger.specs.Work.{Work, Recording, units_in, units_of, recording_in, recordings}
+use Rattle.ledger.specs.Work.{Work, Recording, events_in, verdicts_in, work_of, together, units_in, units_of, recording_in, recordings}
 use Rattle.ledger.specs.Gauges.{GaugeMove, move_in, movers, all_moves, word_after, word_of_moves, gauge_word, GaugeFits}
 use Rattle.ledger.specs.Segments.{taken_from, segments, left_over, TakesLess, taken_now, segment_of, bins_by_worker}
-use Rattle.ledger.specs.Flushes.{ids_not_gone, Fits, FitSoFar, FitAll, flushed, flushed_in}
+use Rattle.ledger.specs.Flushes.{ids_made, ids_not_gone, counters_shown, id_of_delta, id_of_reading, Fits, FitSoFar, FitAll, flushed, flushed_in}
+
+-- the work of files that each have as many verdicts as events
+pub record WorkGrows : Type 0 where
+  pub event : (events : List Event) (verdicts : List Verdict) (e : Event) (v : Verdict) → length verdicts ≡ length events
+      → work_of (events ++ e ∷ [], verdicts ++ v ∷ []) ≡ work_of (events, verdicts) ++ (e, v) ∷ []
+  pub events : (events : List Event) (verdicts : List Verdict) → length verdicts ≡ length events
+      → events_in (work_of (events, verdicts)) ≡ events
+  pub verdicts : (events : List Event) (verdicts : List Verdict) → length verdicts ≡ length events
+      → verdicts_in (work_of (events, verdicts)) ≡ verdicts
+  -- one more file of the one worker of a replay
+  pub file : (events : List (List Event)) (verdicts : List (List Verdict)) (es : List Event) (vs : List Verdict)
+      → length verdicts ≡ length events
+      → together (events ++ es ∷ []) (verdicts ++ vs ∷ [])
+      ≡ (flat_map work_of (zip events verdicts) ++ work_of (es, vs)) ∷ []
 
 -- one more event of the worker at this place
 abbrev pub with_event : ℕ → Event × Verdict → List Work → List Work
@@ -57,7 +73,8 @@ pub record SegmentsGrow : Type 0 where
       → TakesLess w (work ++ told ∷ []) flushes
   -- a flush takes the first of what was left over
   pub flush : (w : ℕ) (work : Work) (flushes : List FlushRecord) (flush : FlushRecord)
-      → segments w work (flushes ++ flush ∷ []) ≡ segments w work flushes ++ take (taken_from w flush) (left_over w work flushes) ∷ []
+      → segments w work (flushes ++ flush ∷ [])
+      ≡ segments w work flushes ++ take (taken_from w flush) (left_over w work flushes) ∷ []
   -- the segments and what is left over are all that the worker recorded
   pub whole : (w : ℕ) (work : Work) (flushes : List FlushRecord)
       → flat_map (λ segment. segment) (segments w work flushes) ++ left_over w work flushes ≡ recordings work
@@ -66,29 +83,49 @@ pub record FitsGrow : Type 0 where
   -- flushes that fit still do with more log entries, after one more event, and before one more flush that fits
   pub entries : (rules : NameRules) (log more : List Entry) (workers : List Work) (flushes : List FlushRecord)
       → FitSoFar rules log workers flushes → FitSoFar rules (log ++ more) workers flushes
-  pub event : (rules : NameRules) (log : List Entry) (at : ℕ) (told : Event × Verdict) (workers : List Work) (flushes : List FlushRecord)
+  pub event : (rules : NameRules) (log : List Entry) (at : ℕ) (told : Event × Verdict) (workers : List Work)
+      (flushes : List FlushRecord)
       → EachNumbered (λ w work. TakesLess w work flushes) 1 workers
       → FitSoFar rules log workers flushes → FitSoFar rules log (with_event at told workers) flushes
-  pub flush : (rules : NameRules) (log : List Entry) (workers : List Work) (flushes : List FlushRecord) (flush : FlushRecord)
+  pub flush : (rules : NameRules) (log : List Entry) (workers : List Work) (flushes : List FlushRecord)
+      (flush : FlushRecord)
       → FitSoFar rules log workers flushes → Fits rules log false (taken_now 1 workers flushes flush) flush
       → FitSoFar rules log workers (flushes ++ flush ∷ [])
   -- with the last flush they are those of a report
-  pub last : (rules : NameRules) (log : List Entry) (workers : List Work) (flushes : List FlushRecord) (flush : FlushRecord)
+  pub last : (rules : NameRules) (log : List Entry) (workers : List Work) (flushes : List FlushRecord)
+      (flush : FlushRecord)
       → FitSoFar rules log workers flushes → Fits rules log true (taken_now 1 workers flushes flush) flush
       → FitAll rules log workers (flushes ++ flush ∷ [])
 
+pub record FlushAtSweep : Type 0 where
+  -- a flush fits behind the sweep that was logged last, where it shows what was there before
+  pub fits : (rules : NameRules) (log : List Entry) (sweep : Entry) (last : Bool) (segs : List (List Recording))
+      (flush : FlushRecord)
+      → sweep.call ≡ call.Sweep → flush.at ≡ length log
+      → map id_of_delta flush.deltas
+      ≡ counters_shown last (replay rules (length segs) log) (replay rules (length segs) (log ++ sweep ∷ []))
+      → map id_of_reading flush.gauges ≡ ids_not_gone Gauge (replay rules (length segs) log)
+      → ArePartsOf (bins_by_worker segs) flush.parts
+      → Fits rules (log ++ sweep ∷ []) last segs flush
+  -- a sweep makes no metric
+  pub made : (kind : Kind) (rules : NameRules) (workers : ℕ) (log : List Entry) (sweep : Entry)
+      → sweep.call ≡ call.Sweep
+      → ids_made kind (replay rules workers (log ++ sweep ∷ [])) ≡ ids_made kind (replay rules workers log)
+
 pub record PartsTake : Type 0 where
   -- the parts of a segment have as many values as it has
-  pub counts : (segs : List (List Recording)) (flush : FlushRecord) (at : ℕ) → ArePartsOf (bins_by_worker segs) flush.parts
-      → taken_from (suc at) flush ≡ length (segment_of segs (suc at))
+  pub counts : (segs : List (List Recording)) (flush : FlushRecord) (at : ℕ)
+      → ArePartsOf (bins_by_worker segs) flush.parts → taken_from (suc at) flush ≡ length (segment_of segs (suc at))
   -- a flush that has the bins of all that was left over of one worker takes all of it
   pub all : (work : Work) (flushes : List FlushRecord) (flush : FlushRecord)
       → ArePartsOf (bins_by_worker (left_over 1 work flushes ∷ [])) flush.parts
       → taken_now 1 (work ∷ []) flushes flush ≡ left_over 1 work flushes ∷ []
   pub nothing_left : (work : Work) (flushes : List FlushRecord) (flush : FlushRecord)
-      → ArePartsOf (bins_by_worker (left_over 1 work flushes ∷ [])) flush.parts → left_over 1 work (flushes ++ flush ∷ []) ≡ []
+      → ArePartsOf (bins_by_worker (left_over 1 work flushes ∷ [])) flush.parts
+      → left_over 1 work (flushes ++ flush ∷ []) ≡ []
   pub less : (work : Work) (flushes : List FlushRecord) (flush : FlushRecord) → TakesLess 1 work flushes
-      → ArePartsOf (bins_by_worker (left_over 1 work flushes ∷ [])) flush.parts → TakesLess 1 work (flushes ++ flush ∷ [])
+      → ArePartsOf (bins_by_worker (left_over 1 work flushes ∷ [])) flush.parts
+      → TakesLess 1 work (flushes ++ flush ∷ [])
 
 -- the metrics of these numbers of which this holds too
 abbrev pub those_of : (Metric → Bool) → List Metric → List MetricId → List MetricId

@@ -1,4 +1,5 @@
--- The ledger of a run, in five parts, and the form that it has where one worker replays all files. This project's own.
+-- The ledger of a run, in five parts, and the form that it has where one worker replays all files. This project's
+-- own.
 use Rattle.std.specs.Prelude.{◌≡◌, ℕ, ◌+◌, not, true, Option, List, length, map, count_by, drop, AllPairs}
 use Rattle.std.specs.List.{zip, list_all, flat_map, AllZip, AllByRecursion}
 use Rattle.std.specs.List.Sorted.{IsStrictlyIncreasing, IsNonDecreasing}
@@ -23,8 +24,8 @@ use Rattle.ledger.specs.Segments.{segments}
 use Rattle.ledger.specs.Flushes.{ids_made, FitAll, flushed}
 use Rattle.ledger.specs.Readings.{ReadingFits, NoneFalls}
 
--- what a run was asked for: how its book reads full names, its configured scopes, how many flushes come before the last, and
--- how many readings there are
+-- what a run was asked for: how its book reads full names, its configured scopes, how many flushes come before the
+-- last, and how many readings there are
 pub record RunPlan : Type 0 where
   pub rules : NameRules
   pub scopes : List ScopeSpec
@@ -36,13 +37,14 @@ abbrev pub TakenAtFault : FileEnd → ℕ → Type 0
 TakenAtFault file.ReadFault taken = Unit {0}
 TakenAtFault _ taken = taken ≡ 0
 
--- 1. Each file was read to its end, or to the fault that ended it, and each of its events has a verdict. The content of a file
--- may be told or not.
+-- 1. Each file was read to its end, or to the fault that ended it, and each of its events has a verdict. The content
+-- of a file may be told or not.
 pub record AreRead (contents : List (Option (List ℕ))) (events : List (List Event)) (report : Report) : Type 0 where
   pub an_end_each : length report.ends ≡ length contents
   pub verdicts_each : length report.verdicts ≡ length contents
   pub a_verdict_each : map length report.verdicts ≡ map length events
-  pub read : AllZip (λ content file. IsRun content file.0.end file.0.taken file.1) contents (zip report.ends events)
+  pub read : AllZip (λ content file. IsRun content file.0.end file.0.taken file.1)
+      contents (zip report.ends events)
   pub counted : AllByRecursion (λ end. TakenAtFault end.end end.taken) report.ends
 
 -- 2. The log is legal, and each worker's entries follow its events.
@@ -51,21 +53,24 @@ pub record HasHistory (plan : RunPlan) (workers : List Work) (report : Report) :
   pub follows : EachNumbered (λ seat work.
       Follows plan.rules (length workers) seat (events_in work) (verdicts_in work) report.log) 1 workers
 
--- 3. There are the flushes that were asked for and one more, each with a sweep of its own, and all workers have ended before
--- the last sweep.
+-- 3. There are the flushes that were asked for and one more, each with a sweep of its own, and all workers have ended
+-- before the last sweep.
 pub record AreSwept (plan : RunPlan) (report : Report) : Type 0 where
   pub number : length report.flushes ≡ plan.flushes + 1
   pub sweeps : count_by (λ (e : Entry). is_sweep e.call) report.log ≡ length report.flushes
   pub rising : IsStrictlyIncreasing (map (λ flush. flush.at) report.flushes)
-  pub ended : OfLast (λ last. list_all (λ (e : Entry). not (is_end e.call)) (drop last.at report.log) ≡ true) report.flushes
+  pub ended : OfLast (λ last. list_all (λ (e : Entry). not (is_end e.call)) (drop last.at report.log) ≡ true)
+      report.flushes
 
 -- 4. The flushes account for all that was accepted, each unit and each value once.
 pub record Account (plan : RunPlan) (workers : List Work) (report : Report) : Type 0 where
   pub flushes : FitAll plan.rules report.log workers report.flushes
   pub units : AllByRecursion (λ id. flushed id.0 report.flushes ≡ units_of id.0 workers)
       (ids_made Counter (replay plan.rules (length workers) report.log))
-  pub values : EachNumbered (λ w work. flat_map (λ segment. segment) (segments w work report.flushes) ≡ recordings work) 1 workers
-  pub words : OfLast (λ last. AllByRecursion (λ reading. GaugeFits reading.id.0 reading.word workers) last.gauges) report.flushes
+  pub values : EachNumbered (λ w work.
+      flat_map (λ segment. segment) (segments w work report.flushes) ≡ recordings work) 1 workers
+  pub words : OfLast (λ last. AllByRecursion (λ reading. GaugeFits reading.id.0 reading.word workers) last.gauges)
+      report.flushes
 
 -- 5. There are the readings that were asked for, and none shows less than an earlier one.
 pub record AreShown (plan : RunPlan) (workers : List Work) (report : Report) : Type 0 where
@@ -75,7 +80,8 @@ pub record AreShown (plan : RunPlan) (workers : List Work) (report : Report) : T
   pub rising : AllPairs NoneFalls report.reads
 
 -- the report of workers that did this work, which the files with these contents gave
-pub record IsReportOf (contents : List (Option (List ℕ))) (events : List (List Event)) (plan : RunPlan) (workers : List Work) (report : Report) : Type 0 where
+pub record IsReportOf (contents : List (Option (List ℕ))) (events : List (List Event)) (plan : RunPlan)
+    (workers : List Work) (report : Report) : Type 0 where
   pub read : AreRead contents events report
   pub history : HasHistory plan workers report
   pub swept : AreSwept plan report

@@ -39,7 +39,9 @@ pub record IsPacked (metrics : List Row) : Type 0 where
 abbrev pub AreSteps : NameRules → ℕ → State → List Own → Type 0
 AreSteps rules seat s [] = Unit {0}
 AreSteps rules seat s (o ∷ made) =
-    Allowed rules seat o.call o.reply s × (o.after ≡ effect rules seat o.call o.reply s) × AreSteps rules seat o.after made
+    Allowed rules seat o.call o.reply s
+    × (o.after ≡ effect rules seat o.call o.reply s)
+    × AreSteps rules seat o.after made
 
 -- where no number is free, a call has one reply, and stays so unless it is a sweep
 pub record OneReply : Type 0 where
@@ -49,10 +51,11 @@ pub record OneReply : Type 0 where
   pub packed : (rules : NameRules) (s : State) (seat : ℕ) (c : Call) (r : Reply) → IsPacked s.metrics
       → is_sweep c ≡ false → Allowed rules seat c r s → IsPacked (effect rules seat c r s).metrics
 
--- where no number is free, an event has one verdict and makes one list of entries: an acknowledgement that need not stand first
--- can't
+-- where no number is free, an event has one verdict and makes one list of entries: an acknowledgement that need not
+-- stand first can't
 abbrev pub OneWay : Type 0
-OneWay = (rules : NameRules) (s : State) (seat : ℕ) (e : Event) (one other : Verdict) (made others : List Own) → IsPacked s.metrics
+OneWay = (rules : NameRules) (s : State) (seat : ℕ) (e : Event) (one other : Verdict) (made others : List Own)
+    → IsPacked s.metrics
     → MakesAcked seat s e one made → AreSteps rules seat s made
     → MakesAcked seat s e other others → AreSteps rules seat s others
     → (one ≡ other) × (made ≡ others)
@@ -69,8 +72,9 @@ without_counts report = record report { ends = map without_count report.ends }
 
 -- the events of its files determine the report of a replay, but for the ends of the files
 abbrev pub OneReport : Type 0
-OneReport = (contents others : List (Option (List ℕ))) (events : List (List Event)) (plan : RunPlan) (one other : Report)
-    → ReplayLedger contents events plan one → ReplayLedger others events plan other → without_ends one ≡ without_ends other
+OneReport = (contents others : List (Option (List ℕ))) (events : List (List Event)) (plan : RunPlan)
+    (one other : Report) → ReplayLedger contents events plan one → ReplayLedger others events plan other
+    → without_ends one ≡ without_ends other
 
 -- a file was read to an end that its content alone decides
 abbrev pub NoFault : FileEnd → Type 0
@@ -81,8 +85,10 @@ NoFault _ = Unit {0}
 abbrev pub NoneFailed : Report → Type 0
 NoneFailed report = AllByRecursion (λ end. NoFault end.end) report.ends
 
--- where no read and no opening failed, the contents of its files determine the report of a replay, but for the counts of faults
+-- where no read and no opening failed, the contents of its files determine the report of a replay, but for the counts
+-- of faults
 abbrev pub OneDirect : Type 0
 OneDirect = (config : Config) (contents : List (List ℕ)) (one other : Report)
-    → Direct config (map Some contents) one → NoneFailed one → Direct config (map Some contents) other → NoneFailed other
+    → Direct config (map Some contents) one → NoneFailed one
+    → Direct config (map Some contents) other → NoneFailed other
     → without_counts one ≡ without_counts other

@@ -21,8 +21,10 @@ value_in read id = sum_by (word_on id) read.counters
 pub record ReadingFits (rules : NameRules) (log : List Entry) (workers : List Work) (read : ReadRecord) : Type 0 where
   pub within : read.at ≤ length log
   -- a value for each counter that was not gone, and a word for each gauge
-  pub counters : map id_of_reading read.counters ≡ ids_not_gone Counter (replay rules (length workers) (take read.at log))
-  pub gauges : map id_of_reading read.gauges ≡ ids_not_gone Gauge (replay rules (length workers) (take read.at log))
+  pub counters : map id_of_reading read.counters
+      ≡ ids_not_gone Counter (replay rules (length workers) (take read.at log))
+  pub gauges : map id_of_reading read.gauges
+      ≡ ids_not_gone Gauge (replay rules (length workers) (take read.at log))
   -- no counter is above its units
   pub at_most : AllByRecursion (λ reading. reading.word ≤ units_of reading.id.0 workers) read.counters
 

@@ -32,7 +32,8 @@ segment k w work flushes = get_or (segments w work flushes) k []
 -- what flush k took of each worker, where the first of these is worker w
 abbrev pub segments_at : ℕ → ℕ → List Work → List FlushRecord → List (List Recording)
 segments_at k w [] flushes = []
-segments_at k w (work ∷ workers) flushes = segment k w work flushes ∷ segments_at k (suc w) workers flushes
+segments_at k w (work ∷ workers) flushes =
+    segment k w work flushes ∷ segments_at k (suc w) workers flushes
 
 -- what no flush took of the recordings of worker w
 abbrev pub left_over : ℕ → Work → List FlushRecord → List Recording

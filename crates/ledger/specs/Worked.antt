@@ -39,7 +39,13 @@ whole_end = record { end = file.Whole; taken = 0; faults_before = 0; faults_afte
 
 -- the report of one file with one flush
 abbrev pub report_of : List Verdict → List Entry → FlushRecord → Report
-report_of verdicts log flush = record { verdicts = verdicts ∷ []; flushes = flush ∷ []; log = log; reads = []; ends = whole_end ∷ [] }
+report_of verdicts log flush = record {
+  verdicts = verdicts ∷ [];
+  flushes = flush ∷ [];
+  log = log;
+  reads = [];
+  ends = whole_end ∷ [];
+}
 
 abbrev pub Replays : List Event → Report → Type 0
 Replays events report = ReplayLedger (file_of events ∷ []) (events ∷ []) plain_plan report
@@ -60,13 +66,18 @@ delta id n = record { id = record { 0 = id }; n = n }
 abbrev pub reading : ℕ → ℕ → Reading
 reading id word = record { id = record { 0 = id }; word = word }
 
--- the log of one worker: what it did behind the opening of `root`, its end, and the last sweep, which makes so many gone
+-- the log of one worker: what it did behind the opening of `root`, its end, and the last sweep, which makes so many
+-- gone
 abbrev pub log_with : List Entry → ℕ → List Entry
 log_with own gone = openings 0 root_alone ++ (own ++ ends 1 ∷ sweeps gone ∷ [])
 
 -- a worker makes this metric, whose name has one token, and it gets this number; or finds it
 abbrev pub makes_key : ℕ → Key → ℕ → ℕ → Entry
-makes_key seat key id number = record { seat = seat; call = call.Find key; reply = reply.Made (record { 0 = id }) (number ∷ []) }
+makes_key seat key id number = record {
+  seat = seat;
+  call = call.Find key;
+  reply = reply.Made (record { 0 = id }) (number ∷ []);
+}
 
 abbrev pub finds_key : ℕ → Key → ℕ → Entry
 finds_key seat key id = record { seat = seat; call = call.Find key; reply = reply.Found (record { 0 = id }) }
@@ -137,11 +148,20 @@ abbrev pub sets_text : List ℕ → Entry
 sets_text text = record { seat = 1; call = call.SetText (record { 0 = 1 }) text; reply = reply.TextSet }
 
 abbrev pub readout_log : List Entry
-readout_log = log_with (makes_key 1 histogram_h 0 1 ∷ makes_key 1 readout_t 1 2 ∷ sets_text (codes "on") ∷ sets_text (codes "all off") ∷ []) 0
+readout_log = log_with (
+    makes_key 1 histogram_h 0 1
+    ∷ makes_key 1 readout_t 1 2
+    ∷ sets_text (codes "on")
+    ∷ sets_text (codes "all off")
+    ∷ []) 0
 
 -- 7 is in the bin (70, 0)
 abbrev pub part_of_7 : Part
-part_of_7 = record { worker = 1; id = record { 0 = 0 }; bins = record { bin = record { val = 70; exp = pos 0 }; count = 1 } ∷ [] }
+part_of_7 = record {
+  worker = 1;
+  id = record { 0 = 0 };
+  bins = record { bin = record { val = 70; exp = pos 0 }; count = 1 } ∷ [];
+}
 
 abbrev pub of_values_and_texts : Report
 of_values_and_texts = report_of (accepted 0 ∷ accepted 1 ∷ accepted 1 ∷ []) readout_log
@@ -181,7 +201,8 @@ number_passed_over = report_of both_accepted (log_with (makes_key 1 counter_a 0 
 
 -- the worker ends behind the last sweep
 abbrev pub ended_late : Report
-ended_late = report_of both_accepted (openings 0 root_alone ++ makes_key 1 counter_a 0 1 ∷ sweeps 0 ∷ ends 1 ∷ []) (counter_flush 2 7)
+ended_late = report_of both_accepted
+    (openings 0 root_alone ++ makes_key 1 counter_a 0 1 ∷ sweeps 0 ∷ ends 1 ∷ []) (counter_flush 2 7)
 
 -- a unit is lost
 abbrev pub unit_lost : Report
@@ -192,7 +213,9 @@ abbrev pub plan_of_reading : RunPlan
 plan_of_reading = record plain_plan { reads = 1 }
 
 abbrev pub with_reading : ℕ → Report
-with_reading units = record of_increments { reads = record { at = 2; counters = reading 0 units ∷ []; gauges = [] } ∷ [] }
+with_reading units = record of_increments {
+  reads = record { at = 2; counters = reading 0 units ∷ []; gauges = [] } ∷ [];
+}
 
 pub record FirstAloneBroken (plan : RunPlan) (report : Report) : Type 0 where
   pub not_read : Read report → ⊥
@@ -268,7 +291,8 @@ of_two word shown = record {
 }
 
 abbrev pub IsLedgerOfTwo : Report → Type 0
-IsLedgerOfTwo report = RunLedger (file_of first_of_two ∷ file_of second_of_two ∷ []) (first_of_two ∷ second_of_two ∷ []) plan_of_two report
+IsLedgerOfTwo report = RunLedger (file_of first_of_two ∷ file_of second_of_two ∷ [])
+    (first_of_two ∷ second_of_two ∷ []) plan_of_two report
 
 pub record TwoWorkers : Type 0 where
   -- the word is one of the two last sets, and no other number

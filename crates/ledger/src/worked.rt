@@ -17,18 +17,20 @@ pub fn gauge_moves()
     ensures { IsReported moves of_gauge_moves }
 {}
 
-/// A worked report: a counter's scope is released, its next increment finds no scope, and the last flush has its one unit.
+/// A worked report: a counter's scope is released, its next increment finds no scope, and the last flush
+/// has its one unit.
 pub fn a_released_scope()
     ensures { IsReported released_events of_released }
 {}
 
-/// A worked report: two scopes with one prefix share a counter. One is released, and the last flush has the 7 units of both.
+/// A worked report: two scopes with one prefix share a counter. One is released, and the last flush has
+/// the 7 units of both.
 pub fn shared_symbols()
     ensures { IsReported shared_events of_shared }
 {}
 
-/// A worked report: the value 7 makes a part with one value in the bin (70, 0), and a text readout holds the text that was
-/// set last.
+/// A worked report: the value 7 makes a part with one value in the bin (70, 0), and a text readout holds
+/// the text that was set last.
 pub fn values_and_texts()
     ensures { ValuesAndTexts }
 {}
@@ -60,14 +62,15 @@ pub fn a_reading_too_high()
 
 /// A worked report: two workers with two flushes and a reading.
 ///
-/// Worker 1 records 7, and the first flush comes then, with that value. Both increment one counter, by 3 and 4, and set one
-/// gauge, to 5 and 9. The last flush has 7 units, and 5 or 9 as the gauge's word, and no other. A reading shows at most 7.
+/// Worker 1 records 7, and the first flush comes then, with that value. Both increment one counter, by 3
+/// and 4, and set one gauge, to 5 and 9. The last flush has 7 units, and 5 or 9 as the gauge's word, and
+/// no other. A reading shows at most 7.
 pub fn two_workers()
     ensures { TwoWorkers }
 {}
 
-/// What is told of a gauge's word, by cases: the sum of additions and subtractions, the fold of one worker's moves, and
-/// nothing where one worker sets and another one adds last.
+/// What is told of a gauge's word, by cases: the sum of additions and subtractions, the fold of one
+/// worker's moves, and nothing where one worker sets and another one adds last.
 pub fn gauge_cases()
     ensures { GaugeCases }
 {}
