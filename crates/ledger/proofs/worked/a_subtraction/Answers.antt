@@ -1,0 +1,49 @@
+use Rattle.std.proofs.Common.{[], ◌∷◌, refl, sym, inl, arith}
+use Rattle.std.specs.Prelude.{codes}
+use Rattle.std.specs.Fmt.{digits}
+use Rattle.stat_defs.specs.declared.events.Event.TheVariants as event
+use Rattle.stat_defs.specs.declared.events.GaugeOp.TheVariants.{Sub}
+use Rattle.stat_defs.specs.declared.ids.Mode.TheVariants.{Accumulate}
+use Rattle.stat_defs.specs.declared.reports.FileEnd.TheVariants as file
+use Rattle.event_script.specs.Run.{IsRun}
+use Rattle.book_state.specs.Follows.{Follows}
+use Rattle.book_state.specs.Worked.{plain}
+use Rattle.book_state.proofs.Lists.{true_false}
+use Rattle.book_state.proofs.WorkedParts.{link, part, follows_log}
+use Rattle.ledger.specs.Ledger.{RunLedger}
+use Rattle.ledger.specs.Worked.{plain_plan, file_of, accepted, of_subtraction, subtraction, gauge_log}
+use Rattle.ledger.proofs.OneFlush.{one_report}
+use Rattle.ledger.proofs.WorkedParts.{gauge_legal, moves_g, read_whole, one_rises, none_falls, no_pairs, no_parts, nothing}
+use Rattle.ledger.proofs.worked.a_subtraction.Goals as goal
+
+follows : Follows plain 1 1 subtraction (accepted 0 ∷ []) gauge_log
+follows = follows_log subtraction (accepted 0 ∷ []) gauge_log (
+    link (event.Gauge (codes "root") (codes "g") Accumulate Sub 5) (accepted 0) (part gauge_log 0 1)
+    ∷ []) _
+    (tt, inl (omega arith, (refl, refl, refl)))
+    refl refl refl refl
+
+is_read : IsRun (file_of subtraction) file.Whole 0 subtraction
+unfolding digits
+is_read = read_whole subtraction (moves_g Sub 5 (omega arith) refl, tt) refl refl
+
+ledger : RunLedger (file_of subtraction ∷ []) (subtraction ∷ []) plain_plan of_subtraction
+ledger = record {
+  read = record { an_end_each = refl; verdicts_each = refl; a_verdict_each = refl; read = (is_read, tt); counted = (refl, tt) };
+  history = record { legal = gauge_legal; follows = (follows, tt) };
+  swept = record { number = refl; sweeps = refl; rising = one_rises 3; ended = refl };
+  account = record {
+    flushes = (record { sweep = refl; deltas = refl; gauges = refl; parts = no_parts ([] ∷ []) nothing }, tt);
+    units = tt;
+    values = (refl, tt);
+    words = (record { no_set = λ none. refl; one_mover = λ one. refl; last_sets = λ some all. absurd (true_false (sym all)) }, tt);
+  };
+  shown = record { number = refl; never_falls = none_falls; each = tt; rising = no_pairs };
+}
+
+pub returns : goal.returns
+returns c = record {
+  run = ledger;
+  replay = ledger;
+  only = λ other direct. one_report plain_plan (subtraction ∷ []) (file_of subtraction ∷ []) (file_of subtraction ∷ []) of_subtraction other ledger direct;
+}

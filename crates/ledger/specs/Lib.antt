@@ -1,0 +1,10 @@
+pub mod Lists
+pub mod Work
+pub mod Gauges
+pub mod Segments
+pub mod Flushes
+pub mod Readings
+pub mod Ledger
+pub mod OneReport
+pub mod Laws
+pub mod Worked
