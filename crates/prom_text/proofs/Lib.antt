@@ -1,0 +1,6 @@
+pub mod Worked
+pub mod Names
+pub mod Buckets
+pub mod Order
+pub mod Groups
+pub mod Steps

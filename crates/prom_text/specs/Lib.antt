@@ -1,0 +1,4 @@
+pub mod Labels
+pub mod Members
+pub mod Prometheus
+pub mod Rows
