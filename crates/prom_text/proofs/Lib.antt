@@ -4,3 +4,6 @@ pub mod Buckets
 pub mod Order
 pub mod Groups
 pub mod Steps
+pub mod Reading
+pub mod Bytes
+pub mod TextBytes

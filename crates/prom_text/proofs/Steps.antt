@@ -17,7 +17,7 @@ use Rattle.prom_text.specs.Members.{Member, CounterMember, GaugeMember, Histogra
 use Rattle.prom_text.specs.Prometheus.{IsHistogram, HasHistogram, HasHistograms, prom_text}
 use Rattle.prom_text.specs.Rows.{member_of, member_text, text_from}
 use Rattle.prom_text.proofs.Groups.{text_of_groups}
-use Rattle.prom_text.proofs.Order.{all_at, all_in_order}
+use Rattle.prom_text.proofs.Order.{all_at, all_in_order, all_joined}
 
 -- one row more was put
 pub put_next : (first now : SinkState) (held after done text : List ℕ) → IsGathered first now held done → after ≡ held ++ text
@@ -49,10 +49,6 @@ pub cuts : (first now last : SinkState) (held done rest whole : List ℕ) → Is
     → WritesFront now last held → WritesFront first last whole
 cuts first now last held done rest whole so_far e cut =
     subst (λ (l : List ℕ). WritesFront first last l) e (gathered_cut first now last held done rest so_far cut)
-
-all_joined : {X : Type 0} (P : X → Type 0) (xs ys : List X) → AllByRecursion P xs → AllByRecursion P ys → AllByRecursion P (xs ++ ys)
-all_joined P [] ys a b = b
-all_joined P (x ∷ xs) ys a b = (a.0, all_joined P xs ys a.1 b)
 
 no_counter_has : (rows : List CounterRow) → AllByRecursion HasHistogram (map CounterMember rows)
 no_counter_has [] = tt

@@ -2,3 +2,4 @@ pub mod Labels
 pub mod Members
 pub mod Prometheus
 pub mod Rows
+pub mod Values

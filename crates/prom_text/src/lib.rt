@@ -9,9 +9,13 @@ ghost use Rattle.prom_text.specs.Prometheus.{prom_text, HasHistogram, HasHistogr
 ghost use Rattle.prom_text.specs.Rows.{member_of, begins_group as the_begin, member_text, text_from};
 
 mod labels;
+mod laws;
 mod lines;
 mod rows;
+#[cfg(test)]
+mod tests;
 
+pub use laws::text_law;
 use lines::{put_row, put_type};
 use rows::{Row, is_same_group, rows_in_order};
 use stat_defs::{FlushView, NoMemory};
