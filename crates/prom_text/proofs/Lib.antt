@@ -1,0 +1,9 @@
+pub mod Worked
+pub mod Names
+pub mod Buckets
+pub mod Order
+pub mod Groups
+pub mod Steps
+pub mod Reading
+pub mod Bytes
+pub mod TextBytes

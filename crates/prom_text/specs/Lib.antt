@@ -1,0 +1,5 @@
+pub mod Labels
+pub mod Members
+pub mod Prometheus
+pub mod Rows
+pub mod Values

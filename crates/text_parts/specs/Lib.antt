@@ -1,0 +1,4 @@
+pub mod Decimals
+pub mod Gathered
+pub mod TextFault
+pub mod Answer

@@ -1,0 +1,13 @@
+//! What the texts of a flush share: numbers as they are printed, a buffer whose text goes to a sink in large pieces, and the
+//! faults of writing a text.
+#![tactic(auto)]
+
+mod buffer;
+mod fault;
+mod numbers;
+#[cfg(test)]
+mod tests;
+
+pub use buffer::{PUSH_BYTES, push_full};
+pub use fault::TextFault;
+pub use numbers::{put_halves, put_number, put_signed, put_thousandths, put_twentieths};
