@@ -60,7 +60,12 @@ pub fn run<R: Threads + Sync>(
     let closed = bank.close(alloc, seats)?;
     let values = closed.values.items();
     Ok(Totals {
-        values: [0, 1, 2, 3].map(|place| word_at(values, place * APART)),
+        values: [
+            word_at(values, 0),
+            word_at(values, APART),
+            word_at(values, 2 * APART),
+            word_at(values, 3 * APART),
+        ],
         value: sum_of(values),
         pending: sum_of(closed.pending.items()),
     })
