@@ -16,3 +16,4 @@ pub mod WorkedParts
 pub mod Names
 pub mod WorkLists
 pub mod Sweeps
+pub mod OneWorker

@@ -1,7 +1,7 @@
 -- What the proofs of the worked reports share.
-use Rattle.std.proofs.Common.{◌≡◌, ◌<◌, ◌≤◌, ◌^◌, ℕ, zero, suc, ◌≢◌, nat_le, Bool, true, cond, map, List, [], ◌∷◌, ◌++◌, length, get_or, refl, ap, sym, inl, arith}
-use Rattle.std.specs.Prelude.{codes, AllPairs}
-use Rattle.std.specs.List.{AllByRecursion}
+use Rattle.std.proofs.Common.{◌≡◌, ◌<◌, ◌≤◌, ◌^◌, ℕ, zero, suc, ◌≢◌, nat_le, Bool, true, cond, map, List, [], ◌∷◌, ◌++◌, length, drop, not, get_or, refl, ap, sym, inl, arith}
+use Rattle.std.specs.Prelude.{codes, count_by, AllPairs}
+use Rattle.std.specs.List.{AllByRecursion, list_all}
 use Rattle.std.specs.Fmt.{digits}
 use Rattle.std.specs.List.Sorted.{IsStrictlyIncreasing, IsNonDecreasing}
 use Rattle.std.proofs.lemmas.Bool.{leb-true}
@@ -12,7 +12,11 @@ use Rattle.stat_defs.specs.declared.events.Event.TheVariants as event
 use Rattle.stat_defs.specs.declared.events.GaugeOp.{GaugeOp}
 use Rattle.stat_defs.specs.declared.ids.Mode.TheVariants.{Accumulate}
 use Rattle.stat_defs.specs.declared.reports.FileEnd.TheVariants as file
+use Rattle.stat_defs.specs.declared.history.Entry.{Entry}
+use Rattle.stat_defs.specs.declared.history.Verdict.{Verdict}
+use Rattle.stat_defs.specs.declared.reports.FlushRecord.{FlushRecord}
 use Rattle.stat_defs.specs.declared.reports.Part.{Part}
+use Rattle.stat_defs.specs.declared.reports.Report.{Report}
 use Rattle.stat_defs.specs.Names.{IsLabel, IsLocalName}
 use Rattle.stat_defs.specs.Events.{IsReadout}
 use Rattle.loglinear_bins.specs.Bins.{bin_of_value}
@@ -23,15 +27,19 @@ use Rattle.event_script.specs.declared.limits.TheConstants.{MAX_FILE_BYTES, MAX_
 use Rattle.event_script.specs.Grammar.{IsLineOf, IsLawful, given_prefix, given_for, line_for, lines_for}
 use Rattle.event_script.specs.Run.{IsRun}
 use Rattle.event_script.proofs.Written.{file_read}
-use Rattle.book_state.specs.Log.{Legal}
+use Rattle.book_state.specs.Log.{Legal, is_sweep}
+use Rattle.book_state.specs.SeatLaws.{is_end}
 use Rattle.book_state.specs.Follows.{Follows}
 use Rattle.book_state.specs.Worked.{plain, root_alone}
 use Rattle.book_state.proofs.Computed.{drawn_all}
 use Rattle.book_state.proofs.WorkedParts.{legal_log, link, part, follows_log}
+use Rattle.ledger.specs.Work.{Work}
 use Rattle.ledger.specs.Segments.{bins_by_worker}
 use Rattle.ledger.specs.Readings.{NoneFalls}
-use Rattle.ledger.specs.Worked.{file_of, log_with, increments, both_accepted, accepted, makes_key, counter_a, gauge_log, part_of_7}
+use Rattle.ledger.specs.Ledger.{AreRead, AreSwept, AreShown, RunLedger}
+use Rattle.ledger.specs.Worked.{plain_plan, report_of, Replays, IsReported, file_of, log_with, increments, both_accepted, accepted, makes_key, counter_a, gauge_log, part_of_7}
 use Rattle.ledger.proofs.Lists.{nil_cons, number_apart}
+use Rattle.ledger.proofs.OneFlush.{one_report}
 
 -- files of lines
 at_most : (m n : ℕ) → nat_le m n ≡ true → m ≤ n
@@ -173,3 +181,29 @@ h_name = record { not_empty = omega arith; short = omega arith; bytes = refl }
 pub rec_7 : IsLawful (event.Rec (codes "root") (codes "h") 7)
 unfolding digits
 rec_7 = lawful_rec (codes "root") (codes "h") 7 root h_name (omega arith) refl
+
+-- what the reports of one file with one flush share
+module _ (verdicts : List Verdict) (log : List Entry) (flush : FlushRecord) where
+  pub read_one : (events : List Event) → length verdicts ≡ length events → IsRun (file_of events) file.Whole 0 events
+      → AreRead (file_of events ∷ []) (events ∷ []) (report_of verdicts log flush)
+  read_one events same run = record {
+    an_end_each = refl;
+    verdicts_each = refl;
+    a_verdict_each = ap (λ (n : ℕ). n ∷ []) same;
+    read = (run, tt);
+    counted = (refl, tt);
+  }
+
+  pub swept_once : count_by (λ (e : Entry). is_sweep e.call) log ≡ 1 → list_all (λ (e : Entry). not (is_end e.call)) (drop flush.at log) ≡ true
+      → AreSwept plain_plan (report_of verdicts log flush)
+  swept_once one ended = record { number = refl; sweeps = one; rising = one_rises flush.at; ended = ended }
+
+  pub none_shown : (workers : List Work) → AreShown plain_plan workers (report_of verdicts log flush)
+  none_shown workers = record { number = refl; never_falls = none_falls; each = tt; rising = no_pairs }
+
+pub reported : (events : List Event) (report : Report) → RunLedger (file_of events ∷ []) (events ∷ []) plain_plan report → Replays events report → IsReported events report
+reported events report run replay = record {
+  run = run;
+  replay = replay;
+  only = λ other direct. one_report plain_plan (events ∷ []) (file_of events ∷ []) (file_of events ∷ []) report other replay direct;
+}

@@ -1,18 +1,19 @@
 -- How what a report says grows by one event, by log entries and by one flush at the end. This project's own.
 use Rattle.std.specs.Prelude.{◌≡◌, ◌≤◌, ◌<◌, ℕ, suc, ◌+◌, if◌then◌else◌, Bool, true, false, Option, None, Some, List, [], ◌∷◌, ◌++◌, length, map, filter, take, slice_get, option_to_list}
 use Rattle.std.specs.Option.{option_map_or}
-use Rattle.std.specs.List.{zip, flat_map}
+use Rattle.std.specs.List.{zip, flat_map, AllByRecursion}
 use Rattle.stat_defs.specs.declared.configs.ScopeSpec.{ScopeSpec}
 use Rattle.stat_defs.specs.declared.events.Event.{Event}
 use Rattle.stat_defs.specs.declared.history.Verdict.{Verdict}
 use Rattle.stat_defs.specs.declared.history.Entry.{Entry}
 use Rattle.stat_defs.specs.declared.history.Call.TheVariants as call
 use Rattle.stat_defs.specs.declared.ids.Kind.{Kind}
-use Rattle.stat_defs.specs.declared.ids.Kind.TheVariants.{Gauge}
+use Rattle.stat_defs.specs.declared.ids.Kind.TheVariants.{Counter, Gauge}
 use Rattle.stat_defs.specs.declared.ids.MetricId.{MetricId}
 use Rattle.stat_defs.specs.declared.metrics.Metric.{Metric}
 use Rattle.stat_defs.specs.declared.reports.Delta.{Delta}
 use Rattle.stat_defs.specs.declared.reports.FlushRecord.{FlushRecord}
+use Rattle.stat_defs.specs.declared.reports.Report.{Report}
 use Rattle.stat_defs.specs.Keys.{same_kind}
 use Rattle.merge_round.specs.Rounds.{ArePartsOf}
 use Rattle.book_state.specs.State.{NameRules, State, metrics_of, ids_from, names_in}
@@ -24,6 +25,7 @@ use Rattle.ledger.specs.Work.{Work, Recording, events_in, verdicts_in, work_of, 
 use Rattle.ledger.specs.Gauges.{GaugeMove, move_in, movers, all_moves, word_after, word_of_moves, gauge_word, GaugeFits}
 use Rattle.ledger.specs.Segments.{taken_from, segments, left_over, TakesLess, taken_now, segment_of, bins_by_worker}
 use Rattle.ledger.specs.Flushes.{ids_made, ids_not_gone, counters_shown, id_of_delta, id_of_reading, Fits, FitSoFar, FitAll, flushed, flushed_in}
+use Rattle.ledger.specs.Ledger.{RunPlan, Account}
 
 -- the work of files that each have as many verdicts as events
 pub record WorkGrows : Type 0 where
@@ -126,6 +128,19 @@ pub record PartsTake : Type 0 where
   pub less : (work : Work) (flushes : List FlushRecord) (flush : FlushRecord) → TakesLess 1 work flushes
       → ArePartsOf (bins_by_worker (left_over 1 work flushes ∷ [])) flush.parts
       → TakesLess 1 work (flushes ++ flush ∷ [])
+
+-- the flushes of one worker account for all that it did, where each fits, the units are those of its events, nothing is
+-- left over, and each word of the last flush is the fold of its moves
+abbrev pub OneWorkerAccounts : Type 0
+OneWorkerAccounts = (plan : RunPlan) (work : Work) (flushes : List FlushRecord) (last : FlushRecord) (report : Report)
+    → report.flushes ≡ flushes ++ last ∷ []
+    → FitSoFar plan.rules report.log (work ∷ []) flushes
+    → Fits plan.rules report.log true (taken_now 1 (work ∷ []) flushes last) last
+    → AllByRecursion (λ id. flushed id.0 report.flushes ≡ units_of id.0 (work ∷ []))
+    (ids_made Counter (replay plan.rules 1 report.log))
+    → left_over 1 work report.flushes ≡ []
+    → AllByRecursion (λ reading. reading.word ≡ gauge_word reading.id.0 work) last.gauges
+    → Account plan (work ∷ []) report
 
 -- the metrics of these numbers of which this holds too
 abbrev pub those_of : (Metric → Bool) → List Metric → List MetricId → List MetricId

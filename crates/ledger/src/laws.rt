@@ -1,6 +1,6 @@
 //! Laws of ledgers, which hold without any call. Each function does nothing.
 ghost use Rattle.ledger.specs.OneReport.{OneReply, OneWay, OneReport, OneDirect};
-ghost use Rattle.ledger.specs.Laws.{WorkGrows, UnitsGrow, WordsGrow, SegmentsGrow, FitsGrow, FlushAtSweep, PartsTake, NamesShown, FollowsFromOpenings};
+ghost use Rattle.ledger.specs.Laws.{WorkGrows, UnitsGrow, WordsGrow, SegmentsGrow, FitsGrow, FlushAtSweep, PartsTake, OneWorkerAccounts, NamesShown, FollowsFromOpenings};
 
 /// A law: the work of a file grows by one event with its verdict, and that of a replay by one file.
 pub fn work_grows()
@@ -40,6 +40,12 @@ pub fn flush_at_sweep()
 /// left over of the one worker takes all of it.
 pub fn parts_take()
     ensures { PartsTake }
+{}
+
+/// A law: the flushes of one worker account for all that it did, where each fits, the units are those of its
+/// events, nothing is left over, and each word of the last flush is the fold of its moves.
+pub fn one_worker_accounts()
+    ensures { OneWorkerAccounts }
 {}
 
 /// A law: what a flush shows of a kind are those of the kind among all names that are not gone, and a

@@ -1,7 +1,7 @@
 use Rattle.std.proofs.Common.{[], ◌∷◌, refl, arith}
 use Rattle.book_state.proofs.Lists.{not_some}
 use Rattle.ledger.specs.Worked.{plain_plan, History, number_passed_over}
-use Rattle.ledger.proofs.WorkedParts.{increments_read, no_parts, nothing, one_rises, none_falls, no_pairs}
+use Rattle.ledger.proofs.WorkedParts.{read_one, swept_once, none_shown, increments_read, no_parts, nothing}
 use Rattle.ledger.proofs.worked.a_number_passed_over.Goals as goal
 
 -- no number is in use, so 1 would have to be
@@ -13,14 +13,14 @@ no_history history =
 
 pub returns : goal.returns
 returns c = record {
-  read = record { an_end_each = refl; verdicts_each = refl; a_verdict_each = refl; read = (increments_read, tt); counted = (refl, tt) };
+  read = read_one _ _ _ _ refl increments_read;
   no_history = no_history;
-  swept = record { number = refl; sweeps = refl; rising = one_rises 3; ended = refl };
+  swept = swept_once _ _ _ refl refl;
   account = record {
     flushes = (record { sweep = refl; deltas = refl; gauges = refl; parts = no_parts ([] ∷ []) nothing }, tt);
     units = (refl, tt);
     values = (refl, tt);
     words = tt;
   };
-  shown = record { number = refl; never_falls = none_falls; each = tt; rising = no_pairs };
+  shown = none_shown _ _ _ _;
 }

@@ -12,8 +12,7 @@ use Rattle.book_state.specs.Worked.{plain, root_alone, swept_last, released_even
 use Rattle.book_state.proofs.WorkedParts.{legal_log, retired_first, link, part, follows_log}
 use Rattle.ledger.specs.Ledger.{RunLedger}
 use Rattle.ledger.specs.Worked.{plain_plan, file_of, of_released}
-use Rattle.ledger.proofs.OneFlush.{one_report}
-use Rattle.ledger.proofs.WorkedParts.{lawful_open, lawful_inc, lawful_release, read_whole, one_rises, none_falls, no_pairs, no_parts, nothing}
+use Rattle.ledger.proofs.WorkedParts.{read_one, swept_once, none_shown, reported, lawful_inc, lawful_open, lawful_release, no_parts, nothing, read_whole}
 use Rattle.ledger.proofs.worked.a_released_scope.Goals as goal
 
 follows : Follows plain 1 1 released_events released_verdicts swept_last
@@ -50,21 +49,17 @@ is_read = read_whole released_events (
 
 ledger : RunLedger (file_of released_events ∷ []) (released_events ∷ []) plain_plan of_released
 ledger = record {
-  read = record { an_end_each = refl; verdicts_each = refl; a_verdict_each = refl; read = (is_read, tt); counted = (refl, tt) };
+  read = read_one _ _ _ _ refl is_read;
   history = record { legal = legal; follows = (follows, tt) };
-  swept = record { number = refl; sweeps = refl; rising = one_rises 7; ended = refl };
+  swept = swept_once _ _ _ refl refl;
   account = record {
     flushes = (record { sweep = refl; deltas = refl; gauges = refl; parts = no_parts ([] ∷ []) nothing }, tt);
     units = (refl, tt);
     values = (refl, tt);
     words = tt;
   };
-  shown = record { number = refl; never_falls = none_falls; each = tt; rising = no_pairs };
+  shown = none_shown _ _ _ _;
 }
 
 pub returns : goal.returns
-returns c = record {
-  run = ledger;
-  replay = ledger;
-  only = λ other direct. one_report plain_plan (released_events ∷ []) (file_of released_events ∷ []) (file_of released_events ∷ []) of_released other ledger direct;
-}
+returns c = reported released_events of_released ledger ledger

@@ -12,8 +12,7 @@ use Rattle.book_state.proofs.Lists.{true_false}
 use Rattle.book_state.proofs.WorkedParts.{link, part, follows_log}
 use Rattle.ledger.specs.Ledger.{RunLedger}
 use Rattle.ledger.specs.Worked.{plain_plan, file_of, accepted, of_subtraction, subtraction, gauge_log}
-use Rattle.ledger.proofs.OneFlush.{one_report}
-use Rattle.ledger.proofs.WorkedParts.{gauge_legal, moves_g, read_whole, one_rises, none_falls, no_pairs, no_parts, nothing}
+use Rattle.ledger.proofs.WorkedParts.{read_one, swept_once, none_shown, reported, gauge_legal, moves_g, no_parts, nothing, read_whole}
 use Rattle.ledger.proofs.worked.a_subtraction.Goals as goal
 
 follows : Follows plain 1 1 subtraction (accepted 0 ∷ []) gauge_log
@@ -29,21 +28,17 @@ is_read = read_whole subtraction (moves_g Sub 5 (omega arith) refl, tt) refl ref
 
 ledger : RunLedger (file_of subtraction ∷ []) (subtraction ∷ []) plain_plan of_subtraction
 ledger = record {
-  read = record { an_end_each = refl; verdicts_each = refl; a_verdict_each = refl; read = (is_read, tt); counted = (refl, tt) };
+  read = read_one _ _ _ _ refl is_read;
   history = record { legal = gauge_legal; follows = (follows, tt) };
-  swept = record { number = refl; sweeps = refl; rising = one_rises 3; ended = refl };
+  swept = swept_once _ _ _ refl refl;
   account = record {
     flushes = (record { sweep = refl; deltas = refl; gauges = refl; parts = no_parts ([] ∷ []) nothing }, tt);
     units = tt;
     values = (refl, tt);
     words = (record { no_set = λ none. refl; one_mover = λ one. refl; last_sets = λ some all. absurd (true_false (sym all)) }, tt);
   };
-  shown = record { number = refl; never_falls = none_falls; each = tt; rising = no_pairs };
+  shown = none_shown _ _ _ _;
 }
 
 pub returns : goal.returns
-returns c = record {
-  run = ledger;
-  replay = ledger;
-  only = λ other direct. one_report plain_plan (subtraction ∷ []) (file_of subtraction ∷ []) (file_of subtraction ∷ []) of_subtraction other ledger direct;
-}
+returns c = reported subtraction of_subtraction ledger ledger

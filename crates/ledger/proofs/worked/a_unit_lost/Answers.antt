@@ -1,12 +1,12 @@
 use Rattle.std.proofs.Common.{refl, arith}
-use Rattle.ledger.proofs.WorkedParts.{increments_read, one_rises, none_falls, no_pairs, increments_follow, increments_legal}
+use Rattle.ledger.proofs.WorkedParts.{read_one, swept_once, none_shown, increments_follow, increments_legal, increments_read}
 use Rattle.ledger.proofs.worked.a_unit_lost.Goals as goal
 
 pub returns : goal.returns
 returns c = record {
-  read = record { an_end_each = refl; verdicts_each = refl; a_verdict_each = refl; read = (increments_read, tt); counted = (refl, tt) };
+  read = read_one _ _ _ _ refl increments_read;
   history = record { legal = increments_legal; follows = (increments_follow 1, tt) };
-  swept = record { number = refl; sweeps = refl; rising = one_rises 3; ended = refl };
+  swept = swept_once _ _ _ refl refl;
   no_account = λ account. absurd (omega (arith, account.units.0));
-  shown = record { number = refl; never_falls = none_falls; each = tt; rising = no_pairs };
+  shown = none_shown _ _ _ _;
 }

@@ -8,7 +8,7 @@ use Rattle.book_state.proofs.Computed.{drawn_all}
 use Rattle.book_state.proofs.Lists.{true_false}
 use Rattle.book_state.proofs.WorkedParts.{legal_log, link, part, follows_log}
 use Rattle.ledger.specs.Worked.{increments, both_accepted, accepted, ended_late}
-use Rattle.ledger.proofs.WorkedParts.{increments_read, no_parts, nothing, none_falls, no_pairs}
+use Rattle.ledger.proofs.WorkedParts.{read_one, none_shown, increments_read, no_parts, nothing}
 use Rattle.ledger.proofs.worked.an_end_behind_the_last_sweep.Goals as goal
 
 follows : Follows plain 1 1 increments both_accepted ended_late.log
@@ -24,7 +24,7 @@ legal = legal_log 1 _ refl ((inl refl, refl, refl), (((refl, refl), (refl, drawn
 
 pub returns : goal.returns
 returns c = record {
-  read = record { an_end_each = refl; verdicts_each = refl; a_verdict_each = refl; read = (increments_read, tt); counted = (refl, tt) };
+  read = read_one _ _ _ _ refl increments_read;
   history = record { legal = legal; follows = (follows, tt) };
   not_swept = λ swept. absurd (true_false (sym swept.ended));
   account = record {
@@ -33,5 +33,5 @@ returns c = record {
     values = (refl, tt);
     words = tt;
   };
-  shown = record { number = refl; never_falls = none_falls; each = tt; rising = no_pairs };
+  shown = none_shown _ _ _ _;
 }

@@ -13,8 +13,7 @@ use Rattle.book_state.proofs.Computed.{drawn_all}
 use Rattle.book_state.proofs.WorkedParts.{legal_log, link, part, follows_log}
 use Rattle.ledger.specs.Ledger.{RunLedger}
 use Rattle.ledger.specs.Worked.{plain_plan, file_of, of_shared}
-use Rattle.ledger.proofs.OneFlush.{one_report}
-use Rattle.ledger.proofs.WorkedParts.{lawful_open, lawful_inc, lawful_release, read_whole, one_rises, none_falls, no_pairs, no_parts, nothing}
+use Rattle.ledger.proofs.WorkedParts.{read_one, swept_once, none_shown, reported, lawful_inc, lawful_open, lawful_release, no_parts, nothing, read_whole}
 use Rattle.ledger.proofs.worked.shared_symbols.Goals as goal
 
 follows : Follows plain 1 1 shared_events shared_verdicts shared
@@ -79,21 +78,17 @@ is_read = read_whole shared_events (
 
 ledger : RunLedger (file_of shared_events ∷ []) (shared_events ∷ []) plain_plan of_shared
 ledger = record {
-  read = record { an_end_each = refl; verdicts_each = refl; a_verdict_each = refl; read = (is_read, tt); counted = (refl, tt) };
+  read = read_one _ _ _ _ refl is_read;
   history = record { legal = legal; follows = (follows, tt) };
-  swept = record { number = refl; sweeps = refl; rising = one_rises 8; ended = refl };
+  swept = swept_once _ _ _ refl refl;
   account = record {
     flushes = (record { sweep = refl; deltas = refl; gauges = refl; parts = no_parts ([] ∷ []) nothing }, tt);
     units = (refl, tt);
     values = (refl, tt);
     words = tt;
   };
-  shown = record { number = refl; never_falls = none_falls; each = tt; rising = no_pairs };
+  shown = none_shown _ _ _ _;
 }
 
 pub returns : goal.returns
-returns c = record {
-  run = ledger;
-  replay = ledger;
-  only = λ other direct. one_report plain_plan (shared_events ∷ []) (file_of shared_events ∷ []) (file_of shared_events ∷ []) of_shared other ledger direct;
-}
+returns c = reported shared_events of_shared ledger ledger

@@ -12,8 +12,7 @@ use Rattle.book_state.proofs.Computed.{drawn_all}
 use Rattle.book_state.proofs.WorkedParts.{legal_log, link, part, follows_log}
 use Rattle.ledger.specs.Ledger.{RunLedger}
 use Rattle.ledger.specs.Worked.{plain_plan, file_of, accepted, values_and_texts, readout_log, of_values_and_texts}
-use Rattle.ledger.proofs.OneFlush.{one_report}
-use Rattle.ledger.proofs.WorkedParts.{root, rec_7, lawful_text, read_whole, one_rises, none_falls, no_pairs, one_part}
+use Rattle.ledger.proofs.WorkedParts.{read_one, swept_once, none_shown, reported, lawful_text, one_part, read_whole, rec_7, root}
 use Rattle.ledger.proofs.worked.values_and_texts.Goals as goal
 
 follows : Follows plain 1 1 values_and_texts (accepted 0 ∷ accepted 1 ∷ accepted 1 ∷ []) readout_log
@@ -49,24 +48,20 @@ is_read = read_whole values_and_texts (
 
 ledger : RunLedger (file_of values_and_texts ∷ []) (values_and_texts ∷ []) plain_plan of_values_and_texts
 ledger = record {
-  read = record { an_end_each = refl; verdicts_each = refl; a_verdict_each = refl; read = (is_read, tt); counted = (refl, tt) };
+  read = read_one _ _ _ _ refl is_read;
   history = record { legal = legal; follows = (follows, tt) };
-  swept = record { number = refl; sweeps = refl; rising = one_rises 6; ended = refl };
+  swept = swept_once _ _ _ refl refl;
   account = record {
     flushes = (record { sweep = refl; deltas = refl; gauges = refl; parts = one_part [] (λ w. refl) }, tt);
     units = tt;
     values = (refl, tt);
     words = tt;
   };
-  shown = record { number = refl; never_falls = none_falls; each = tt; rising = no_pairs };
+  shown = none_shown _ _ _ _;
 }
 
 pub returns : goal.returns
 returns c = record {
-  reported = record {
-    run = ledger;
-    replay = ledger;
-    only = λ other direct. one_report plain_plan (values_and_texts ∷ []) (file_of values_and_texts ∷ []) (file_of values_and_texts ∷ []) of_values_and_texts other ledger direct;
-  };
+  reported = reported values_and_texts of_values_and_texts ledger ledger;
   texts = refl;
 }
