@@ -2,7 +2,7 @@
 use Rattle.std.proofs.Common.{◌≡◌, ◌≢◌, ℕ, zero, suc, ◌+◌, ◌<◌, ◌≤◌, ◌==◌, ◌&&◌, Bool, true, false, cond, Some, List, [], ◌∷◌, ◌++◌, slice_get, replicate, refl, ap, sym, ◌∙◌, subst, arith}
 use Rattle.std.proofs.lemmas.Bool.Decides.{nat_tests}
 use Rattle.std.specs.Option.{IsSomeAnd}
-use Rattle.stat_defs.specs.Books.{BookHistory}
+use Rattle.stat_defs.specs.Books.{BookHistory, is_released, releases_in}
 use Rattle.stat_defs.specs.declared.configs.Config.{Config}
 use Rattle.stat_defs.specs.declared.configs.ScopeSpec.{ScopeSpec}
 use Rattle.stat_defs.specs.declared.history.Call.{Call}
@@ -13,10 +13,11 @@ use Rattle.stat_defs.specs.declared.history.Reply.TheVariants as reply
 use Rattle.stat_defs.specs.declared.history.Verdict.{Verdict}
 use Rattle.book_state.specs.State.{NameRules, State, seat_of}
 use Rattle.book_state.specs.Step.{effect, Works}
-use Rattle.book_state.specs.Log.{empty, openings, replay_from, held_by}
-use Rattle.stat_book.specs.Calls.{rules_of, state_of, new_book, Logged, Answers, is_opening, openings_by}
+use Rattle.book_state.specs.Log.{empty, openings, replay_from, Run, held_by}
+use Rattle.stat_book.specs.Calls.{rules_of, state_of, IsLegal, new_book, Logged, Answers, is_opening, openings_by}
 use Rattle.book_state.proofs.Lists.{count_cons, count_push}
 use Rattle.book_state.proofs.Growing.{left_seat, left_held, same_seats}
+use Rattle.stat_book.proofs.Keeping.{releases_step}
 
 module _ (old new : BookHistory) (by : ℕ) (c : Call) (r : Reply) (l : Logged old by c r new) where
   pub state_after : state_of new ≡ effect (rules_of old) by c r (state_of old)
@@ -91,3 +92,15 @@ none_opened id at (scope ∷ scopes) =
 
 pub new_openings : (config : Config) (workers at : ℕ) → openings_by (suc at) (new_book config workers).log ≡ 0
 new_openings config workers at = none_opened 0 at config.scopes
+
+-- the releases of a legal log are those that its replies tell
+releases_from : (rules : NameRules) (s : State) (log : List Entry) → Run rules s log → (replay_from rules s log).releases ≡ s.releases + releases_in log
+releases_from rules s [] run = omega arith
+releases_from rules s (e ∷ log) run =
+    let rest = releases_from rules (effect rules e.seat e.call e.reply s) log run.1 in
+    let step = releases_step rules e.seat e.call e.reply s run.0 in
+    let more = count_cons (λ (entry : Entry). is_released entry.reply) e log in
+    omega (arith, rest, step, more)
+
+pub releases_counted : (book : BookHistory) → IsLegal book → releases_in book.log ≡ (state_of book).releases
+releases_counted book legal = let all = releases_from (rules_of book) (empty book.workers) book.log legal.steps in omega (arith, all)

@@ -109,7 +109,7 @@ seat_releases f zero s = refl
 seat_releases f (suc at) s = refl
 
 -- a release alone counts as one
-releases_step : (rules : NameRules) (by : ℕ) (c : Call) (r : Reply) (s : State) → Allowed rules by c r s → (effect rules by c r s).releases ≡ s.releases + cond (is_released r) 1 0
+pub releases_step : (rules : NameRules) (by : ℕ) (c : Call) (r : Reply) (s : State) → Allowed rules by c r s → (effect rules by c r s).releases ≡ s.releases + cond (is_released r) 1 0
 releases_step rules by (call.OpenScope label prefix) (reply.Released id) s may = absurd may
 releases_step rules by (call.OpenScope label prefix) (reply.Opened id) s may = omega arith
 releases_step rules by (call.Release label) (reply.Released id) s may = refl

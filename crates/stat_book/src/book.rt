@@ -224,6 +224,21 @@ impl Book {
         &self.log
     }
 
+    /// The calls of a book that is done with.
+    pub fn into_log(self) -> Vec<Entry>
+        ensures { result.items ≡ self.log }
+    {
+        let Book {
+            matcher: _,
+            workers: _,
+            state: _,
+            symbols: _,
+            log,
+            config: _,
+        } = self;
+        log
+    }
+
     /// The symbols of the names that are not gone, each used as often as it occurs in them.
     pub fn symbols(&self) -> &SymbolTable
         ensures { AreUses result.now (symbols_in (state_of self.now)) }

@@ -1,0 +1,5 @@
+pub mod SeatLemmas
+pub mod EntryLemmas
+pub mod NamedMetrics
+pub mod WorkerLemmas
+pub mod KeptSeats

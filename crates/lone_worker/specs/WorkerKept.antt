@@ -1,0 +1,17 @@
+-- What a lone worker keeps.
+use Rattle.std.specs.Prelude.{◌≡◌, ◌≤◌, true, false, length}
+use Rattle.stat_book.specs.Calls.{openings_by}
+use Rattle.lone_worker.specs.declared.worker.LoneWorker.TheInside.{Inside}
+use Rattle.lone_worker.specs.Seats.{Sits}
+use Rattle.lone_worker.specs.Worker.{WorkerHistory, IsFollowed}
+
+abbrev pub shown : Inside → WorkerHistory
+shown w = record { book = w.seat.book; events = w.events.items; verdicts = w.verdicts.items; ended = w.ended; whole = w.whole }
+
+pub record IsKept (w : Inside) : Type 0 where
+  pub one_worker : w.seat.book.workers ≡ 1
+  pub sits : w.ended ≡ false → Sits w.seat
+  pub few_openings : openings_by 1 w.seat.book.log ≤ length w.events.items
+  pub a_verdict_each : length w.verdicts.items ≡ length w.events.items
+  -- said of a worker none of whose events was cut short
+  pub followed : w.whole ≡ true → IsFollowed (shown w)
