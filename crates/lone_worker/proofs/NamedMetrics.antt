@@ -14,7 +14,7 @@ use Rattle.book_state.specs.Safe.{IsSafe, NamesSafe, IsThere}
 use Rattle.book_state.specs.SafeLaws.{NamesMetric, HoldsMetrics}
 use Rattle.book_state.proofs.Lists.{not_some, some_same, map_some, all_at}
 use Rattle.book_state.proofs.Safety.{legal_is_safe}
-use Rattle.thread_cache.proofs.KeyLemmas.{same_key-is}
+use Rattle.stat_defs.proofs.KeyLemmas.{same_key-is}
 use Rattle.stat_book.specs.Calls.{rules_of, state_of, IsLegal}
 use Rattle.lone_worker.specs.Seats.{IsHeldNow, HoldsVerdict, NamesLive, NamesOwn}
 

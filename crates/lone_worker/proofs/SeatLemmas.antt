@@ -2,7 +2,7 @@
 use Rattle.std.proofs.Common.{◌≡◌, ℕ, ◌+◌, ◌<◌, ◌≤◌, ◌==◌, ◌&&◌, Bool, true, false, cond, not, Option, option_map, Some, None, List, [], ◌∷◌, ◌++◌, filter, drop, All, refl, ap, sym, ◌∙◌, subst, arith}
 use Rattle.std.specs.Option.{option_map_or, IsSomeAnd}
 use Rattle.stat_defs.specs.Books.{BookHistory}
-use Rattle.stat_defs.specs.Keys.{Held, held_under, same_key}
+use Rattle.stat_defs.specs.Keys.{Held, held_under, same_key, is_through}
 use Rattle.stat_defs.specs.declared.configs.Config.{Config}
 use Rattle.stat_defs.specs.declared.ids.ScopeId.{ScopeId}
 use Rattle.stat_defs.specs.declared.ids.MetricId.{MetricId}
@@ -19,16 +19,16 @@ use Rattle.book_state.specs.State.{State, Seat, seat_of, held_in}
 use Rattle.book_state.specs.Finding.{scope_of}
 use Rattle.book_state.specs.Step.{effect, is_live, Works}
 use Rattle.book_state.specs.Follows.{verdict_of, tag_of, held_verdict}
-use Rattle.book_state.specs.SeatLaws.{is_held, is_end, is_ack, is_through, unacknowledged}
+use Rattle.book_state.specs.SeatLaws.{is_held, is_end, is_ack, unacknowledged}
 use Rattle.book_state.specs.Stored.{released_in}
 use Rattle.book_state.proofs.Lists.{count_push, true_false, map_some}
 use Rattle.book_state.proofs.Holding.{held_once, dead_scopes}
 use Rattle.book_state.proofs.OwnCalls.{own_passed, own_opening, own_release, own_text, held_found, held_acked}
 use Rattle.book_state.proofs.SeatStays.{seat_works, seat_tag, seat_acked, may_set}
-use Rattle.thread_cache.specs.Held.{held_with, held_without, is_of}
+use Rattle.thread_cache.specs.Held.{held_with, held_without}
 use Rattle.thread_cache.specs.SameHeld.{SameHeld}
 use Rattle.thread_cache.proofs.Agreeing.{last_held, held_left}
-use Rattle.thread_cache.proofs.KeyLemmas.{same_key-refl}
+use Rattle.stat_defs.proofs.KeyLemmas.{same_key-refl}
 use Rattle.stat_book.specs.Calls.{rules_of, state_of, IsLegal, Logged, Answers, is_opening, openings_by}
 use Rattle.stat_book.proofs.CallerLemmas.{state_after, other_seat_stays, openings_after}
 use Rattle.lone_worker.specs.Seats.{IsSeated, IsHeldNow, MaySet}
@@ -100,8 +100,8 @@ module _ (old new : BookHistory) (cached : List Held) (tag : ℕ) (is : IsSeated
         (subst (λ (held : List Held). SameHeld left held) (sym (held_acked (rules_of old) s 1 acked)) drops);
     tagged = sym (ap (λ (t : State). tag_of t 1) l.step.after ∙ seat_acked (rules_of old) s 1 acked is.works);
   } where
-    tells : All (λ h. is_live s.scopes h.scope ≡ not (is_of scopes h)) (held_in s 1)
-    tells = subst (λ (ids : List ScopeId). All (λ h. is_live s.scopes h.scope ≡ not (is_of ids h)) (held_in s 1)) (sym are)
+    tells : All (λ h. is_live s.scopes h.scope ≡ not (is_through scopes h)) (held_in s 1)
+    tells = subst (λ (ids : List ScopeId). All (λ h. is_live s.scopes h.scope ≡ not (is_through ids h)) (held_in s 1)) (sym are)
         (dead_scopes (rules_of old) old.workers 1 old.log legal.steps)
 
     drops : SameHeld left (filter (λ h. is_live s.scopes h.scope) (held_in s 1))
