@@ -119,6 +119,11 @@ acked_add a b c e v acked adds = elim acked [
   | inl none ↦ adds_map a c (Makes 1 (state_of a) e v) (MakesAcked 1 (state_of a) e v) (λ made makes. inl (none.0, makes))
       (subst (λ (x : BookHistory). Adds x (Makes 1 (state_of x) e v) c) none.1 adds)
   | inr logged ↦ adds_cons a b c (MakesAcked 1 (state_of a) e v) (Makes 1 (state_of b) e v) call.Ack (reply.Acked (state_of a).releases) logged
-      (λ made makes. inr (own_entry (rules_of a) (state_of a) (entry_of call.Ack (reply.Acked (state_of a).releases)), made, refl, refl,
-      subst (λ (s : State). Makes 1 s e v made) logged.step.after makes)) adds
+      (λ made makes. inr (
+        own_entry (rules_of a) (state_of a) (entry_of call.Ack (reply.Acked (state_of a).releases)),
+        made,
+        refl,
+        refl,
+        subst (λ (s : State). Makes 1 s e v made) logged.step.after makes,
+      )) adds
 ]

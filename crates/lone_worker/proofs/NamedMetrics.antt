@@ -40,15 +40,15 @@ module _ (s : State) (safe : IsSafe s) (names : HoldsMetrics s) (key : Key) wher
   of_held : (h : Held) (v : Verdict) → v ≡ h.verdict → h.key ≡ key → NamesSafe s h.verdict → NamesMetric s h.key h.verdict → NamesLive s key v
   of_held h v same under there kind = told v (subst (λ (w : Verdict). NamesSafe s w) (sym same) there)
       (subst (λ (w : Verdict). NamesMetric s key w) (sym same) (subst (λ (k : Key). NamesMetric s k h.verdict) under kind)) where
-    told : (w : Verdict) → NamesSafe s w → NamesMetric s key w → NamesLive s key w
-    told (verdict.Accepted id) there kind = both_of (slice_get s.metrics id.0) there kind.2
-    told (verdict.Opened id) there kind = tt
-    told (verdict.Released id) there kind = tt
-    told verdict.LabelTaken there kind = tt
-    told verdict.NoScope there kind = tt
-    told verdict.Rejected there kind = tt
-    told verdict.OverLimit there kind = tt
-    told verdict.NoRoom there kind = tt
+        told : (w : Verdict) → NamesSafe s w → NamesMetric s key w → NamesLive s key w
+        told (verdict.Accepted id) there kind = both_of (slice_get s.metrics id.0) there kind.2
+        told (verdict.Opened id) there kind = tt
+        told (verdict.Released id) there kind = tt
+        told verdict.LabelTaken there kind = tt
+        told verdict.NoScope there kind = tt
+        told verdict.Rejected there kind = tt
+        told verdict.OverLimit there kind = tt
+        told verdict.NoRoom there kind = tt
 
   in_seat : (o : Option Seat) → slice_get s.seats 0 ≡ o → (h : Held) (v : Verdict) → v ≡ h.verdict
       → Found (λ (x : Held). same_key x.key key) (option_map_or (λ (row : Seat). row.held) o []) h → NamesLive s key v

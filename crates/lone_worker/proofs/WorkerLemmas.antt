@@ -35,7 +35,7 @@ module _ (old new : BookHistory) (events : List Event) (verdicts : List Verdict)
       let more : List Entry = applies.more in
       let before : FollowsSoFar (rules_of old) 1 1 events verdicts old.log = subst (λ (t : Bool). FollowedIn old events verdicts t) works so_far in
       let makes : MakesAcked 1 (replay (rules_of old) 1 old.log) e v (own (rules_of old) 1 (replay (rules_of old) 1 old.log) more)
-          = subst (λ (n : ℕ). MakesAcked 1 (replay (rules_of old) n old.log) e v (own (rules_of old) 1 (replay (rules_of old) n old.log) more)) one applies.asked in
+      = subst (λ (n : ℕ). MakesAcked 1 (replay (rules_of old) n old.log) e v (own (rules_of old) 1 (replay (rules_of old) n old.log) more)) one applies.asked in
       subst (λ (t : Bool). FollowedIn new (events ++ e ∷ []) (verdicts ++ v ∷ []) t) (sym works)
       (subst (λ (b : BookHistory). FollowsSoFar (rules_of b) 1 1 (events ++ e ∷ []) (verdicts ++ v ∷ []) b.log) (sym applies.logged)
       (chain_event (rules_of old) 1 1 events verdicts old.log more e v before makes))

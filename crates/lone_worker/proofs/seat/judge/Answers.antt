@@ -21,7 +21,7 @@ returns-in-Some-clause-judged c =
     let key = key_in c.args.label.now c.args.kind c.args.mode c.args.name.now in
     let verdict = λ (o : Option Held). option_map (λ (h : Held). h.verdict) o in
     let is : held_verdict (state_of seat.book) 1 key ≡ Some c.in-Some.verdict =
-        ap verdict (sym (c.requires.sits.held key)) ∙ (ap (λ (k : Key). verdict (held_under k seat.cache.entries)) (sym c.set.ensures) ∙ (sym c.hit.ensures.verdict ∙ c.in-Some.is)) in
+    ap verdict (sym (c.requires.sits.held key)) ∙ (ap (λ (k : Key). verdict (held_under k seat.cache.entries)) (sym c.set.ensures) ∙ (sym c.hit.ensures.verdict ∙ c.in-Some.is)) in
     inl (is, refl)
 
 pub returns-in-Some-clause-held : goal.returns-in-Some-clause-held
