@@ -7,7 +7,7 @@ use Rattle.prom_text.specs.Prometheus.{type_line, lines_of, group_text}
 use Rattle.prom_text.specs.Rows.{text_from}
 
 -- a member is the first of the group that it goes to
-first_group : (m : Member) (gs : List Group)
+pub first_group : (m : Member) (gs : List Group)
     → (others : List Member) × ((rest : List Group) × (grouped_with m gs ≡ (record { first = m; others = others }) ∷ rest))
 first_group m [] = ([], ([], refl))
 first_group m (g ∷ gs) =

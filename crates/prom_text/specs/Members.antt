@@ -1,7 +1,8 @@
 -- The members of the groups of Prometheus's text: the counters, gauges and histograms of a view, grouped by printed name and
 -- kind. The order is this project's own.
 use Rattle.std.specs.Prelude.{ℕ, Bool, ◌&&◌, if◌then◌else◌, List, [], ◌∷◌, ◌++◌, map, codes}
-use Rattle.std.specs.Ordering.{nat_cmp, is_lt}
+use Rattle.std.specs.declared.cmp.Ordering.{Ordering}
+use Rattle.std.specs.Ordering.{nat_cmp, is_lt, ordering_then}
 use Rattle.std.specs.Cmp.Lexicographic.{slice_cmp}
 use Rattle.stat_defs.specs.Keys.{same_text, same_kind}
 use Rattle.stat_defs.specs.declared.ids.Kind.{Kind}
@@ -58,6 +59,16 @@ in_order is_less (x ∷ xs) = placed is_less x (in_order is_less xs)
 abbrev pub same_group : Member → Member → Bool
 same_group a b = same_kind (kind_of a) (kind_of b) && same_text (name_of a) (name_of b)
 
+-- counters, then gauges, then histograms
+abbrev pub kind_place : Member → ℕ
+kind_place (CounterMember row) = 0
+kind_place (GaugeMember row) = 1
+kind_place (HistogramMember row) = 2
+
+-- how the groups of two members go: by printed name in byte order, and of one printed name by kind
+abbrev pub compare_groups : Member → Member → Ordering
+compare_groups a b = ordering_then (slice_cmp nat_cmp (name_of a) (name_of b)) (nat_cmp (kind_place a) (kind_place b))
+
 -- a group of one printed name and kind is never empty
 pub record Group : Type 0 where
   pub first : Member
@@ -75,7 +86,7 @@ abbrev pub groups_of : List Member → List Group
 groups_of [] = []
 groups_of (member ∷ others) = grouped_with member (groups_of others)
 
--- the groups go by printed name in byte order, and those of one name by kind; the members of a group keep the order of the
--- view, which is that of full names, and of one full name that of ids
+-- the groups of a view: they go by printed name and kind, and the members of a group keep the order of the view, which is that of
+-- full names, and of one full name that of ids (law `groups_law`)
 abbrev pub groups : FlushView → List Group
 groups view = groups_of (in_order is_before (members view))

@@ -15,7 +15,7 @@ mod rows;
 #[cfg(test)]
 mod tests;
 
-pub use laws::text_law;
+pub use laws::{groups_law, text_law};
 use lines::{put_row, put_type};
 use rows::{Row, is_same_group, rows_in_order};
 use stat_defs::{FlushView, NoMemory};
