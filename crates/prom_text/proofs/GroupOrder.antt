@@ -11,12 +11,12 @@ use Rattle.std.specs.List.{All, AllByRecursion, flat_map}
 use Rattle.std.specs.List.Sorted.{IsPermutation, IsStrictlySortedBy}
 use Rattle.stat_defs.specs.Keys.{same_text, same_kind}
 use Rattle.stat_defs.specs.declared.views.FlushView.{FlushView}
-use Rattle.prom_text.specs.Members.{Member, CounterMember, GaugeMember, HistogramMember, members, kind_of, name_of, is_before, placed, in_order, same_group, Group, grouped_with, groups_of, groups, kind_place, compare_groups}
+use Rattle.prom_text.specs.Members.{Member, CounterMember, GaugeMember, HistogramMember, members, kind_of, member_name, is_before, inserted, in_order, same_group, Group, grouped_with, groups_of, text_groups, kind_place, compare_groups}
 use Rattle.prom_text.proofs.Groups.{first_group}
 use Rattle.prom_text.proofs.Order.{Rises, all_placed, all_in_order, all_behind, all_joined, picked_first, passed_over, keeps_picked}
 
 abbrev names : Member → Member → Ordering
-names a b = slice_cmp nat_cmp (name_of a) (name_of b)
+names a b = slice_cmp nat_cmp (member_name a) (member_name b)
 
 equal_is : (r : Ordering) → is_eq r ≡ true → r ≡ Equal
 equal_is Less e = absurd (cc)
@@ -48,12 +48,12 @@ and_flipped false false = refl
 -- one group: neither goes before the other
 same_is : (a b : Member) → same_group a b ≡ is_eq (compare_groups a b)
 same_is a b =
-    and_flipped (same_kind (kind_of a) (kind_of b)) (same_text (name_of a) (name_of b))
-    ∙ both_tied (same_text (name_of a) (name_of b)) (same_kind (kind_of a) (kind_of b)) (names a b) (nat_cmp (kind_place a) (kind_place b))
-    (texts_ties (name_of a) (name_of b)) (same_kinds a b)
+    and_flipped (same_kind (kind_of a) (kind_of b)) (same_text (member_name a) (member_name b))
+    ∙ both_tied (same_text (member_name a) (member_name b)) (same_kind (kind_of a) (kind_of b)) (names a b) (nat_cmp (kind_place a) (kind_place b))
+    (texts_ties (member_name a) (member_name b)) (same_kinds a b)
 
 group_order : IsTotalOrder compare_groups
-group_order = then_total (on_texts name_of) (on_total kind_place nat_cmp_total)
+group_order = then_total (on_texts member_name) (on_total kind_place nat_cmp_total)
 
 -- neither is less
 abbrev goes_before : Member → Member → Bool
@@ -77,7 +77,7 @@ less_is Greater e = absurd (cc)
 -- what is behind by name is not before as a group
 behind_by_name : (x y : Member) → is_before y x ≡ true → goes_before x y ≡ false
 behind_by_name x y e =
-    ap (λ r. is_lt (ordering_then r (nat_cmp (kind_place x) (kind_place y)))) (nat_list_cmp_total.antisymm (name_of x) (name_of y))
+    ap (λ r. is_lt (ordering_then r (nat_cmp (kind_place x) (kind_place y)))) (nat_list_cmp_total.antisymm (member_name x) (member_name y))
     ∙ lt_when (names y x) (nat_cmp (kind_place x) (kind_place y)) (less_is (names y x) e)
 
 not_less : (r s : Ordering) → is_lt r ≡ false → is_lt s ≡ false → is_lt (ordering_then r s) ≡ false
@@ -86,10 +86,10 @@ not_less Equal s p q = q
 not_less Greater s p q = refl
 
 rises_placed_by_group : (x : Member) (ys : List Member) → AllByRecursion (λ n. is_lt (nat_cmp (kind_place n) (kind_place x)) ≡ false) ys
-    → Rises goes_before ys → Rises goes_before (placed is_before x ys)
+    → Rises goes_before ys → Rises goes_before (inserted is_before x ys)
 rises_placed_by_group x [] k r = (tt, tt)
 rises_placed_by_group x (y ∷ ys) k r =
-    let P : Bool → Type 0 = λ b. Rises goes_before (if b then y ∷ placed is_before x ys else x ∷ y ∷ ys) in
+    let P : Bool → Type 0 = λ b. Rises goes_before (if b then y ∷ inserted is_before x ys else x ∷ y ∷ ys) in
     let cases : (b : Bool) → is_before y x ≡ b → P b =
     λ b. elim b as (λ b. is_before y x ≡ b → P b) [
       | true ↦ λ e. (
@@ -259,7 +259,7 @@ not_before f x y e p q =
     first_equal (names f y) (nat_cmp (kind_place f) (kind_place y)) (equal_is (compare_groups f y) (sym (same_is f y) ∙ p)) in
     let other : names f x ≡ Equal =
     first_equal (names f x) (nat_cmp (kind_place f) (kind_place x)) (equal_is (compare_groups f x) (sym (same_is f x) ∙ q)) in
-    let k : is_before y x ≡ false = ap is_lt (sym (nat_list_cmp_total.congr (name_of f) (name_of y) (name_of x) one) ∙ other) in
+    let k : is_before y x ≡ false = ap is_lt (sym (nat_list_cmp_total.congr (member_name f) (member_name y) (member_name x) one) ∙ other) in
     cc
 
 in_view : (view : FlushView) (gs : List Group) → GroupsOf (in_order is_before (members view)) gs → GroupsOf (members view) gs
@@ -269,14 +269,14 @@ in_view view (g ∷ gs) a = (
   in_view view gs a.1,
 )
 
-all_grouped : (view : FlushView) → Grouped (in_order is_before (members view)) (groups view)
+all_grouped : (view : FlushView) → Grouped (in_order is_before (members view)) (text_groups view)
 all_grouped view = grouped (in_order is_before (members view)) (rises_by_group (members view) (kinds_rise view))
 
 -- a group has all members of its name and kind
-pub group_is_whole : (view : FlushView) → All (λ g. g.first ∷ g.others ≡ filter (same_group g.first) (members view)) (groups view)
+pub group_is_whole : (view : FlushView) → All (λ g. g.first ∷ g.others ≡ filter (same_group g.first) (members view)) (text_groups view)
 group_is_whole view =
-    All-from_recursion (λ g. g.first ∷ g.others ≡ filter (same_group g.first) (members view)) (groups view)
-    (in_view view (groups view) (all_grouped view).0)
+    All-from_recursion (λ g. g.first ∷ g.others ≡ filter (same_group g.first) (members view)) (text_groups view)
+    (in_view view (text_groups view) (all_grouped view).0)
 
 firsts_later : (g : Group) (gs : List Group) → AllByRecursion (λ h. compare_groups g.first h.first ≡ Less) gs
     → AllByRecursion (λ m. compare_groups g.first m ≡ Less) (map (λ h. h.first) gs)
@@ -289,8 +289,8 @@ strictly [] a = tt
 strictly (g ∷ gs) a = (firsts_later g gs a.0, strictly gs a.1)
 
 -- each group goes before those behind it
-pub groups_rise : (view : FlushView) → IsStrictlySortedBy compare_groups (map (λ g. g.first) (groups view))
-groups_rise view = strictly (groups view) (all_grouped view).1
+pub groups_rise : (view : FlushView) → IsStrictlySortedBy compare_groups (map (λ g. g.first) (text_groups view))
+groups_rise view = strictly (text_groups view) (all_grouped view).1
 
 abbrev all_members : List Group → List Member
 all_members gs = flat_map (λ g. g.first ∷ g.others) gs
@@ -305,24 +305,24 @@ members_of_groups : (ms : List Member) → all_members (groups_of ms) ≡ ms
 members_of_groups [] = refl
 members_of_groups (m ∷ ms) = members_with m (groups_of ms) ∙ ap (λ l. m ∷ l) (members_of_groups ms)
 
-placed_permutes : {X : Type 0} (lt : X → X → Bool) (x : X) (ys : List X) → IsPermutation (x ∷ ys) (placed lt x ys)
+placed_permutes : {X : Type 0} (lt : X → X → Bool) (x : X) (ys : List X) → IsPermutation (x ∷ ys) (inserted lt x ys)
 placed_permutes lt x [] = IsPermutation-refl (x ∷ [])
 placed_permutes lt x (y ∷ ys) =
-    elim (lt y x) as (λ b. IsPermutation (x ∷ y ∷ ys) (if b then y ∷ placed lt x ys else x ∷ y ∷ ys)) [
-      | true ↦ IsPermutation-trans (x ∷ y ∷ ys) (y ∷ x ∷ ys) (y ∷ placed lt x ys)
+    elim (lt y x) as (λ b. IsPermutation (x ∷ y ∷ ys) (if b then y ∷ inserted lt x ys else x ∷ y ∷ ys)) [
+      | true ↦ IsPermutation-trans (x ∷ y ∷ ys) (y ∷ x ∷ ys) (y ∷ inserted lt x ys)
           (IsPermutation-sym (y ∷ x ∷ ys) (x ∷ y ∷ ys) (IsPermutation-middle (y ∷ []) x ys))
-          (IsPermutation-cons y (x ∷ ys) (placed lt x ys) (placed_permutes lt x ys))
+          (IsPermutation-cons y (x ∷ ys) (inserted lt x ys) (placed_permutes lt x ys))
       | false ↦ IsPermutation-refl (x ∷ y ∷ ys)
     ]
 
 in_order_permutes : {X : Type 0} (lt : X → X → Bool) (xs : List X) → IsPermutation xs (in_order lt xs)
 in_order_permutes lt [] = IsPermutation-refl []
 in_order_permutes lt (x ∷ xs) =
-    IsPermutation-trans (x ∷ xs) (x ∷ in_order lt xs) (placed lt x (in_order lt xs))
+    IsPermutation-trans (x ∷ xs) (x ∷ in_order lt xs) (inserted lt x (in_order lt xs))
     (IsPermutation-cons x xs (in_order lt xs) (in_order_permutes lt xs)) (placed_permutes lt x (in_order lt xs))
 
 -- the groups have the members of the view
-pub groups_have_all : (view : FlushView) → IsPermutation (members view) (flat_map (λ g. g.first ∷ g.others) (groups view))
+pub groups_have_all : (view : FlushView) → IsPermutation (members view) (flat_map (λ g. g.first ∷ g.others) (text_groups view))
 groups_have_all view =
     subst (IsPermutation (members view)) (sym (members_of_groups (in_order is_before (members view))))
     (in_order_permutes is_before (members view))

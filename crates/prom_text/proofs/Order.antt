@@ -4,7 +4,7 @@ use Rattle.std.specs.Cmp.{IsStrictWeakOrder}
 use Rattle.std.specs.List.{AllByRecursion}
 use Rattle.std.specs.List.Sorted.{IsSortedBy, IsStableBy, ties}
 use Rattle.std.proofs.lemmas.List.Sorted.{sorted_far}
-use Rattle.prom_text.specs.Members.{placed, in_order}
+use Rattle.prom_text.specs.Members.{inserted, in_order}
 
 -- each value is followed by none that is before it
 abbrev pub Rises : {X : Type 0} → (X → X → Bool) → List X → Type 0
@@ -34,10 +34,10 @@ tie-self lt o x =
 
 -- what holds of a value and of the others holds of all of them in order
 pub all_placed : {X : Type 0} (lt : X → X → Bool) (P : X → Type 0) (x : X) (ys : List X) → P x → AllByRecursion P ys
-    → AllByRecursion P (placed lt x ys)
+    → AllByRecursion P (inserted lt x ys)
 all_placed lt P x [] p q = (p, tt)
 all_placed lt P x (y ∷ ys) p q =
-    elim (lt y x) as (λ b. AllByRecursion P (if b then y ∷ placed lt x ys else x ∷ y ∷ ys)) [
+    elim (lt y x) as (λ b. AllByRecursion P (if b then y ∷ inserted lt x ys else x ∷ y ∷ ys)) [
       | true ↦ (q.0, all_placed lt P x ys p q.1)
       | false ↦ (p, q)
     ]
@@ -55,11 +55,11 @@ all_behind lt o x y [] h a = tt
 all_behind lt o x y (z ∷ zs) h a = (o.chain z y x a.0 h, all_behind lt o x y zs h a.1)
 
 rises_placed : {X : Type 0} (lt : X → X → Bool) → IsStrictWeakOrder lt → (x : X) (ys : List X) → Rises lt ys
-    → Rises lt (placed lt x ys)
+    → Rises lt (inserted lt x ys)
 rises_placed lt o x [] r = (tt, tt)
 rises_placed lt o x (y ∷ ys) r =
-    let cases : (b : Bool) → lt y x ≡ b → Rises lt (if b then y ∷ placed lt x ys else x ∷ y ∷ ys) =
-    λ b. elim b as (λ b. lt y x ≡ b → Rises lt (if b then y ∷ placed lt x ys else x ∷ y ∷ ys)) [
+    let cases : (b : Bool) → lt y x ≡ b → Rises lt (if b then y ∷ inserted lt x ys else x ∷ y ∷ ys) =
+    λ b. elim b as (λ b. lt y x ≡ b → Rises lt (if b then y ∷ inserted lt x ys else x ∷ y ∷ ys)) [
       | true ↦ λ e. (all_placed lt (λ z. lt z y ≡ false) x ys (o.one_way y x e) r.0, rises_placed lt o x ys r.1)
       | false ↦ λ e. ((e, all_behind lt o x y ys e r.0), r)
     ] in
@@ -100,13 +100,13 @@ swapped false false x y picked others n e = e
 
 -- a value that is placed among others stays before those that are picked with it, where none of them is before it
 picked_placed : {X : Type 0} (lt : X → X → Bool) (p : X → Bool)
-    → ((x y : X) → lt y x ≡ true → p y ≡ true → p x ≡ true → ⊥) → (x : X) (ys : List X) → filter p (placed lt x ys) ≡ filter p (x ∷ ys)
+    → ((x y : X) → lt y x ≡ true → p y ≡ true → p x ≡ true → ⊥) → (x : X) (ys : List X) → filter p (inserted lt x ys) ≡ filter p (x ∷ ys)
 picked_placed lt p n x [] = refl
 picked_placed lt p n x (y ∷ ys) =
-    let P : Bool → Type 0 = λ b. filter p (if b then y ∷ placed lt x ys else x ∷ y ∷ ys) ≡ filter p (x ∷ y ∷ ys) in
+    let P : Bool → Type 0 = λ b. filter p (if b then y ∷ inserted lt x ys else x ∷ y ∷ ys) ≡ filter p (x ∷ y ∷ ys) in
     let cases : (b : Bool) → lt y x ≡ b → P b =
     λ b. elim b as (λ b. lt y x ≡ b → P b) [
-      | true ↦ λ e. swapped (p y) (p x) x y (filter p (placed lt x ys)) (filter p ys) (n x y e) (picked_placed lt p n x ys)
+      | true ↦ λ e. swapped (p y) (p x) x y (filter p (inserted lt x ys)) (filter p ys) (n x y e) (picked_placed lt p n x ys)
       | false ↦ λ e. refl
     ] in
     cases (lt y x) refl
@@ -196,11 +196,11 @@ sorted_in_order lt o xs ys up stable =
     (λ r. stable r ∙ sym (keeps_ties lt o r xs))
 
 map_placed : {X Y : Type 0} (f : X → Y) (lt : Y → Y → Bool) (x : X) (ys : List X)
-    → map f (placed (λ a b. lt (f a) (f b)) x ys) ≡ placed lt (f x) (map f ys)
+    → map f (inserted (λ a b. lt (f a) (f b)) x ys) ≡ inserted lt (f x) (map f ys)
 map_placed f lt x [] = refl
 map_placed f lt x (y ∷ ys) =
-    elim (lt (f y) (f x)) as (λ c. map f (if c then y ∷ placed (λ a b. lt (f a) (f b)) x ys else x ∷ y ∷ ys)
-    ≡ (if c then f y ∷ placed lt (f x) (map f ys) else f x ∷ f y ∷ map f ys)) [
+    elim (lt (f y) (f x)) as (λ c. map f (if c then y ∷ inserted (λ a b. lt (f a) (f b)) x ys else x ∷ y ∷ ys)
+    ≡ (if c then f y ∷ inserted lt (f x) (map f ys) else f x ∷ f y ∷ map f ys)) [
       | true ↦ ap (λ l. f y ∷ l) (map_placed f lt x ys)
       | false ↦ refl
     ]
@@ -210,4 +210,4 @@ pub map_in_order : {X Y : Type 0} (f : X → Y) (lt : Y → Y → Bool) (xs : Li
     → map f (in_order (λ a b. lt (f a) (f b)) xs) ≡ in_order lt (map f xs)
 map_in_order f lt [] = refl
 map_in_order f lt (x ∷ xs) =
-    map_placed f lt x (in_order (λ a b. lt (f a) (f b)) xs) ∙ ap (placed lt (f x)) (map_in_order f lt xs)
+    map_placed f lt x (in_order (λ a b. lt (f a) (f b)) xs) ∙ ap (inserted lt (f x)) (map_in_order f lt xs)

@@ -50,7 +50,8 @@ fn put_member(
 
 fn write_rows<O: Sink>(alloc: Global, rows: &[Row<'_>], out: &mut O) -> Result<(), TextFault>
     requires { All (λ row. HasHistogram (member_of row)) rows.now }
-    ensures answer { IsTextAnswer (O.state out.old) (O.state out.new) (text_from None (map member_of rows.now)) result }
+    ensures answer { IsTextAnswer (O.state out.old) (O.state out.new)
+        (text_from None (map member_of rows.now)) result }
     ensures later { (O.state out.old).faults ≤ (O.state out.new).faults }
 {
     let mut text = Vec::new(alloc);
