@@ -10,29 +10,26 @@ use Rattle.stat_defs.specs.declared.views.TextRow.{TextRow}
 use Rattle.stat_defs.specs.declared.views.HistRow.{HistRow}
 use Rattle.stat_defs.specs.declared.views.FlushView.{FlushView}
 use Rattle.text_parts.specs.Histograms.{AreHistograms, HasHistograms}
+use Rattle.text_parts.proofs.Rising.{all_joined}
 use Rattle.admin_read.specs.declared.rows.Row.{Row}
-use Rattle.admin_read.specs.Admin.{Stat, TextStat, CounterStat, GaugeStat, HistogramStat, goes_before, together, stats, line_of}
+use Rattle.admin_read.specs.Admin.{Stat, TextStat, CounterStat, GaugeStat, HistogramStat, stands_before, together, stats, stat_line}
 use Rattle.admin_read.specs.Rows.{stat_of, CanBeRead}
 
 -- the lines of the rows from a place on are that of its row and those of the rows behind it
 pub rest_next : (rows : List Row) (i : ℕ) (row : Row) (done whole : List ℕ) → i < length rows → row ≡ get_or rows i row
-    → done ++ flat_map line_of (map stat_of (drop i rows)) ≡ whole
-    → (done ++ line_of (stat_of row)) ++ flat_map line_of (map stat_of (drop (i + 1) rows)) ≡ whole
+    → done ++ flat_map stat_line (map stat_of (drop i rows)) ≡ whole
+    → (done ++ stat_line (stat_of row)) ++ flat_map stat_line (map stat_of (drop (i + 1) rows)) ≡ whole
 rest_next rows i row done whole h is e =
     let next : drop i rows ≡ row ∷ drop (i + 1) rows =
     drop-cons rows i row h ∙ ap (λ (x : Row). x ∷ drop (suc i) rows) (sym is) ∙ ap (λ n. row ∷ drop n rows) (sym (add-one i)) in
-    append_assoc done (line_of (stat_of row)) (flat_map line_of (map stat_of (drop (i + 1) rows)))
-    ∙ ap (λ (l : List Row). done ++ flat_map line_of (map stat_of l)) (sym next) ∙ e
+    append_assoc done (stat_line (stat_of row)) (flat_map stat_line (map stat_of (drop (i + 1) rows)))
+    ∙ ap (λ (l : List Row). done ++ flat_map stat_line (map stat_of l)) (sym next) ∙ e
 
 -- no line is left behind the last row
 pub rest_none : (rows : List Row) (i : ℕ) (done whole : List ℕ) → length rows ≤ i
-    → done ++ flat_map line_of (map stat_of (drop i rows)) ≡ whole → done ≡ whole
+    → done ++ flat_map stat_line (map stat_of (drop i rows)) ≡ whole → done ≡ whole
 rest_none rows i done whole h e =
-    sym (append-nil done) ∙ ap (λ (l : List Row). done ++ flat_map line_of (map stat_of l)) (sym (drop_all i rows h)) ∙ e
-
-all_joined : {X : Type 0} (P : X → Type 0) (xs ys : List X) → AllByRecursion P xs → AllByRecursion P ys → AllByRecursion P (xs ++ ys)
-all_joined P [] ys a b = b
-all_joined P (x ∷ xs) ys a b = (a.0, all_joined P xs ys a.1 b)
+    sym (append-nil done) ∙ ap (λ (l : List Row). done ++ flat_map stat_line (map stat_of l)) (sym (drop_all i rows h)) ∙ e
 
 texts_can : (rows : List TextRow) → AllByRecursion CanBeRead (map TextStat rows)
 texts_can [] = tt
@@ -45,9 +42,9 @@ counters_can (row ∷ rows) = (tt, counters_can rows)
 together_can : (counters : List CounterRow) (gauges : List GaugeRow) → AllByRecursion CanBeRead (together counters gauges)
 together_can counters [] = counters_can counters
 together_can counters (gauge ∷ gauges) =
-    let others : List CounterRow = drop (prefix_len (goes_before gauge) counters) counters in
-    all_joined CanBeRead (map CounterStat (take_while (goes_before gauge) counters)) (GaugeStat gauge ∷ together others gauges)
-    (counters_can (take_while (goes_before gauge) counters)) (tt, together_can others gauges)
+    let others : List CounterRow = drop (prefix_len (stands_before gauge) counters) counters in
+    all_joined CanBeRead (map CounterStat (take_while (stands_before gauge) counters)) (GaugeStat gauge ∷ together others gauges)
+    (counters_can (take_while (stands_before gauge) counters)) (tt, together_can others gauges)
 
 histograms_can : (rows : List HistRow) → AllByRecursion AreHistograms rows → AllByRecursion CanBeRead (map HistogramStat rows)
 histograms_can [] a = tt

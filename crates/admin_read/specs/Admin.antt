@@ -21,16 +21,24 @@ pub data Stat : Type 0 where
   GaugeStat : GaugeRow → Stat
   HistogramStat : HistRow → Stat
 
--- a counter goes before a gauge where its name is not above the gauge's in byte order
-abbrev pub goes_before : GaugeRow → CounterRow → Bool
-goes_before gauge counter = is_le (slice_cmp nat_cmp counter.name gauge.name)
+-- a counter's name is not above a gauge's in byte order
+abbrev pub stands_before : GaugeRow → CounterRow → Bool
+stands_before gauge counter = is_le (slice_cmp nat_cmp counter.name gauge.name)
 
--- counters and gauges together: before each gauge the counters that go before it and did not stand yet, and then the others
+-- the counters from the first on whose names are not above a gauge's
+abbrev pub counters_up_to : GaugeRow → List CounterRow → List CounterRow
+counters_up_to gauge counters = take_while (stands_before gauge) counters
+
+-- and those behind them
+abbrev pub counters_beyond : GaugeRow → List CounterRow → List CounterRow
+counters_beyond gauge counters = drop (prefix_len (stands_before gauge) counters) counters
+
+-- counters and gauges together: before each gauge the counters up to its name, and behind the last gauge the other counters
 abbrev pub together : List CounterRow → List GaugeRow → List Stat
 together counters [] = map CounterStat counters
 together counters (gauge ∷ gauges) =
-    map CounterStat (take_while (goes_before gauge) counters)
-    ++ (GaugeStat gauge ∷ together (drop (prefix_len (goes_before gauge) counters) counters) gauges)
+    map CounterStat (counters_up_to gauge counters)
+    ++ (GaugeStat gauge ∷ together (counters_beyond gauge counters) gauges)
 
 -- text readouts, then counters and gauges, then histograms
 abbrev pub stats : FlushView → List Stat
@@ -69,11 +77,11 @@ quantiles_text interval cumulative =
     if total cumulative == 0 then codes "No recorded values"
     else join_by (quantile_part interval cumulative) (codes " ") quantiles
 
-abbrev pub line_of : Stat → List ℕ
-line_of (TextStat row) = named row.name (quoted row.text)
-line_of (CounterStat row) = named row.name (decimal row.total)
-line_of (GaugeStat row) = named row.name (signed_decimal row.value)
-line_of (HistogramStat row) = named row.name (quantiles_text row.interval row.cumulative)
+abbrev pub stat_line : Stat → List ℕ
+stat_line (TextStat row) = named row.name (quoted row.text)
+stat_line (CounterStat row) = named row.name (decimal row.total)
+stat_line (GaugeStat row) = named row.name (signed_decimal row.value)
+stat_line (HistogramStat row) = named row.name (quantiles_text row.interval row.cumulative)
 
 abbrev pub admin_text : FlushView → List ℕ
-admin_text view = flat_map line_of (stats view)
+admin_text view = flat_map stat_line (stats view)

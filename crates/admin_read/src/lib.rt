@@ -5,12 +5,16 @@ ghost use Rattle.std.specs.Prelude.{◌≡◌, ◌≤◌, map};
 ghost use Rattle.std.specs.List.{All, flat_map};
 ghost use Rattle.text_parts.specs.Answer.{IsTextAnswer};
 ghost use Rattle.text_parts.specs.Histograms.{HasHistograms};
-ghost use Rattle.admin_read.specs.Admin.{line_of, admin_text};
+ghost use Rattle.admin_read.specs.Admin.{stat_line, admin_text};
 ghost use Rattle.admin_read.specs.Rows.{stat_of, CanBeRead};
 
+mod laws;
 mod lines;
 mod rows;
+#[cfg(test)]
+mod tests;
 
+pub use laws::order_law;
 use lines::put_row;
 use rows::{Row, rows_of};
 use stat_defs::FlushView;
@@ -20,7 +24,7 @@ use text_parts::{TextFault, push_full};
 
 fn write_rows<O: Sink>(alloc: Global, rows: &[Row<'_>], out: &mut O) -> Result<(), TextFault>
     requires { All (λ row. CanBeRead (stat_of row)) rows.now }
-    ensures answer { IsTextAnswer (O.state out.old) (O.state out.new) (flat_map line_of (map stat_of rows.now)) result }
+    ensures answer { IsTextAnswer (O.state out.old) (O.state out.new) (flat_map stat_line (map stat_of rows.now)) result }
     ensures later { (O.state out.old).faults ≤ (O.state out.new).faults }
 {
     let mut text = Vec::new(alloc);

@@ -3,7 +3,7 @@ ghost use Rattle.std.specs.Prelude.{◌≡◌, ◌≤◌, ◌++◌, ◌∷◌, [
 ghost use Rattle.std.specs.Fmt.{decimal, signed_decimal};
 ghost use Rattle.std.specs.List.{All};
 ghost use Rattle.text_parts.specs.Histograms.{AreHistograms};
-ghost use Rattle.admin_read.specs.Admin.{named, quoted, quantile_label, value_text, quantile_part, quantiles_text, line_of};
+ghost use Rattle.admin_read.specs.Admin.{named, quoted, quantile_label, value_text, quantile_part, quantiles_text, stat_line};
 ghost use Rattle.admin_read.specs.Rows.{stat_of, CanBeRead, spaced_parts};
 
 use crate::rows::Row;
@@ -131,7 +131,7 @@ fn put_histogram(alloc: Global, text: &mut Vec<u8>, row: &HistRow) -> Result<(),
 /// Appends the line of a row.
 pub(crate) fn put_row(alloc: Global, text: &mut Vec<u8>, row: &Row<'_>) -> Result<(), NoMemory>
     requires { CanBeRead (stat_of row.now) }
-    ensures { OnOk result (text.new.items ≡ text.old.items ++ line_of (stat_of row.now)) }
+    ensures { OnOk result (text.new.items ≡ text.old.items ++ stat_line (stat_of row.now)) }
 {
     match row {
         Row::Text(row) => put_text(text, row)?,

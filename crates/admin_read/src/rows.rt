@@ -1,7 +1,7 @@
 //! The rows of a view in the order in which they are written.
-ghost use Rattle.std.specs.Prelude.{◌≡◌, ◌≤◌, ◌++◌, ◌∷◌, [], IfOk, OnOk, map, drop, length};
-ghost use Rattle.std.specs.List.{take_while, prefix_len};
-ghost use Rattle.admin_read.specs.Admin.{TextStat, CounterStat, GaugeStat, HistogramStat, goes_before as is_before, together, stats};
+ghost use Rattle.std.specs.Prelude.{◌≡◌, ◌≤◌, ◌++◌, ◌∷◌, [], IfOk, OnOk, map, length};
+ghost use Rattle.std.specs.List.{prefix_len};
+ghost use Rattle.admin_read.specs.Admin.{TextStat, CounterStat, GaugeStat, HistogramStat, stands_before as is_first, counters_up_to, counters_beyond, together, stats};
 ghost use Rattle.admin_read.specs.Rows.{stat_of};
 
 use stat_defs::{CounterRow, FlushView, GaugeRow, HistRow, TextRow};
@@ -43,34 +43,34 @@ fn add_histograms<'a>(rows: &mut Vec<Row<'a>>, histograms: &'a [HistRow]) -> Res
     Ok(())
 }
 
-fn goes_before(gauge: &GaugeRow, counter: &CounterRow) -> bool
-    ensures { result ≡ is_before gauge.now counter.now }
+fn stands_before(gauge: &GaugeRow, counter: &CounterRow) -> bool
+    ensures { result ≡ is_first gauge.now counter.now }
 {
     counter.name.cmp(&gauge.name).is_le()
 }
 
-/// How many counters go before a gauge, from the first on.
+/// How many counters stand before a gauge, from the first on.
 fn count_before(gauge: &GaugeRow, counters: &[CounterRow]) -> usize
-    ensures count { result ≡ prefix_len (is_before gauge.now) counters.now }
+    ensures count { result ≡ prefix_len (is_first gauge.now) counters.now }
     ensures within { result ≤ length counters.now }
 {
     for (i, counter) in counters.iter().enumerate() {
-        if !goes_before(gauge, counter) {
+        if !stands_before(gauge, counter) {
             return i;
         }
     }
     counters.len()
 }
 
-/// Adds the counters that go before a gauge and the gauge, and gives the other counters.
+/// Adds the counters that stand before a gauge, and the gauge, and gives the other counters.
 fn add_gauge<'a>(
     rows: &mut Vec<Row<'a>>,
     counters: &'a [CounterRow],
     gauge: &'a GaugeRow,
 ) -> Result<&'a [CounterRow], AllocError>
     ensures added { OnOk result (map stat_of rows.new.items
-        ≡ map stat_of rows.old.items ++ (map CounterStat (take_while (is_before gauge.now) counters.now) ++ GaugeStat gauge.now ∷ [])) }
-    ensures others { IfOk result (λ others. others.now ≡ drop (prefix_len (is_before gauge.now) counters.now) counters.now) }
+        ≡ map stat_of rows.old.items ++ (map CounterStat (counters_up_to gauge.now counters.now) ++ GaugeStat gauge.now ∷ [])) }
+    ensures others { IfOk result (λ others. others.now ≡ counters_beyond gauge.now counters.now) }
 {
     let (before, others) = counters.split_at(count_before(gauge, counters));
     add_counters(rows, before)?;

@@ -2,7 +2,7 @@ use Rattle.std.proofs.Common.{ℕ, ◌++◌, List, subst, arith}
 use Rattle.std.proofs.lemmas.Result.{err_from_is_err_and}
 use Rattle.stats_io.specs.Push.{WritesFront}
 use Rattle.text_parts.proofs.Gathering.{gathered_on, gathered_put, stopped_within, cut_within}
-use Rattle.admin_read.specs.Admin.{line_of}
+use Rattle.admin_read.specs.Admin.{stat_line}
 use Rattle.admin_read.specs.Rows.{stat_of}
 use Rattle.admin_read.proofs.Steps.{rest_next}
 use Rattle.admin_read.proofs.write_rows.Goals as goal
@@ -22,7 +22,7 @@ returns-in_err-push_full-clause-answer g c =
 
 pub loop-row-preserved : goal.loop-row-preserved
 loop-row-preserved g c = record {
-  done = c.loop-row.invariant.done ++ line_of (stat_of c.row-item.result);
+  done = c.loop-row.invariant.done ++ stat_line (stat_of c.row-item.result);
   gathered = gathered_on _ _ _ _ _ _
       (gathered_put _ _ _ _ _ _ c.loop-row.invariant.gathered c.in_ok-put_row.ensures) c.in_ok-push_full.ensures.whole;
   rest = rest_next c.args.rows.now c.loop-row.row-index c.row-item.result _ _ c.loop-row-test.true c.row-item.is c.loop-row.invariant.rest;
