@@ -3,6 +3,7 @@ pub mod Names
 pub mod Buckets
 pub mod Order
 pub mod Groups
+pub mod GroupOrder
 pub mod Steps
 pub mod Reading
 pub mod Bytes

@@ -4,10 +4,10 @@ use Rattle.std.specs.Cmp.{IsStrictWeakOrder}
 use Rattle.std.specs.List.{AllByRecursion}
 use Rattle.std.specs.List.Sorted.{IsSortedBy, IsStableBy, ties}
 use Rattle.std.proofs.lemmas.List.Sorted.{sorted_far}
-use Rattle.prom_text.specs.Members.{placed, in_order}
+use Rattle.prom_text.specs.Members.{inserted, in_order}
 
 -- each value is followed by none that is before it
-abbrev Rises : {X : Type 0} → (X → X → Bool) → List X → Type 0
+abbrev pub Rises : {X : Type 0} → (X → X → Bool) → List X → Type 0
 Rises lt [] = Unit {0}
 Rises lt (x ∷ xs) = AllByRecursion (λ y. lt y x ≡ false) xs × Rises lt xs
 
@@ -33,11 +33,11 @@ tie-self lt o x =
     λ b. elim b as (λ b. lt x x ≡ b → lt x x ≡ false) [ true ↦ λ e. o.one_way x x e | false ↦ λ e. e ] in cases (lt x x) refl
 
 -- what holds of a value and of the others holds of all of them in order
-all_placed : {X : Type 0} (lt : X → X → Bool) (P : X → Type 0) (x : X) (ys : List X) → P x → AllByRecursion P ys
-    → AllByRecursion P (placed lt x ys)
+pub all_placed : {X : Type 0} (lt : X → X → Bool) (P : X → Type 0) (x : X) (ys : List X) → P x → AllByRecursion P ys
+    → AllByRecursion P (inserted lt x ys)
 all_placed lt P x [] p q = (p, tt)
 all_placed lt P x (y ∷ ys) p q =
-    elim (lt y x) as (λ b. AllByRecursion P (if b then y ∷ placed lt x ys else x ∷ y ∷ ys)) [
+    elim (lt y x) as (λ b. AllByRecursion P (if b then y ∷ inserted lt x ys else x ∷ y ∷ ys)) [
       | true ↦ (q.0, all_placed lt P x ys p q.1)
       | false ↦ (p, q)
     ]
@@ -49,17 +49,17 @@ all_in_order lt P [] a = tt
 all_in_order lt P (x ∷ xs) a = all_placed lt P x (in_order lt xs) a.0 (all_in_order lt P xs a.1)
 
 -- a value behind which none is before `y` is followed by none that is before what is not behind `y`
-all_behind : {X : Type 0} (lt : X → X → Bool) → IsStrictWeakOrder lt → (x y : X) (ys : List X) → lt y x ≡ false
+pub all_behind : {X : Type 0} (lt : X → X → Bool) → IsStrictWeakOrder lt → (x y : X) (ys : List X) → lt y x ≡ false
     → AllByRecursion (λ z. lt z y ≡ false) ys → AllByRecursion (λ z. lt z x ≡ false) ys
 all_behind lt o x y [] h a = tt
 all_behind lt o x y (z ∷ zs) h a = (o.chain z y x a.0 h, all_behind lt o x y zs h a.1)
 
 rises_placed : {X : Type 0} (lt : X → X → Bool) → IsStrictWeakOrder lt → (x : X) (ys : List X) → Rises lt ys
-    → Rises lt (placed lt x ys)
+    → Rises lt (inserted lt x ys)
 rises_placed lt o x [] r = (tt, tt)
 rises_placed lt o x (y ∷ ys) r =
-    let cases : (b : Bool) → lt y x ≡ b → Rises lt (if b then y ∷ placed lt x ys else x ∷ y ∷ ys) =
-    λ b. elim b as (λ b. lt y x ≡ b → Rises lt (if b then y ∷ placed lt x ys else x ∷ y ∷ ys)) [
+    let cases : (b : Bool) → lt y x ≡ b → Rises lt (if b then y ∷ inserted lt x ys else x ∷ y ∷ ys) =
+    λ b. elim b as (λ b. lt y x ≡ b → Rises lt (if b then y ∷ inserted lt x ys else x ∷ y ∷ ys)) [
       | true ↦ λ e. (all_placed lt (λ z. lt z y ≡ false) x ys (o.one_way y x e) r.0, rises_placed lt o x ys r.1)
       | false ↦ λ e. ((e, all_behind lt o x y ys e r.0), r)
     ] in
@@ -98,30 +98,35 @@ swapped true false x y picked others n e = ap (λ l. y ∷ l) e
 swapped false true x y picked others n e = e
 swapped false false x y picked others n e = e
 
--- a value that is placed among others stays before those that tie with it
-same_tied : {X : Type 0} (lt : X → X → Bool) → IsStrictWeakOrder lt → (r x : X) (ys : List X)
-    → filter (ties lt r) (placed lt x ys) ≡ filter (ties lt r) (x ∷ ys)
-same_tied lt o r x [] = refl
-same_tied lt o r x (y ∷ ys) =
-    let P : Bool → Type 0 = λ b. filter (ties lt r) (if b then y ∷ placed lt x ys else x ∷ y ∷ ys) ≡ filter (ties lt r) (x ∷ y ∷ ys) in
+-- a value that is placed among others stays before those that are picked with it, where none of them is before it
+picked_placed : {X : Type 0} (lt : X → X → Bool) (p : X → Bool)
+    → ((x y : X) → lt y x ≡ true → p y ≡ true → p x ≡ true → ⊥) → (x : X) (ys : List X) → filter p (inserted lt x ys) ≡ filter p (x ∷ ys)
+picked_placed lt p n x [] = refl
+picked_placed lt p n x (y ∷ ys) =
+    let P : Bool → Type 0 = λ b. filter p (if b then y ∷ inserted lt x ys else x ∷ y ∷ ys) ≡ filter p (x ∷ y ∷ ys) in
     let cases : (b : Bool) → lt y x ≡ b → P b =
     λ b. elim b as (λ b. lt y x ≡ b → P b) [
-      | true ↦ λ e. swapped (ties lt r y) (ties lt r x) x y (filter (ties lt r) (placed lt x ys)) (filter (ties lt r) ys)
-          (λ p q. let k : lt y x ≡ false = tied lt o r y x p q in cc) (same_tied lt o r x ys)
+      | true ↦ λ e. swapped (p y) (p x) x y (filter p (inserted lt x ys)) (filter p ys) (n x y e) (picked_placed lt p n x ys)
       | false ↦ λ e. refl
     ] in
     cases (lt y x) refl
 
+-- those that are picked keep their order, where none of them is before another
+pub keeps_picked : {X : Type 0} (lt : X → X → Bool) (p : X → Bool)
+    → ((x y : X) → lt y x ≡ true → p y ≡ true → p x ≡ true → ⊥) → (xs : List X) → filter p (in_order lt xs) ≡ filter p xs
+keeps_picked lt p n [] = refl
+keeps_picked lt p n (x ∷ xs) =
+    picked_placed lt p n x (in_order lt xs) ∙ ap (λ l. if p x then x ∷ l else l) (keeps_picked lt p n xs)
+
 keeps_ties : {X : Type 0} (lt : X → X → Bool) → IsStrictWeakOrder lt → (r : X) (xs : List X)
     → filter (ties lt r) (in_order lt xs) ≡ filter (ties lt r) xs
-keeps_ties lt o r [] = refl
-keeps_ties lt o r (x ∷ xs) =
-    same_tied lt o r x (in_order lt xs) ∙ ap (λ l. if ties lt r x then x ∷ l else l) (keeps_ties lt o r xs)
+keeps_ties lt o r xs =
+    keeps_picked lt (ties lt r) (λ x y e p q. let k : lt y x ≡ false = tied lt o r y x p q in cc) xs
 
-picked_first : {X : Type 0} (p : X → Bool) (x : X) (xs : List X) → p x ≡ true → filter p (x ∷ xs) ≡ x ∷ filter p xs
+pub picked_first : {X : Type 0} (p : X → Bool) (x : X) (xs : List X) → p x ≡ true → filter p (x ∷ xs) ≡ x ∷ filter p xs
 picked_first p x xs e = ap (λ b. if b then x ∷ filter p xs else filter p xs) e
 
-passed_over : {X : Type 0} (p : X → Bool) (x : X) (xs : List X) → p x ≡ false → filter p (x ∷ xs) ≡ filter p xs
+pub passed_over : {X : Type 0} (p : X → Bool) (x : X) (xs : List X) → p x ≡ false → filter p (x ∷ xs) ≡ filter p xs
 passed_over p x xs e = ap (λ b. if b then x ∷ filter p xs else filter p xs) e
 
 -- what holds of all holds of the first that is picked
@@ -191,11 +196,11 @@ sorted_in_order lt o xs ys up stable =
     (λ r. stable r ∙ sym (keeps_ties lt o r xs))
 
 map_placed : {X Y : Type 0} (f : X → Y) (lt : Y → Y → Bool) (x : X) (ys : List X)
-    → map f (placed (λ a b. lt (f a) (f b)) x ys) ≡ placed lt (f x) (map f ys)
+    → map f (inserted (λ a b. lt (f a) (f b)) x ys) ≡ inserted lt (f x) (map f ys)
 map_placed f lt x [] = refl
 map_placed f lt x (y ∷ ys) =
-    elim (lt (f y) (f x)) as (λ c. map f (if c then y ∷ placed (λ a b. lt (f a) (f b)) x ys else x ∷ y ∷ ys)
-    ≡ (if c then f y ∷ placed lt (f x) (map f ys) else f x ∷ f y ∷ map f ys)) [
+    elim (lt (f y) (f x)) as (λ c. map f (if c then y ∷ inserted (λ a b. lt (f a) (f b)) x ys else x ∷ y ∷ ys)
+    ≡ (if c then f y ∷ inserted lt (f x) (map f ys) else f x ∷ f y ∷ map f ys)) [
       | true ↦ ap (λ l. f y ∷ l) (map_placed f lt x ys)
       | false ↦ refl
     ]
@@ -205,4 +210,4 @@ pub map_in_order : {X Y : Type 0} (f : X → Y) (lt : Y → Y → Bool) (xs : Li
     → map f (in_order (λ a b. lt (f a) (f b)) xs) ≡ in_order lt (map f xs)
 map_in_order f lt [] = refl
 map_in_order f lt (x ∷ xs) =
-    map_placed f lt x (in_order (λ a b. lt (f a) (f b)) xs) ∙ ap (placed lt (f x)) (map_in_order f lt xs)
+    map_placed f lt x (in_order (λ a b. lt (f a) (f b)) xs) ∙ ap (inserted lt (f x)) (map_in_order f lt xs)

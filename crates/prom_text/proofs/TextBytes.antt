@@ -11,8 +11,8 @@ use Rattle.stat_defs.specs.declared.views.FlushView.{FlushView}
 use Rattle.loglinear_bins.specs.Counts.{total, count_at_most, sum_of}
 use Rattle.text_parts.specs.Decimals.{halves, twentieths}
 use Rattle.prom_text.specs.Labels.{printed_name, bound_label}
-use Rattle.prom_text.specs.Members.{Member, CounterMember, GaugeMember, HistogramMember, members, tagged_of, name_of, kind_word, is_before, in_order, same_group, Group, grouped_with, groups_of, groups}
-use Rattle.prom_text.specs.Prometheus.{sample, labels_of, bucket_line, bound_line, histogram_lines, lines_of, type_line, group_text, prom_text}
+use Rattle.prom_text.specs.Members.{Member, CounterMember, GaugeMember, HistogramMember, members, tagged_of, member_name, kind_word, is_before, in_order, same_group, Group, grouped_with, groups_of, text_groups}
+use Rattle.prom_text.specs.Prometheus.{sample, labels_of, bucket_line, bound_line, histogram_lines, member_lines, type_line, group_text, prom_text}
 use Rattle.prom_text.specs.Values.{is_text_byte, is_value_byte}
 use Rattle.prom_text.proofs.Order.{all_joined, all_in_order}
 use Rattle.prom_text.proofs.Bytes.{Holds, HoldsOfTags, all_given, all_name, all_sample, all_decimal, all_signed, all_halves, all_twentieths, all_labels_of, all_flat}
@@ -60,7 +60,7 @@ all_histogram P h row v =
     (all_suffixed P h row.tagged (codes "_count") (decimal (total row.cumulative)) v (all_given P h (codes "_count") refl)
     (all_decimal P h (total row.cumulative)))))
 
-all_lines : (P : ℕ → Type 0) → Holds P → (member : Member) → HoldsOfTags P (tagged_of member).tags → AllByRecursion P (lines_of member)
+all_lines : (P : ℕ → Type 0) → Holds P → (member : Member) → HoldsOfTags P (tagged_of member).tags → AllByRecursion P (member_lines member)
 all_lines P h (CounterMember row) v =
     all_sample P h (printed_name row.tagged.extracted) (labels_of row.tagged) (decimal row.total)
     (all_name P h row.tagged.extracted) (all_labels_of P h row.tagged v) (all_decimal P h row.total)
@@ -76,8 +76,8 @@ all_word P h (HistogramMember row) = all_given P h (codes "histogram") refl
 
 all_type : (P : ℕ → Type 0) → Holds P → (member : Member) → AllByRecursion P (type_line member)
 all_type P h member =
-    all_joined P (codes "# TYPE ") (name_of member ++ (32 ∷ (kind_word member ++ 10 ∷ []))) (all_given P h (codes "# TYPE ") refl)
-    (all_joined P (name_of member) (32 ∷ (kind_word member ++ 10 ∷ [])) (all_name P h (tagged_of member).extracted)
+    all_joined P (codes "# TYPE ") (member_name member ++ (32 ∷ (kind_word member ++ 10 ∷ []))) (all_given P h (codes "# TYPE ") refl)
+    (all_joined P (member_name member) (32 ∷ (kind_word member ++ 10 ∷ [])) (all_name P h (tagged_of member).extracted)
     (h.at 32 refl, all_joined P (kind_word member) (10 ∷ []) (all_word P h member) (h.at 10 refl, tt)))
 
 -- of the tags of members
@@ -101,21 +101,21 @@ all_groups : (P : ℕ → Type 0) (ms : List Member) → OfMembers P ms → OfGr
 all_groups P [] a = tt
 all_groups P (m ∷ ms) a = all_grouped P m (groups_of ms) a.0 (all_groups P ms a.1)
 
-each_line : (P : ℕ → Type 0) → Holds P → (ms : List Member) → OfMembers P ms → AllByRecursion (λ m. AllByRecursion P (lines_of m)) ms
+each_line : (P : ℕ → Type 0) → Holds P → (ms : List Member) → OfMembers P ms → AllByRecursion (λ m. AllByRecursion P (member_lines m)) ms
 each_line P h [] a = tt
 each_line P h (m ∷ ms) a = (all_lines P h m a.0, each_line P h ms a.1)
 
 each_group : (P : ℕ → Type 0) → Holds P → (gs : List Group) → OfGroups P gs → AllByRecursion (λ g. AllByRecursion P (group_text g)) gs
 each_group P h [] a = tt
 each_group P h (g ∷ gs) a = (
-  all_joined P (type_line g.first) (flat_map lines_of (g.first ∷ g.others)) (all_type P h g.first)
-      (all_flat P lines_of (g.first ∷ g.others) (each_line P h (g.first ∷ g.others) a.0)),
+  all_joined P (type_line g.first) (flat_map member_lines (g.first ∷ g.others)) (all_type P h g.first)
+      (all_flat P member_lines (g.first ∷ g.others) (each_line P h (g.first ∷ g.others) a.0)),
   each_group P h gs a.1,
 )
 
 all_text : (P : ℕ → Type 0) → Holds P → (view : FlushView) → OfMembers P (members view) → AllByRecursion P (prom_text view)
 all_text P h view a =
-    all_flat P group_text (groups view) (each_group P h (groups view) (all_groups P (in_order is_before (members view))
+    all_flat P group_text (text_groups view) (each_group P h (text_groups view) (all_groups P (in_order is_before (members view))
     (all_in_order is_before (λ member. HoldsOfTags P (tagged_of member).tags) (members view) a)))
 
 left_true : (a b : Bool) → a ≡ true → (a || b) ≡ true

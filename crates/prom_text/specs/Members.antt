@@ -1,7 +1,8 @@
 -- The members of the groups of Prometheus's text: the counters, gauges and histograms of a view, grouped by printed name and
 -- kind. The order is this project's own.
 use Rattle.std.specs.Prelude.{ℕ, Bool, ◌&&◌, if◌then◌else◌, List, [], ◌∷◌, ◌++◌, map, codes}
-use Rattle.std.specs.Ordering.{nat_cmp, is_lt}
+use Rattle.std.specs.declared.cmp.Ordering.{Ordering}
+use Rattle.std.specs.Ordering.{nat_cmp, is_lt, ordering_then}
 use Rattle.std.specs.Cmp.Lexicographic.{slice_cmp}
 use Rattle.stat_defs.specs.Keys.{same_text, same_kind}
 use Rattle.stat_defs.specs.declared.ids.Kind.{Kind}
@@ -38,25 +39,36 @@ kind_word (CounterMember row) = codes "counter"
 kind_word (GaugeMember row) = codes "gauge"
 kind_word (HistogramMember row) = codes "histogram"
 
-abbrev pub name_of : Member → List ℕ
-name_of member = printed_name (tagged_of member).extracted
+abbrev pub member_name : Member → List ℕ
+member_name member = printed_name (tagged_of member).extracted
 
 -- a printed name is before another in byte order
 abbrev pub is_before : Member → Member → Bool
-is_before a b = is_lt (slice_cmp nat_cmp (name_of a) (name_of b))
+is_before a b = is_lt (slice_cmp nat_cmp (member_name a) (member_name b))
 
 -- a value among others in order: behind those that are before it, and before all others
-abbrev pub placed : {X : Type 0} → (X → X → Bool) → X → List X → List X
-placed is_less x [] = x ∷ []
-placed is_less x (y ∷ ys) = if is_less y x then y ∷ placed is_less x ys else x ∷ y ∷ ys
+abbrev pub inserted : {X : Type 0} → (X → X → Bool) → X → List X → List X
+inserted is_less x [] = x ∷ []
+inserted is_less x (y ∷ ys) = if is_less y x then y ∷ inserted is_less x ys else x ∷ y ∷ ys
 
 -- values in order; two of which neither is before the other keep theirs
 abbrev pub in_order : {X : Type 0} → (X → X → Bool) → List X → List X
 in_order is_less [] = []
-in_order is_less (x ∷ xs) = placed is_less x (in_order is_less xs)
+in_order is_less (x ∷ xs) = inserted is_less x (in_order is_less xs)
 
 abbrev pub same_group : Member → Member → Bool
-same_group a b = same_kind (kind_of a) (kind_of b) && same_text (name_of a) (name_of b)
+same_group a b = same_kind (kind_of a) (kind_of b) && same_text (member_name a) (member_name b)
+
+-- counters, then gauges, then histograms
+abbrev pub kind_place : Member → ℕ
+kind_place (CounterMember row) = 0
+kind_place (GaugeMember row) = 1
+kind_place (HistogramMember row) = 2
+
+-- how the groups of two members go: by printed name in byte order, and of one printed name by kind
+abbrev pub compare_groups : Member → Member → Ordering
+compare_groups a b =
+    ordering_then (slice_cmp nat_cmp (member_name a) (member_name b)) (nat_cmp (kind_place a) (kind_place b))
 
 -- a group of one printed name and kind is never empty
 pub record Group : Type 0 where
@@ -67,7 +79,8 @@ pub record Group : Type 0 where
 abbrev pub grouped_with : Member → List Group → List Group
 grouped_with member [] = (record { first = member; others = [] }) ∷ []
 grouped_with member (group ∷ groups) =
-    if same_group member group.first then (record { first = member; others = group.first ∷ group.others }) ∷ groups
+    if same_group member group.first
+    then (record { first = member; others = group.first ∷ group.others }) ∷ groups
     else (record { first = member; others = [] }) ∷ group ∷ groups
 
 -- neighbours of one printed name and kind are one group
@@ -75,7 +88,7 @@ abbrev pub groups_of : List Member → List Group
 groups_of [] = []
 groups_of (member ∷ others) = grouped_with member (groups_of others)
 
--- the groups go by printed name in byte order, and those of one name by kind; the members of a group keep the order of the
--- view, which is that of full names, and of one full name that of ids
-abbrev pub groups : FlushView → List Group
-groups view = groups_of (in_order is_before (members view))
+-- the groups of a view: they go by printed name and kind, and the members of a group keep the order of the view, which is that of
+-- full names, and of one full name that of ids (law `groups_law`)
+abbrev pub text_groups : FlushView → List Group
+text_groups view = groups_of (in_order is_before (members view))

@@ -4,7 +4,7 @@ use Rattle.std.specs.List.{flat_map}
 use Rattle.std.specs.Fmt.{decimal}
 use Rattle.stat_defs.specs.declared.metrics.Tagged.{Tagged}
 use Rattle.prom_text.specs.Labels.{printed_name}
-use Rattle.prom_text.specs.Prometheus.{labels_of, type_line, lines_of}
+use Rattle.prom_text.specs.Prometheus.{labels_of, type_line, member_lines}
 use Rattle.prom_text.specs.declared.rows.Row.{Row}
 use Rattle.prom_text.specs.declared.rows.Row.TheVariants.{Counter, Gauge, Histogram}
 use Rattle.prom_text.specs.Members.{Member, CounterMember, GaugeMember, HistogramMember, same_group}
@@ -31,7 +31,8 @@ begins_group (Some before) member = not (same_group before member)
 
 -- what is written of a member behind another
 abbrev pub member_text : Option Member → Member → List ℕ
-member_text before member = (if begins_group before member then type_line member else []) ++ lines_of member
+member_text before member =
+    (if begins_group before member then type_line member else []) ++ member_lines member
 
 -- what is written of members, behind another
 abbrev pub text_from : Option Member → List Member → List ℕ

@@ -7,16 +7,16 @@ use Rattle.stat_defs.specs.declared.views.FlushView.{FlushView}
 use Rattle.prom_text.specs.Members.{members, tagged_of}
 
 -- a value that was read, and what follows its closing quotation mark
-pub record Read : Type 0 where
+pub record ValueRead : Type 0 where
   pub value : List ℕ
   pub rest : List ℕ
 
-abbrev pub read_more : ℕ → Read → Read
+abbrev pub read_more : ℕ → ValueRead → ValueRead
 read_more b read = record { value = b ∷ read.value; rest = read.rest }
 
 -- a value from behind its opening quotation mark; a backslash before a byte says that it belongs to the value, and before an `n`
 -- that it is a newline; any other quotation mark ends the value
-abbrev pub read_value : Bool → List ℕ → Read
+abbrev pub read_value : Bool → List ℕ → ValueRead
 read_value behind_backslash [] = record { value = []; rest = [] }
 read_value true (b ∷ bs) = read_more (if b == 110 then 10 else b) (read_value false bs)
 read_value false (b ∷ bs) =
@@ -30,4 +30,6 @@ is_text_byte b = b == 10 || is_printable_byte b
 
 -- a byte of the value of some tag of a member
 abbrev pub is_value_byte : FlushView → ℕ → Bool
-is_value_byte view b = list_any (λ member. list_any (λ tag. list_any (λ c. c == b) tag.value) (tagged_of member).tags) (members view)
+is_value_byte view b =
+    list_any (λ member. list_any (λ tag. list_any (λ c. c == b) tag.value) (tagged_of member).tags)
+    (members view)

@@ -99,7 +99,8 @@ pub(crate) fn put_label(text: &mut Vec<u8>, tag: &Tag) -> Result<(), AllocError>
 }
 
 fn put_more_labels(text: &mut Vec<u8>, tags: &[Tag]) -> Result<(), AllocError>
-    ensures { OnOk result (text.new.items ≡ text.old.items ++ flat_map (λ label. codes "," ++ label) (map label_text tags.now)) }
+    ensures { OnOk result (text.new.items
+        ≡ text.old.items ++ flat_map (λ label. codes "," ++ label) (map label_text tags.now)) }
 {
     for tag in tags {
         text.push(b',')?;
@@ -110,7 +111,8 @@ fn put_more_labels(text: &mut Vec<u8>, tags: &[Tag]) -> Result<(), AllocError>
 
 /// Appends labels, parted by commas.
 pub(crate) fn put_labels(text: &mut Vec<u8>, tags: &[Tag]) -> Result<(), AllocError>
-    ensures { OnOk result (text.new.items ≡ text.old.items ++ join_by (λ label. label) (codes ",") (map label_text tags.now)) }
+    ensures { OnOk result (text.new.items
+        ≡ text.old.items ++ join_by (λ label. label) (codes ",") (map label_text tags.now)) }
 {
     let Some((first, others)) = tags.split_first() else {
         return Ok(());

@@ -15,7 +15,7 @@ mod rows;
 #[cfg(test)]
 mod tests;
 
-pub use laws::text_law;
+pub use laws::{groups_law, text_law};
 use lines::{put_row, put_type};
 use rows::{Row, is_same_group, rows_in_order};
 use stat_defs::{FlushView, NoMemory};
@@ -50,7 +50,8 @@ fn put_member(
 
 fn write_rows<O: Sink>(alloc: Global, rows: &[Row<'_>], out: &mut O) -> Result<(), TextFault>
     requires { All (λ row. HasHistogram (member_of row)) rows.now }
-    ensures answer { IsTextAnswer (O.state out.old) (O.state out.new) (text_from None (map member_of rows.now)) result }
+    ensures answer { IsTextAnswer (O.state out.old) (O.state out.new)
+        (text_from None (map member_of rows.now)) result }
     ensures later { (O.state out.old).faults ≤ (O.state out.new).faults }
 {
     let mut text = Vec::new(alloc);

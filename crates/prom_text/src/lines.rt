@@ -6,7 +6,7 @@ ghost use Rattle.loglinear_bins.specs.Counts.{sum_of};
 ghost use Rattle.text_parts.specs.Decimals.{halves, twentieths};
 ghost use Rattle.prom_text.specs.Labels.{printed_name, label as label_text, braced};
 ghost use Rattle.prom_text.specs.Members.{kind_word as word_of};
-ghost use Rattle.prom_text.specs.Prometheus.{sample, labels_of, bucket_line, bound_line, histogram_lines, lines_of, type_line, IsHistogram, HasHistogram};
+ghost use Rattle.prom_text.specs.Prometheus.{sample, labels_of, bucket_line, bound_line, histogram_lines, member_lines, type_line, IsHistogram, HasHistogram};
 ghost use Rattle.prom_text.specs.Rows.{member_of, bucket_begin, bucket_end};
 
 use crate::labels::{put_label, put_labels, put_name};
@@ -38,7 +38,8 @@ fn put_braced(text: &mut Vec<u8>, tagged: &Tagged) -> Result<(), AllocError>
 
 fn put_counter(text: &mut Vec<u8>, row: &CounterRow) -> Result<(), AllocError>
     ensures { OnOk result (text.new.items ≡ text.old.items
-        ++ sample (printed_name row.now.tagged.extracted) (labels_of row.now.tagged) (decimal row.now.total)) }
+        ++ sample (printed_name row.now.tagged.extracted) (labels_of row.now.tagged)
+        (decimal row.now.total)) }
 {
     put_name(text, row.tagged.extracted.bytes())?;
     put_braced(text, &row.tagged)?;
@@ -47,7 +48,8 @@ fn put_counter(text: &mut Vec<u8>, row: &CounterRow) -> Result<(), AllocError>
 
 fn put_gauge(text: &mut Vec<u8>, row: &GaugeRow) -> Result<(), AllocError>
     ensures { OnOk result (text.new.items ≡ text.old.items
-        ++ sample (printed_name row.now.tagged.extracted) (labels_of row.now.tagged) (signed_decimal row.now.value)) }
+        ++ sample (printed_name row.now.tagged.extracted) (labels_of row.now.tagged)
+        (signed_decimal row.now.value)) }
 {
     put_name(text, row.tagged.extracted.bytes())?;
     put_braced(text, &row.tagged)?;
@@ -58,7 +60,8 @@ fn put_gauge(text: &mut Vec<u8>, row: &GaugeRow) -> Result<(), AllocError>
 }
 
 fn put_labels_before(text: &mut Vec<u8>, tags: &[Tag]) -> Result<(), AllocError>
-    ensures { OnOk result (text.new.items ≡ text.old.items ++ flat_map (λ label. label ++ codes ",") (map label_text tags.now)) }
+    ensures { OnOk result (text.new.items
+        ≡ text.old.items ++ flat_map (λ label. label ++ codes ",") (map label_text tags.now)) }
 {
     for tag in tags {
         put_label(text, tag)?;
@@ -91,7 +94,8 @@ fn put_bucket(
     bound: Bound,
     count: u64,
 ) -> Result<(), AllocError>
-    ensures { OnOk result (text.new.items ≡ text.old.items ++ bucket_line tagged.now (halves bound.halves) count) }
+    ensures { OnOk result (text.new.items
+        ≡ text.old.items ++ bucket_line tagged.now (halves bound.halves) count) }
 {
     begin_bucket(text, tagged)?;
     put_halves(text, bound.halves)?;
@@ -120,7 +124,8 @@ fn put_buckets(text: &mut Vec<u8>, row: &HistRow, bins: &Bins) -> Result<(), All
 
 fn put_sum(text: &mut Vec<u8>, tagged: &Tagged, bins: &Bins) -> Result<(), AllocError>
     ensures { OnOk result (text.new.items ≡ text.old.items
-        ++ sample (printed_name tagged.now.extracted ++ codes "_sum") (labels_of tagged.now) (twentieths (sum_of bins.now))) }
+        ++ sample (printed_name tagged.now.extracted ++ codes "_sum") (labels_of tagged.now)
+        (twentieths (sum_of bins.now))) }
 {
     put_name(text, tagged.extracted.bytes())?;
     text.extend_from_slice(b"_sum")?;
@@ -133,7 +138,8 @@ fn put_sum(text: &mut Vec<u8>, tagged: &Tagged, bins: &Bins) -> Result<(), Alloc
 
 fn put_count(text: &mut Vec<u8>, tagged: &Tagged, count: u64) -> Result<(), AllocError>
     ensures { OnOk result (text.new.items ≡ text.old.items
-        ++ sample (printed_name tagged.now.extracted ++ codes "_count") (labels_of tagged.now) (decimal count)) }
+        ++ sample (printed_name tagged.now.extracted ++ codes "_count") (labels_of tagged.now)
+        (decimal count)) }
 {
     put_name(text, tagged.extracted.bytes())?;
     text.extend_from_slice(b"_count")?;
@@ -156,7 +162,7 @@ fn put_histogram(alloc: Global, text: &mut Vec<u8>, row: &HistRow) -> Result<(),
 /// Appends the lines of a row.
 pub(crate) fn put_row(alloc: Global, text: &mut Vec<u8>, row: &Row<'_>) -> Result<(), NoMemory>
     requires { HasHistogram (member_of row.now) }
-    ensures { OnOk result (text.new.items ≡ text.old.items ++ lines_of (member_of row.now)) }
+    ensures { OnOk result (text.new.items ≡ text.old.items ++ member_lines (member_of row.now)) }
 {
     match row {
         Row::Counter(row) => put_counter(text, row)?,

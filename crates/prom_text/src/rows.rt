@@ -2,7 +2,7 @@
 ghost use Rattle.std.specs.Prelude.{◌≡◌, ◌++◌, IfOk, OnOk, map};
 ghost use Rattle.std.specs.Ordering.{nat_cmp};
 ghost use Rattle.std.specs.Cmp.Lexicographic.{slice_cmp};
-ghost use Rattle.prom_text.specs.Members.{CounterMember, GaugeMember, HistogramMember, members, tagged_of, kind_of, name_of, is_before, in_order, same_group as the_same_group};
+ghost use Rattle.prom_text.specs.Members.{CounterMember, GaugeMember, HistogramMember, members, tagged_of, kind_of, member_name, is_before, in_order, same_group as the_same_group};
 ghost use Rattle.prom_text.specs.Rows.{member_of};
 ghost use Rattle.stat_defs.specs.Keys.{same_kind, same_text};
 
@@ -33,7 +33,7 @@ impl<'a> Row<'a> {
 
 /// How two rows compare by their names, as they are printed.
 fn compare_names(a: &Row<'_>, b: &Row<'_>) -> Ordering
-    ensures { result ≡ slice_cmp nat_cmp (name_of (member_of a.now)) (name_of (member_of b.now)) }
+    ensures { result ≡ slice_cmp nat_cmp (member_name (member_of a.now)) (member_name (member_of b.now)) }
 {
     compare_printed(a.tagged().extracted.bytes(), b.tagged().extracted.bytes())
 }
@@ -49,7 +49,7 @@ fn is_same_kind(a: &Row<'_>, b: &Row<'_>) -> bool
 }
 
 fn is_same_name(a: &Row<'_>, b: &Row<'_>) -> bool
-    ensures { result ≡ same_text (name_of (member_of a.now)) (name_of (member_of b.now)) }
+    ensures { result ≡ same_text (member_name (member_of a.now)) (member_name (member_of b.now)) }
 {
     compare_names(a, b).is_eq()
 }
@@ -62,7 +62,8 @@ pub(crate) fn is_same_group(a: &Row<'_>, b: &Row<'_>) -> bool
 }
 
 fn add_counters<'a>(rows: &mut Vec<Row<'a>>, counters: &'a [CounterRow]) -> Result<(), AllocError>
-    ensures { OnOk result (map member_of rows.new.items ≡ map member_of rows.old.items ++ map CounterMember counters.now) }
+    ensures { OnOk result (map member_of rows.new.items
+        ≡ map member_of rows.old.items ++ map CounterMember counters.now) }
 {
     for row in counters {
         rows.push(Row::Counter(row))?;
@@ -71,7 +72,8 @@ fn add_counters<'a>(rows: &mut Vec<Row<'a>>, counters: &'a [CounterRow]) -> Resu
 }
 
 fn add_gauges<'a>(rows: &mut Vec<Row<'a>>, gauges: &'a [GaugeRow]) -> Result<(), AllocError>
-    ensures { OnOk result (map member_of rows.new.items ≡ map member_of rows.old.items ++ map GaugeMember gauges.now) }
+    ensures { OnOk result (map member_of rows.new.items
+        ≡ map member_of rows.old.items ++ map GaugeMember gauges.now) }
 {
     for row in gauges {
         rows.push(Row::Gauge(row))?;
@@ -80,7 +82,8 @@ fn add_gauges<'a>(rows: &mut Vec<Row<'a>>, gauges: &'a [GaugeRow]) -> Result<(),
 }
 
 fn add_histograms<'a>(rows: &mut Vec<Row<'a>>, histograms: &'a [HistRow]) -> Result<(), AllocError>
-    ensures { OnOk result (map member_of rows.new.items ≡ map member_of rows.old.items ++ map HistogramMember histograms.now) }
+    ensures { OnOk result (map member_of rows.new.items
+        ≡ map member_of rows.old.items ++ map HistogramMember histograms.now) }
 {
     for row in histograms {
         rows.push(Row::Histogram(row))?;

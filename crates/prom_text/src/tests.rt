@@ -22,13 +22,6 @@ const fn bare(full: &str) -> Named<'_> {
     }
 }
 
-#[derive(Clone, Copy)]
-struct Case<'a> {
-    counters: &'a [(Named<'a>, u64)],
-    gauges: &'a [(Named<'a>, i64)],
-    text: &'a str,
-}
-
 fn tagged_of(alloc: Global, name: &Named<'_>) -> Result<Tagged, Fail> {
     let mut tags = Vec::new(alloc);
     for (tag, value) in name.tags {
@@ -43,90 +36,90 @@ fn tagged_of(alloc: Global, name: &Named<'_>) -> Result<Tagged, Fail> {
     })
 }
 
-fn view_of(alloc: Global, case: &Case<'_>, histograms: Vec<HistRow>) -> Result<FlushView, Fail>
+fn view_of(
+    alloc: Global,
+    counters: &[(Named<'_>, u64)],
+    gauges: &[(Named<'_>, i64)],
+    histograms: Vec<HistRow>,
+) -> Result<FlushView, Fail>
     requires { All (λ row. IsHistogram row.cumulative) histograms.items }
     ensures { IfOk result (λ view. HasHistograms view) }
 {
-    let mut counters = Vec::new(alloc);
-    for (name, total) in case.counters {
-        counters.push(CounterRow {
+    let mut counter_rows = Vec::new(alloc);
+    for (name, total) in counters {
+        counter_rows.push(CounterRow {
             name: Txt::of(alloc, name.full.as_bytes())?,
             tagged: tagged_of(alloc, name)?,
             delta: 0,
             total: *total,
         })?;
     }
-    let mut gauges = Vec::new(alloc);
-    for (name, value) in case.gauges {
-        gauges.push(GaugeRow {
+    let mut gauge_rows = Vec::new(alloc);
+    for (name, value) in gauges {
+        gauge_rows.push(GaugeRow {
             name: Txt::of(alloc, name.full.as_bytes())?,
             tagged: tagged_of(alloc, name)?,
             value: *value,
         })?;
     }
     Ok(FlushView {
-        counters: List::of(counters),
-        gauges: List::of(gauges),
+        counters: List::of(counter_rows),
+        gauges: List::of(gauge_rows),
         texts: List::of(Vec::new(alloc)),
         histograms: List::of(histograms),
     })
 }
 
-fn none(alloc: Global) -> Vec<HistRow>
-    ensures { All (λ row. IsHistogram row.cumulative) result.items }
-{
-    Vec::new(alloc)
+/// What is written of counters and gauges.
+fn written(
+    alloc: Global,
+    counters: &[(Named<'_>, u64)],
+    gauges: &[(Named<'_>, i64)],
+) -> Result<MemSink, Fail> {
+    let view = view_of(alloc, counters, gauges, Vec::new(alloc))?;
+    let mut out = MemSink::new(alloc, 1000, 9, Vec::new(alloc))?;
+    write_prom(alloc, &view, &mut out)?;
+    Ok(out)
 }
 
 #[test]
 fn counters_and_gauges(rt: HostRuntime) -> Result<(), Fail> {
     let alloc = rt.alloc();
+    let zero = written(alloc, &[(bare("a"), 0)], &[])?;
+    assert_eq!(rt;
+        zero.bytes(),
+        b"# TYPE envoy_a counter\nenvoy_a{} 0\n".as_slice()
+    );
     let class = [
         ("envoy.response_code_class", "2"),
         ("envoy.cluster_name", "c"),
     ];
-    let escaped = [("1:a", "a\"b\\c\n")];
-    for case in [
-        Case {
-            counters: &[(bare("a"), 0)],
-            gauges: &[],
-            text: "# TYPE envoy_a counter\nenvoy_a{} 0\n",
-        },
-        Case {
-            counters: &[(
-                Named {
-                    full: "cluster.c.upstream_rq_2xx",
-                    extracted: "cluster.upstream_rq_xx",
-                    tags: &class,
-                },
-                3,
-            )],
-            gauges: &[],
-            text: "# TYPE envoy_cluster_upstream_rq_xx counter\nenvoy_cluster_upstream_rq_xx{envoy_response_code_class=\"2\",envoy_cluster_name=\"c\"} 3\n",
-        },
-        Case {
-            counters: &[(bare("a-z"), 9), (bare("a.b"), 1), (bare("a:b"), 2)],
-            gauges: &[(bare("a.b"), -3), (bare("b"), 4)],
-            text: "# TYPE envoy_a_b counter\nenvoy_a_b{} 1\nenvoy_a_b{} 2\n# TYPE envoy_a_b gauge\nenvoy_a_b{} -3\n# TYPE envoy_a_z counter\nenvoy_a_z{} 9\n# TYPE envoy_b gauge\nenvoy_b{} 4\n",
-        },
-        Case {
-            counters: &[(
-                Named {
-                    full: "n",
-                    extracted: "n",
-                    tags: &escaped,
-                },
-                1,
-            )],
-            gauges: &[],
-            text: "# TYPE envoy_n counter\nenvoy_n{_1_a=\"a\\\"b\\\\c\\n\"} 1\n",
-        },
-    ] {
-        let view = view_of(alloc, &case, none(alloc))?;
-        let mut out = MemSink::new(alloc, 1000, 9, Vec::new(alloc))?;
-        assert_eq!(rt; write_prom(alloc, &view, &mut out), Ok(()));
-        assert_eq!(rt; out.bytes(), case.text.as_bytes());
-    }
+    let two_hundreds = Named {
+        full: "cluster.c.upstream_rq_2xx",
+        extracted: "cluster.upstream_rq_xx",
+        tags: &class,
+    };
+    let tagged = written(alloc, &[(two_hundreds, 3)], &[])?;
+    assert_eq!(rt;
+        tagged.bytes(),
+        b"# TYPE envoy_cluster_upstream_rq_xx counter\nenvoy_cluster_upstream_rq_xx{envoy_response_code_class=\"2\",envoy_cluster_name=\"c\"} 3\n".as_slice()
+    );
+    let counters = [(bare("a-z"), 9), (bare("a.b"), 1), (bare("a:b"), 2)];
+    let grouped = written(alloc, &counters, &[(bare("a.b"), -3)])?;
+    assert_eq!(rt;
+        grouped.bytes(),
+        b"# TYPE envoy_a_b counter\nenvoy_a_b{} 1\nenvoy_a_b{} 2\n# TYPE envoy_a_b gauge\nenvoy_a_b{} -3\n# TYPE envoy_a_z counter\nenvoy_a_z{} 9\n".as_slice()
+    );
+    let escaped = Named {
+        full: "n",
+        extracted: "n",
+        tags: &[("1:a", "a\"b\\c\n")],
+    };
+    let fixed = written(alloc, &[(escaped, 1)], &[])?;
+    assert_eq!(rt;
+        fixed.bytes(),
+        b"# TYPE envoy_n counter\nenvoy_n{_1_a=\"a\\\"b\\\\c\\n\"} 1\n".as_slice()
+    );
     Ok(())
 }
 
@@ -196,24 +189,16 @@ envoy_h_count{} 100
 #[test]
 fn every_kind(rt: HostRuntime) -> Result<(), Fail> {
     let alloc = rt.alloc();
-    let region = [("region", "eu")];
-    let case = Case {
-        counters: &[(
-            Named {
-                full: "a",
-                extracted: "a",
-                tags: &region,
-            },
-            5,
-        )],
-        gauges: &[(bare("g"), -2)],
-        text: EVERY_KIND,
-    };
     let histograms = one_histogram(alloc, &values_to_100(alloc)?, &HALVES)?;
-    let view = view_of(alloc, &case, histograms)?;
+    let tagged = Named {
+        full: "a",
+        extracted: "a",
+        tags: &[("region", "eu")],
+    };
+    let view = view_of(alloc, &[(tagged, 5)], &[(bare("g"), -2)], histograms)?;
     let mut out = MemSink::new(alloc, 2000, 9, Vec::new(alloc))?;
     assert_eq!(rt; write_prom(alloc, &view, &mut out), Ok(()));
-    assert_eq!(rt; out.bytes(), case.text.as_bytes());
+    assert_eq!(rt; out.bytes(), EVERY_KIND.as_bytes());
     let mut failing = MemSink::new(alloc, 2000, 9, [2].to_vec(alloc)?)?;
     assert_eq!(rt;
         write_prom(alloc, &view, &mut failing),
