@@ -10,7 +10,7 @@ use Rattle.text_parts.specs.Decimals.{hundredth_digits, fraction, halves, twenti
 use Rattle.prom_text.specs.Labels.{printed_byte, printed_name, begins_with_digit, label_name, escaped_byte, escaped, label, braced}
 use Rattle.prom_text.specs.Values.{is_text_byte}
 use Rattle.prom_text.specs.Prometheus.{sample, labels_of}
-use Rattle.prom_text.proofs.Order.{all_joined}
+use Rattle.text_parts.proofs.Rising.{all_joined}
 
 -- what holds of every byte of the text
 pub record Holds (P : ℕ → Type 0) : Type 0 where

@@ -11,9 +11,10 @@ use Rattle.std.specs.List.{All, AllByRecursion, flat_map}
 use Rattle.std.specs.List.Sorted.{IsPermutation, IsStrictlySortedBy}
 use Rattle.stat_defs.specs.Keys.{same_text, same_kind}
 use Rattle.stat_defs.specs.declared.views.FlushView.{FlushView}
+use Rattle.text_parts.proofs.Rising.{Rises, all_behind, all_joined}
 use Rattle.prom_text.specs.Members.{Member, CounterMember, GaugeMember, HistogramMember, members, kind_of, member_name, is_before, inserted, in_order, same_group, Group, grouped_with, groups_of, text_groups, kind_place, compare_groups}
 use Rattle.prom_text.proofs.Groups.{first_group}
-use Rattle.prom_text.proofs.Order.{Rises, all_placed, all_in_order, all_behind, all_joined, picked_first, passed_over, keeps_picked}
+use Rattle.prom_text.proofs.Order.{all_placed, all_in_order, picked_first, passed_over, keeps_picked}
 
 abbrev names : Member → Member → Ordering
 names a b = slice_cmp nat_cmp (member_name a) (member_name b)

@@ -3,29 +3,8 @@ use Rattle.std.proofs.Common.{◌≡◌, ℕ, suc, ◌<◌, ◌≤◌, Bool, tru
 use Rattle.std.specs.Cmp.{IsStrictWeakOrder}
 use Rattle.std.specs.List.{AllByRecursion}
 use Rattle.std.specs.List.Sorted.{IsSortedBy, IsStableBy, ties}
-use Rattle.std.proofs.lemmas.List.Sorted.{sorted_far}
+use Rattle.text_parts.proofs.Rising.{Rises, rises_sorted, all_behind}
 use Rattle.prom_text.specs.Members.{inserted, in_order}
-
--- each value is followed by none that is before it
-abbrev pub Rises : {X : Type 0} → (X → X → Bool) → List X → Type 0
-Rises lt [] = Unit {0}
-Rises lt (x ∷ xs) = AllByRecursion (λ y. lt y x ≡ false) xs × Rises lt xs
-
-pub all_at : {X : Type 0} (P : X → Type 0) (xs : List X) → ((k : ℕ) (d : X) → k < length xs → P (get_or xs k d)) → AllByRecursion P xs
-all_at P [] h = tt
-all_at P (x ∷ xs) h = (h 0 x (omega arith), all_at P xs (λ k d l. h (suc k) d (omega arith)))
-
-pub all_joined : {X : Type 0} (P : X → Type 0) (xs ys : List X) → AllByRecursion P xs → AllByRecursion P ys → AllByRecursion P (xs ++ ys)
-all_joined P [] ys a b = b
-all_joined P (x ∷ xs) ys a b = (a.0, all_joined P xs ys a.1 b)
-
-rises_at : {X : Type 0} (lt : X → X → Bool) (xs : List X)
-    → ((i j : ℕ) (d : X) → i ≤ j → j < length xs → lt (get_or xs j d) (get_or xs i d) ≡ false) → Rises lt xs
-rises_at lt [] h = tt
-rises_at lt (x ∷ xs) h = (
-  all_at (λ y. lt y x ≡ false) xs (λ k d l. h 0 (suc k) d (omega arith) (omega arith)),
-  rises_at lt xs (λ i j d a b. h (suc i) (suc j) d (omega arith) (omega arith)),
-)
 
 tie-self : {X : Type 0} (lt : X → X → Bool) → IsStrictWeakOrder lt → (x : X) → lt x x ≡ false
 tie-self lt o x =
@@ -47,12 +26,6 @@ pub all_in_order : {X : Type 0} (lt : X → X → Bool) (P : X → Type 0) (xs :
     → AllByRecursion P (in_order lt xs)
 all_in_order lt P [] a = tt
 all_in_order lt P (x ∷ xs) a = all_placed lt P x (in_order lt xs) a.0 (all_in_order lt P xs a.1)
-
--- a value behind which none is before `y` is followed by none that is before what is not behind `y`
-pub all_behind : {X : Type 0} (lt : X → X → Bool) → IsStrictWeakOrder lt → (x y : X) (ys : List X) → lt y x ≡ false
-    → AllByRecursion (λ z. lt z y ≡ false) ys → AllByRecursion (λ z. lt z x ≡ false) ys
-all_behind lt o x y [] h a = tt
-all_behind lt o x y (z ∷ zs) h a = (o.chain z y x a.0 h, all_behind lt o x y zs h a.1)
 
 rises_placed : {X : Type 0} (lt : X → X → Bool) → IsStrictWeakOrder lt → (x : X) (ys : List X) → Rises lt ys
     → Rises lt (inserted lt x ys)
@@ -192,7 +165,7 @@ same_in_order lt o (y ∷ ys) (z ∷ zs) a b h =
 pub sorted_in_order : {X : Type 0} (lt : X → X → Bool) → IsStrictWeakOrder lt → (xs ys : List X) → IsSortedBy lt ys
     → IsStableBy lt xs ys → ys ≡ in_order lt xs
 sorted_in_order lt o xs ys up stable =
-    same_in_order lt o ys (in_order lt xs) (rises_at lt ys (sorted_far lt o ys up)) (rises_in_order lt o xs)
+    same_in_order lt o ys (in_order lt xs) (rises_sorted lt o ys up) (rises_in_order lt o xs)
     (λ r. stable r ∙ sym (keeps_ties lt o r xs))
 
 map_placed : {X Y : Type 0} (f : X → Y) (lt : Y → Y → Bool) (x : X) (ys : List X)

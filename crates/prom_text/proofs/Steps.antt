@@ -2,28 +2,20 @@
 use Rattle.std.proofs.Common.{◌≡◌, ℕ, suc, ◌+◌, ◌<◌, ◌≤◌, Option, Some, None, List, [], ◌∷◌, ◌++◌, length, get_or, map, drop, sym, ap, ◌∙◌, subst, append_assoc, append-nil, add-one}
 use Rattle.std.proofs.Math.Seq.{drop-cons}
 use Rattle.std.proofs.lemmas.List.{drop_all}
-use Rattle.std.proofs.lemmas.List.Elements.{All-from_recursion}
+use Rattle.std.proofs.lemmas.List.Elements.{All-from_recursion, recursion_from_All}
 use Rattle.std.specs.List.{All, AllByRecursion}
 use Rattle.stat_defs.specs.declared.views.CounterRow.{CounterRow}
 use Rattle.stat_defs.specs.declared.views.GaugeRow.{GaugeRow}
 use Rattle.stat_defs.specs.declared.views.HistRow.{HistRow}
 use Rattle.stat_defs.specs.declared.views.FlushView.{FlushView}
-use Rattle.stats_io.specs.States.{SinkState}
-use Rattle.stats_io.specs.Push.{WritesFront}
-use Rattle.text_parts.specs.Gathered.{IsGathered, StopsWithin}
-use Rattle.text_parts.proofs.Gathering.{gathered_more, gathered_stop, gathered_cut}
+use Rattle.text_parts.specs.Histograms.{AreHistograms, HasHistograms}
+use Rattle.text_parts.proofs.Rising.{all_joined}
 use Rattle.prom_text.specs.declared.rows.Row.{Row}
 use Rattle.prom_text.specs.Members.{Member, CounterMember, GaugeMember, HistogramMember, members, is_before, in_order}
-use Rattle.prom_text.specs.Prometheus.{IsHistogram, HasHistogram, HasHistograms, prom_text}
+use Rattle.prom_text.specs.Prometheus.{HasHistogram, prom_text}
 use Rattle.prom_text.specs.Rows.{member_of, member_text, text_from}
 use Rattle.prom_text.proofs.Groups.{text_of_groups}
-use Rattle.prom_text.proofs.Order.{all_at, all_in_order, all_joined}
-
--- one row more was put
-pub put_next : (first now : SinkState) (held after done text : List ℕ) → IsGathered first now held done → after ≡ held ++ text
-    → IsGathered first now after (done ++ text)
-put_next first now held after done text so_far e =
-    subst (λ (l : List ℕ). IsGathered first now l (done ++ text)) (sym e) (gathered_more first now held done text so_far)
+use Rattle.prom_text.proofs.Order.{all_in_order}
 
 pub rest_next : (before : Option Member) (rows : List Row) (i : ℕ) (row : Row) (done whole : List ℕ) → i < length rows
     → row ≡ get_or rows i row → done ++ text_from before (map member_of (drop i rows)) ≡ whole
@@ -40,16 +32,6 @@ pub rest_none : (before : Option Member) (rows : List Row) (i : ℕ) (done whole
 rest_none before rows i done whole h e =
     sym (append-nil done) ∙ ap (λ (l : List Row). done ++ text_from before (map member_of l)) (sym (drop_all i rows h)) ∙ e
 
-pub stops : (first now : SinkState) (held done rest whole : List ℕ) → IsGathered first now held done → done ++ rest ≡ whole
-    → StopsWithin first now whole
-stops first now held done rest whole so_far e =
-    subst (λ (l : List ℕ). StopsWithin first now l) e (gathered_stop first now held done rest so_far)
-
-pub cuts : (first now last : SinkState) (held done rest whole : List ℕ) → IsGathered first now held done → done ++ rest ≡ whole
-    → WritesFront now last held → WritesFront first last whole
-cuts first now last held done rest whole so_far e cut =
-    subst (λ (l : List ℕ). WritesFront first last l) e (gathered_cut first now last held done rest so_far cut)
-
 no_counter_has : (rows : List CounterRow) → AllByRecursion HasHistogram (map CounterMember rows)
 no_counter_has [] = tt
 no_counter_has (row ∷ rows) = (tt, no_counter_has rows)
@@ -58,10 +40,10 @@ no_gauge_has : (rows : List GaugeRow) → AllByRecursion HasHistogram (map Gauge
 no_gauge_has [] = tt
 no_gauge_has (row ∷ rows) = (tt, no_gauge_has rows)
 
-histograms_have : (rows : List HistRow) → AllByRecursion (λ row. IsHistogram row.cumulative) rows
+histograms_have : (rows : List HistRow) → AllByRecursion AreHistograms rows
     → AllByRecursion HasHistogram (map HistogramMember rows)
 histograms_have [] a = tt
-histograms_have (row ∷ rows) a = (a.0, histograms_have rows a.1)
+histograms_have (row ∷ rows) a = (a.0.cumulative, histograms_have rows a.1)
 
 all_of_rows : (rows : List Row) → AllByRecursion HasHistogram (map member_of rows)
     → AllByRecursion (λ row. HasHistogram (member_of row)) rows
@@ -76,7 +58,7 @@ rows_have view rows h e =
     all_joined HasHistogram (map CounterMember view.counters) (map GaugeMember view.gauges ++ map HistogramMember view.histograms)
     (no_counter_has view.counters)
     (all_joined HasHistogram (map GaugeMember view.gauges) (map HistogramMember view.histograms) (no_gauge_has view.gauges)
-    (histograms_have view.histograms (all_at (λ row. IsHistogram row.cumulative) view.histograms h))) in
+    (histograms_have view.histograms (recursion_from_All AreHistograms view.histograms h))) in
     All-from_recursion (λ row. HasHistogram (member_of row)) rows
     (all_of_rows rows (subst (λ (l : List Member). AllByRecursion HasHistogram l) (sym e)
     (all_in_order is_before HasHistogram (members view) each)))

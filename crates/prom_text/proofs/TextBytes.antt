@@ -14,7 +14,8 @@ use Rattle.prom_text.specs.Labels.{printed_name, bound_label}
 use Rattle.prom_text.specs.Members.{Member, CounterMember, GaugeMember, HistogramMember, members, tagged_of, member_name, kind_word, is_before, in_order, same_group, Group, grouped_with, groups_of, text_groups}
 use Rattle.prom_text.specs.Prometheus.{sample, labels_of, bucket_line, bound_line, histogram_lines, member_lines, type_line, group_text, prom_text}
 use Rattle.prom_text.specs.Values.{is_text_byte, is_value_byte}
-use Rattle.prom_text.proofs.Order.{all_joined, all_in_order}
+use Rattle.text_parts.proofs.Rising.{all_joined}
+use Rattle.prom_text.proofs.Order.{all_in_order}
 use Rattle.prom_text.proofs.Bytes.{Holds, HoldsOfTags, all_given, all_name, all_sample, all_decimal, all_signed, all_halves, all_twentieths, all_labels_of, all_flat}
 
 all_bound_label : (P : ℕ → Type 0) → Holds P → (bound : List ℕ) → AllByRecursion P bound → AllByRecursion P (bound_label bound)

@@ -1,16 +1,15 @@
 -- The Prometheus text of a flush (the Prometheus exposition format; what is written of a view, and the order, are this
 -- project's own).
-use Rattle.std.specs.Prelude.{ℕ, ◌≤◌, List, [], ◌∷◌, ◌++◌, map, codes}
-use Rattle.std.specs.List.{flat_map, All}
+use Rattle.std.specs.Prelude.{ℕ, List, [], ◌∷◌, ◌++◌, map, codes}
+use Rattle.std.specs.List.{flat_map}
 use Rattle.std.specs.Fmt.{decimal, signed_decimal}
 use Rattle.stat_defs.specs.declared.bins.Bound.{Bound}
-use Rattle.stat_defs.specs.declared.bins.BinCount.{BinCount}
 use Rattle.stat_defs.specs.declared.metrics.Tagged.{Tagged}
 use Rattle.stat_defs.specs.declared.views.HistRow.{HistRow}
 use Rattle.stat_defs.specs.declared.views.FlushView.{FlushView}
-use Rattle.loglinear_bins.specs.declared.place.TheConstants.{MAX_COUNT}
-use Rattle.loglinear_bins.specs.Counts.{IsBinList, total, count_at_most, sum_of}
+use Rattle.loglinear_bins.specs.Counts.{total, count_at_most, sum_of}
 use Rattle.text_parts.specs.Decimals.{halves, twentieths}
+use Rattle.text_parts.specs.Histograms.{IsHistogram}
 use Rattle.prom_text.specs.Labels.{printed_name, label, bound_label, braced}
 use Rattle.prom_text.specs.Members.{Member, CounterMember, GaugeMember, HistogramMember, member_name, kind_word, Group, text_groups}
 
@@ -59,16 +58,8 @@ group_text group = type_line group.first ++ flat_map member_lines (group.first �
 abbrev pub prom_text : FlushView → List ℕ
 prom_text view = flat_map group_text (text_groups view)
 
--- rising bins, none of them empty, of no more values than are counted
-pub record IsHistogram (counts : List BinCount) : Type 0 where
-  pub bins : IsBinList counts
-  pub limit : total counts ≤ MAX_COUNT
-
+-- what is required of a view, of one of its members
 abbrev pub HasHistogram : Member → Type 0
 HasHistogram (CounterMember row) = Unit {0}
 HasHistogram (GaugeMember row) = Unit {0}
 HasHistogram (HistogramMember row) = IsHistogram row.cumulative
-
--- the condition of writing a view
-abbrev pub HasHistograms : FlushView → Type 0
-HasHistograms view = All (λ row. IsHistogram row.cumulative) view.histograms

@@ -4,9 +4,10 @@ ghost use Rattle.std.specs.Fmt.{decimal, signed_decimal};
 ghost use Rattle.std.specs.List.{flat_map};
 ghost use Rattle.loglinear_bins.specs.Counts.{sum_of};
 ghost use Rattle.text_parts.specs.Decimals.{halves, twentieths};
+ghost use Rattle.text_parts.specs.Histograms.{IsHistogram};
 ghost use Rattle.prom_text.specs.Labels.{printed_name, label as label_text, braced};
 ghost use Rattle.prom_text.specs.Members.{kind_word as word_of};
-ghost use Rattle.prom_text.specs.Prometheus.{sample, labels_of, bucket_line, bound_line, histogram_lines, member_lines, type_line, IsHistogram, HasHistogram};
+ghost use Rattle.prom_text.specs.Prometheus.{sample, labels_of, bucket_line, bound_line, histogram_lines, member_lines, type_line, HasHistogram};
 ghost use Rattle.prom_text.specs.Rows.{member_of, bucket_begin, bucket_end};
 
 use crate::labels::{put_label, put_labels, put_name};

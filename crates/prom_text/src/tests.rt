@@ -1,5 +1,5 @@
 ghost use Rattle.std.specs.Prelude.{IfOk, All};
-ghost use Rattle.prom_text.specs.Prometheus.{IsHistogram, HasHistograms};
+ghost use Rattle.text_parts.specs.Histograms.{AreHistograms, HasHistograms};
 
 use super::*;
 use loglinear_bins::{Bins, MAX_COUNT};
@@ -42,7 +42,7 @@ fn view_of(
     gauges: &[(Named<'_>, i64)],
     histograms: Vec<HistRow>,
 ) -> Result<FlushView, Fail>
-    requires { All (λ row. IsHistogram row.cumulative) histograms.items }
+    requires { All AreHistograms histograms.items }
     ensures { IfOk result (λ view. HasHistograms view) }
 {
     let mut counter_rows = Vec::new(alloc);
@@ -134,7 +134,7 @@ fn values_to_100(alloc: Global) -> Result<Bins, Fail> {
 }
 
 fn one_histogram(alloc: Global, bins: &Bins, halves: &[u64]) -> Result<Vec<HistRow>, Fail>
-    ensures { IfOk result (λ rows. All (λ row. IsHistogram row.cumulative) rows.items) }
+    ensures { IfOk result (λ rows. All AreHistograms rows.items) }
 {
     let mut bounds = Vec::new(alloc);
     for n in halves {
@@ -145,7 +145,7 @@ fn one_histogram(alloc: Global, bins: &Bins, halves: &[u64]) -> Result<Vec<HistR
     rows.push(HistRow {
         name: Txt::of(alloc, name.full.as_bytes())?,
         tagged: tagged_of(alloc, &name)?,
-        interval: List::of(Vec::new(alloc)),
+        interval: Bins::new(alloc)?.pairs(alloc)?,
         cumulative: bins.pairs(alloc)?,
         bounds: List::of(bounds),
     })?;

@@ -57,3 +57,21 @@ gathered_stop first now held text others so_far = record {
       (front_whole first.written now.written so_far.written (held ++ others) so_far.pushed.appended);
   count = so_far.pushed.count;
 }
+
+-- more was put behind what was held
+pub gathered_put : (first now : SinkState) (held after text bytes : List ℕ) → IsGathered first now held text → after ≡ held ++ bytes
+    → IsGathered first now after (text ++ bytes)
+gathered_put first now held after text bytes so_far e =
+    subst (λ (l : List ℕ). IsGathered first now l (text ++ bytes)) (sym e) (gathered_more first now held text bytes so_far)
+
+-- no more is gathered of a whole text
+pub stopped_within : (first now : SinkState) (held text others whole : List ℕ) → IsGathered first now held text → text ++ others ≡ whole
+    → StopsWithin first now whole
+stopped_within first now held text others whole so_far e =
+    subst (λ (l : List ℕ). StopsWithin first now l) e (gathered_stop first now held text others so_far)
+
+-- a push of what was held of a whole text failed
+pub cut_within : (first now last : SinkState) (held text others whole : List ℕ) → IsGathered first now held text → text ++ others ≡ whole
+    → WritesFront now last held → WritesFront first last whole
+cut_within first now last held text others whole so_far e cut =
+    subst (λ (l : List ℕ). WritesFront first last l) e (gathered_cut first now last held text others so_far cut)

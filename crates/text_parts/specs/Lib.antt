@@ -2,3 +2,4 @@ pub mod Decimals
 pub mod Gathered
 pub mod TextFault
 pub mod Answer
+pub mod Histograms

@@ -1,0 +1,4 @@
+pub mod Worked
+pub mod Steps
+pub mod Quantiles
+pub mod Order

@@ -1,0 +1,13 @@
+use Rattle.std.proofs.Common.{◌≡◌, ◌++◌, ◌∙◌, ap, sym, arith}
+use Rattle.loglinear_bins.specs.Counts.{total}
+use Rattle.admin_read.proofs.Quantiles.{quantiles_within, text_of_none}
+use Rattle.admin_read.proofs.lines.put_quantiles.Goals as goal
+
+pub put_parts-requires : goal.put_parts-requires
+put_parts-requires c = quantiles_within
+
+pub returns-then-count-eq0 : goal.returns-then-count-eq0
+returns-then-count-eq0 c =
+    let none : total c.args.cumulative.now ≡ 0 = omega (arith, c.count.ensures.total, c.if-count-eq0.true) in
+    c.in_ok-extend_from_slice.ensures.items
+    ∙ ap (λ l. c.args.text.now.items ++ l) (sym (text_of_none c.args.interval.now c.args.cumulative.now none))

@@ -1,0 +1,7 @@
+use Rattle.std.proofs.Common.{◌≡◌, ◌++◌, map, take}
+use Rattle.admin_read.specs.Admin.{TextStat}
+use Rattle.admin_read.specs.Rows.{stat_of}
+use Rattle.admin_read.proofs.rows.add_texts.Given as goal
+
+abbrev pub invariant-loop-row : goal.invariant-loop-row
+invariant-loop-row l = map stat_of l.rows.items ≡ map stat_of l.fn.rows.items ++ map TextStat (take l.row-index l.texts)

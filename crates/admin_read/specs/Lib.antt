@@ -1,0 +1,3 @@
+pub mod Admin
+pub mod Rows
+pub mod Order
