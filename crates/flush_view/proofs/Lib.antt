@@ -1,0 +1,6 @@
+mod EachView
+mod Ordered
+mod Rising
+mod Totals
+mod Intervals
+mod Cumulative

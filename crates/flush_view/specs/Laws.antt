@@ -1,0 +1,74 @@
+-- What holds of all views and outputs. This project's own.
+use Rattle.std.specs.Prelude.{◌≡◌, ℕ, ◌||◌, Bool, true, Option, Some, List, map, slice_get}
+use Rattle.std.specs.List.{list_all, flat_map, AllByRecursion}
+use Rattle.stat_defs.specs.declared.configs.Config.{Config}
+use Rattle.stat_defs.specs.declared.events.Event.{Event}
+use Rattle.stat_defs.specs.declared.history.Call.TheVariants as call
+use Rattle.stat_defs.specs.declared.history.Entry.{Entry}
+use Rattle.stat_defs.specs.declared.history.Reply.TheVariants as reply
+use Rattle.stat_defs.specs.declared.metrics.Metric.{Metric}
+use Rattle.stat_defs.specs.declared.reports.FlushRecord.{FlushRecord}
+use Rattle.stat_defs.specs.declared.reports.Part.{Part}
+use Rattle.stat_defs.specs.declared.reports.Report.{Report}
+use Rattle.loglinear_bins.specs.Counts.{AreBinsOf, AreLawful, IsBinList}
+use Rattle.merge_round.specs.Halves.{values_on}
+use Rattle.book_state.specs.State.{NameRules, State, is_gone}
+use Rattle.book_state.specs.Step.{effect}
+use Rattle.ledger.specs.Work.{Work, Recording, recordings}
+use Rattle.ledger.specs.Flushes.{Fits}
+use Rattle.ledger.specs.Ledger.{RunPlan, Account, ReplayLedger, Direct}
+use Rattle.ledger.specs.OneReport.{without_ends, NoneFailed}
+use Rattle.flush_view.specs.ByName.{SortsByName}
+use Rattle.flush_view.specs.Views.{ViewRules, NumberedMetric, parts_on, merged_parts, view, views}
+use Rattle.flush_view.specs.Symbols.{is_live_life}
+use Rattle.flush_view.specs.Output.{ViewText, output}
+
+-- the views of all flushes are those of each flush
+abbrev pub ViewOfEach : Type 0
+ViewOfEach = (rules : ViewRules) (log : List Entry) (flushes : List FlushRecord) (k : ℕ)
+    → slice_get (views rules log flushes) k ≡ view rules log flushes k
+
+-- the ends of the files are in no output
+abbrev pub NoEndShown : Type 0
+NoEndShown = (text : ViewText) (rules : ViewRules) (symbols : Bool) (one other : Report)
+    → without_ends one ≡ without_ends other → output text rules symbols one ≡ output text rules symbols other
+
+pub record OneOutput : Type 0 where
+  -- a replay of these events has one output
+  pub of_events : (text : ViewText) (rules : ViewRules) (symbols : Bool) (contents others : List (Option (List ℕ)))
+      (events : List (List Event)) (plan : RunPlan) (one other : Report)
+      → ReplayLedger contents events plan one → ReplayLedger others events plan other
+      → output text rules symbols one ≡ output text rules symbols other
+  -- a replay of these contents has one output, where no read and no opening failed
+  pub of_contents : (text : ViewText) (rules : ViewRules) (symbols : Bool) (config : Config)
+      (contents : List (List ℕ)) (one other : Report)
+      → Direct config (map Some contents) one → NoneFailed one
+      → Direct config (map Some contents) other → NoneFailed other
+      → output text rules symbols one ≡ output text rules symbols other
+
+-- a histogram's interval has the bins of all values that the flush took of it
+abbrev pub IntervalOfValues : Type 0
+IntervalOfValues = (rules : NameRules) (log : List Entry) (last : Bool) (segs : List (List Recording))
+    (flush : FlushRecord) (id : ℕ) → Fits rules log last segs flush
+    → AreBinsOf (merged_parts (parts_on id flush)) (flat_map (values_on id) segs)
+
+-- all parts of a histogram together have the bins of all values that the workers recorded in it
+abbrev pub CumulativeOfAll : Type 0
+CumulativeOfAll = (plan : RunPlan) (workers : List Work) (report : Report) (id : ℕ) → Account plan workers report
+    → AreBinsOf (merged_parts (flat_map (parts_on id) report.flushes))
+    (flat_map (λ work. values_on id (recordings work)) workers)
+
+-- a sum of lawful parts is lawful, rises and has no empty bin, also where a part does not rise or has empty bins
+abbrev pub SumsRise : Type 0
+SumsRise = (parts : List Part) → AllByRecursion (λ part. AreLawful part.bins) parts → IsBinList (merged_parts parts)
+
+-- rows and symbols stand in their order, and in no other
+pub record OneOrder : Type 0 where
+  pub rows : SortsByName NumberedMetric (λ numbered. numbered.1.name)
+  pub symbols : SortsByName Metric (λ metric. metric.name)
+
+-- after a sweep behind the ends of all workers no metric is retired
+abbrev pub NoneRetired : Type 0
+NoneRetired = (rules : NameRules) (n : ℕ) (s : State) → list_all (λ seat. seat.ended) s.seats ≡ true
+    → list_all (λ row. is_live_life row.metric.life || is_gone row.metric.life)
+    (effect rules 0 call.Sweep (reply.Swept n) s).metrics ≡ true

@@ -1,0 +1,46 @@
+//! Laws of views and outputs, which hold without any call. Each function does nothing.
+ghost use Rattle.flush_view.specs.Laws.{ViewOfEach, NoEndShown, OneOutput, IntervalOfValues, CumulativeOfAll, SumsRise, OneOrder, NoneRetired};
+
+/// A law: the views of all flushes are those of each flush.
+pub fn view_of_each()
+    ensures { ViewOfEach }
+{}
+
+/// A law: how the files ended is in no output.
+pub fn no_end_shown()
+    ensures { NoEndShown }
+{}
+
+/// A law: the events of its files determine the output of a replay, and so do their contents where no read
+/// and no opening failed.
+pub fn one_output()
+    ensures { OneOutput }
+{}
+
+/// A law: where a flush fits, a histogram's interval in its view has the bins of all values that the flush
+/// took of it.
+pub fn interval_of_values()
+    ensures { IntervalOfValues }
+{}
+
+/// A law: where the flushes account for all, the last cumulative histogram has the bins of all values that
+/// were recorded in it.
+pub fn cumulative_of_all()
+    ensures { CumulativeOfAll }
+{}
+
+/// A law: the bins of a histogram's row are lawful, rise and are not empty, as the texts want them.
+pub fn sums_rise()
+    ensures { SumsRise }
+{}
+
+/// A law: rows and symbols stand in byte order of full names, those of one name as before, and no other
+/// list does.
+pub fn one_order()
+    ensures { OneOrder }
+{}
+
+/// A law: after a sweep behind the ends of all workers a metric is live or gone.
+pub fn none_retired()
+    ensures { NoneRetired }
+{}

@@ -1,0 +1,15 @@
+//! What the flushes of a report show, and the output that is written of them: definitions, laws and worked
+//! views.
+#![tactic(auto)]
+
+mod laws;
+mod worked;
+
+pub use laws::{
+    cumulative_of_all, interval_of_values, no_end_shown, none_retired, one_order, one_output,
+    sums_rise, view_of_each,
+};
+pub use worked::{
+    a_name_made_again, a_released_scope, a_subtraction, gauge_moves, names_in_order,
+    shared_symbols, texts_and_parts, two_increments, two_workers, values_and_texts,
+};
