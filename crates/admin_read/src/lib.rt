@@ -37,11 +37,7 @@ fn write_rows<O: Sink>(alloc: Global, rows: &[Row<'_>], out: &mut O) -> Result<(
 }
 
 /// Appends the admin text of what a flush shows. The text is pushed in pieces of `PUSH_BYTES` and more.
-pub fn write_admin<O: Sink>(
-    alloc: Global,
-    view: &FlushView,
-    out: &mut O,
-) -> Result<(), TextFault>
+pub fn write_admin<O: Sink>(alloc: Global, view: &FlushView, out: &mut O) -> Result<(), TextFault>
     requires { HasHistograms view.now }
     ensures answer { IsTextAnswer (O.state out.old) (O.state out.new) (admin_text view.now) result }
     ensures later { (O.state out.old).faults ≤ (O.state out.new).faults }
