@@ -86,16 +86,18 @@ rises_inside g gs b others (c ∷ cs) a =
     λ t. elim t as (λ t. stands_before g c ≡ t → Rises comes_before (together (c ∷ cs) (g ∷ gs))) [
       | true ↦ λ e.
           let first : comes_before (GaugeStat g) (CounterStat c) ≡ false = counter_first c g e in
-          subst (λ (l : List Stat). Rises comes_before l) (sym (take_counter c cs g gs e))
-          (all_together (λ s. comes_before s (CounterStat c) ≡ false) (g ∷ gs)
-          (first, all_behind comes_before in_weak_order (CounterStat c) (GaugeStat g) (map GaugeStat gs) first b.0) cs a.0,
-          rises_inside g gs b others cs a.1)
+          subst (λ (l : List Stat). Rises comes_before l) (sym (take_counter c cs g gs e)) (
+            all_together (λ s. comes_before s (CounterStat c) ≡ false) (g ∷ gs)
+                (first, all_behind comes_before in_weak_order (CounterStat c) (GaugeStat g) (map GaugeStat gs) first b.0) cs a.0,
+            rises_inside g gs b others cs a.1,
+          )
       | false ↦ λ e.
           let first : comes_before (CounterStat c) (GaugeStat g) ≡ false = gauge_first c g e in
-          subst (λ (l : List Stat). Rises comes_before l) (sym (take_gauge c cs g gs e))
-          (all_together (λ s. comes_before s (GaugeStat g) ≡ false) gs b.0 (c ∷ cs)
-          (first, all_behind comes_before in_weak_order (GaugeStat g) (CounterStat c) (map CounterStat cs) first a.0),
-          others (c ∷ cs) a)
+          subst (λ (l : List Stat). Rises comes_before l) (sym (take_gauge c cs g gs e)) (
+            all_together (λ s. comes_before s (GaugeStat g) ≡ false) gs b.0 (c ∷ cs)
+                (first, all_behind comes_before in_weak_order (GaugeStat g) (CounterStat c) (map CounterStat cs) first a.0),
+            others (c ∷ cs) a,
+          )
     ] in
     cases (stands_before g c) refl
 
