@@ -1,4 +1,4 @@
-use Rattle.std.proofs.Common.{ℕ, List, ◌∙◌, ap, map, subst}
+use Rattle.std.proofs.Common.{List, ◌∙◌, ap, map, subst}
 use Rattle.std.specs.List.{flat_map}
 use Rattle.text_parts.specs.Answer.{IsTextAnswer}
 use Rattle.admin_read.specs.declared.rows.StatRow.{StatRow}
