@@ -1,11 +1,11 @@
 -- Counters and gauges together.
-use Rattle.std.proofs.Common.{◌≡◌, ℕ, suc, ◌+◌, Bool, true, false, cond, Option, Some, None, List, [], ◌∷◌, ◌++◌, map, take, drop, refl, sym, ap, ◌∙◌, subst, append-nil, arith}
+use Rattle.std.proofs.Common.{◌≡◌, ℕ, suc, ◌+◌, Bool, true, false, cond, List, [], ◌∷◌, ◌++◌, map, take, drop, refl, sym, ap, ◌∙◌, subst, arith}
 use Rattle.std.specs.Cmp.{IsStrictWeakOrder, IsTotalOrder, then_total, on_total}
 use Rattle.std.specs.Cmp.Lexicographic.{slice_cmp, nat_list_cmp_total}
 use Rattle.std.specs.Ordering.{nat_cmp, is_lt, is_le, ordering_reverse, ordering_then}
 use Rattle.std.specs.declared.cmp.Ordering.{Ordering}
 use Rattle.std.specs.declared.cmp.Ordering.TheVariants.{Less, Equal, Greater}
-use Rattle.std.specs.List.{AllByRecursion, filter_map, take_while, prefix_len}
+use Rattle.std.specs.List.{AllByRecursion, filter_map, prefix_len}
 use Rattle.std.specs.List.Sorted.{IsSortedBy}
 use Rattle.std.proofs.lemmas.Cmp.{nat_cmp_total}
 use Rattle.std.proofs.lemmas.List.Sorted.{ranks_by}
@@ -14,7 +14,7 @@ use Rattle.std.proofs.lemmas.List.Elements.{filter_map-append}
 use Rattle.stat_defs.specs.declared.views.CounterRow.{CounterRow}
 use Rattle.stat_defs.specs.declared.views.GaugeRow.{GaugeRow}
 use Rattle.text_parts.proofs.Rising.{Rises, rises_sorted, sorted_rising, all_behind}
-use Rattle.admin_read.specs.Admin.{Stat, TextStat, CounterStat, GaugeStat, HistogramStat, stands_before, together}
+use Rattle.admin_read.specs.Admin.{Stat, CounterStat, GaugeStat, stands_before, together}
 use Rattle.admin_read.specs.Order.{full_name, stat_place, comes_before, AreCountersByName, AreGaugesByName, counter_in, gauge_in}
 
 in_total_order : IsTotalOrder (λ (a b : Stat). ordering_then (slice_cmp nat_cmp (full_name a) (full_name b)) (nat_cmp (stat_place a) (stat_place b)))

@@ -1,7 +1,7 @@
 -- What a histogram's line shows, in the parts in which it is written.
-use Rattle.std.proofs.Common.{◌≡◌, ℕ, ◌≤◌, ◌==◌, true, false, if◌then◌else◌, List, [], ◌∷◌, ◌++◌, refl, ap, ◌∙◌, codes, arith}
+use Rattle.std.proofs.Common.{◌≡◌, ◌≤◌, ◌==◌, false, if◌then◌else◌, List, ◌∷◌, ap, codes, arith}
 use Rattle.std.proofs.lemmas.List.Elements.{All-from_recursion}
-use Rattle.std.specs.List.{All, AllByRecursion, join_by}
+use Rattle.std.specs.List.{All, join_by}
 use Rattle.stat_defs.specs.declared.bins.BinCount.{BinCount}
 use Rattle.loglinear_bins.specs.Counts.{total}
 use Rattle.admin_read.specs.Admin.{quantile_part, quantiles, quantiles_text}

@@ -11,25 +11,25 @@ use Rattle.stat_defs.specs.declared.views.HistRow.{HistRow}
 use Rattle.stat_defs.specs.declared.views.FlushView.{FlushView}
 use Rattle.text_parts.specs.Histograms.{AreHistograms, HasHistograms}
 use Rattle.text_parts.proofs.Rising.{all_joined}
-use Rattle.admin_read.specs.declared.rows.Row.{Row}
+use Rattle.admin_read.specs.declared.rows.StatRow.{StatRow}
 use Rattle.admin_read.specs.Admin.{Stat, TextStat, CounterStat, GaugeStat, HistogramStat, stands_before, together, stats, stat_line}
 use Rattle.admin_read.specs.Rows.{stat_of, CanBeRead}
 
 -- the lines of the rows from a place on are that of its row and those of the rows behind it
-pub rest_next : (rows : List Row) (i : ℕ) (row : Row) (done whole : List ℕ) → i < length rows → row ≡ get_or rows i row
+pub rest_next : (rows : List StatRow) (i : ℕ) (row : StatRow) (done whole : List ℕ) → i < length rows → row ≡ get_or rows i row
     → done ++ flat_map stat_line (map stat_of (drop i rows)) ≡ whole
     → (done ++ stat_line (stat_of row)) ++ flat_map stat_line (map stat_of (drop (i + 1) rows)) ≡ whole
 rest_next rows i row done whole h is e =
     let next : drop i rows ≡ row ∷ drop (i + 1) rows =
-    drop-cons rows i row h ∙ ap (λ (x : Row). x ∷ drop (suc i) rows) (sym is) ∙ ap (λ n. row ∷ drop n rows) (sym (add-one i)) in
+    drop-cons rows i row h ∙ ap (λ (x : StatRow). x ∷ drop (suc i) rows) (sym is) ∙ ap (λ n. row ∷ drop n rows) (sym (add-one i)) in
     append_assoc done (stat_line (stat_of row)) (flat_map stat_line (map stat_of (drop (i + 1) rows)))
-    ∙ ap (λ (l : List Row). done ++ flat_map stat_line (map stat_of l)) (sym next) ∙ e
+    ∙ ap (λ (l : List StatRow). done ++ flat_map stat_line (map stat_of l)) (sym next) ∙ e
 
 -- no line is left behind the last row
-pub rest_none : (rows : List Row) (i : ℕ) (done whole : List ℕ) → length rows ≤ i
+pub rest_none : (rows : List StatRow) (i : ℕ) (done whole : List ℕ) → length rows ≤ i
     → done ++ flat_map stat_line (map stat_of (drop i rows)) ≡ whole → done ≡ whole
 rest_none rows i done whole h e =
-    sym (append-nil done) ∙ ap (λ (l : List Row). done ++ flat_map stat_line (map stat_of l)) (sym (drop_all i rows h)) ∙ e
+    sym (append-nil done) ∙ ap (λ (l : List StatRow). done ++ flat_map stat_line (map stat_of l)) (sym (drop_all i rows h)) ∙ e
 
 texts_can : (rows : List TextRow) → AllByRecursion CanBeRead (map TextStat rows)
 texts_can [] = tt
@@ -50,12 +50,12 @@ histograms_can : (rows : List HistRow) → AllByRecursion AreHistograms rows →
 histograms_can [] a = tt
 histograms_can (row ∷ rows) a = (a.0, histograms_can rows a.1)
 
-all_of_rows : (rows : List Row) → AllByRecursion CanBeRead (map stat_of rows) → AllByRecursion (λ row. CanBeRead (stat_of row)) rows
+all_of_rows : (rows : List StatRow) → AllByRecursion CanBeRead (map stat_of rows) → AllByRecursion (λ row. CanBeRead (stat_of row)) rows
 all_of_rows [] a = tt
 all_of_rows (row ∷ rows) a = (a.0, all_of_rows rows a.1)
 
 -- what holds of a view's histograms holds of its rows
-pub rows_can : (view : FlushView) (rows : List Row) → HasHistograms view → map stat_of rows ≡ stats view
+pub rows_can : (view : FlushView) (rows : List StatRow) → HasHistograms view → map stat_of rows ≡ stats view
     → All (λ row. CanBeRead (stat_of row)) rows
 rows_can view rows h e =
     let numeric = together view.counters view.gauges in

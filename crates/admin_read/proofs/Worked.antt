@@ -6,7 +6,7 @@ use Rattle.stat_defs.specs.declared.metrics.Tagged.{Tagged}
 use Rattle.stat_defs.specs.declared.views.HistRow.{HistRow}
 use Rattle.stat_defs.specs.declared.views.FlushView.{FlushView}
 use Rattle.loglinear_bins.specs.Bins.{low_thousandths, width_thousandths}
-use Rattle.admin_read.specs.Admin.{admin_text, quantiles_text}
+use Rattle.admin_read.specs.Admin.{admin_text}
 
 abbrev bare : List ℕ → Tagged
 bare name = record { extracted = name; tags = [] }

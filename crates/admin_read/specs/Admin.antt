@@ -1,5 +1,5 @@
--- The admin text of a flush (the statistics of Envoy's admin interface; a counter before a gauge of its name, and texts that
--- stand as they are, are this project's own).
+-- The admin text of a flush (the statistics that Envoy's admin interface shows; that a counter stands before a gauge
+-- of its name, and a text as it is, is this project's own).
 use Rattle.std.specs.Prelude.{ℕ, ◌*◌, ◌==◌, Bool, if◌then◌else◌, Option, Some, None, List, [], ◌∷◌, ◌++◌, map, drop, codes}
 use Rattle.std.specs.List.{flat_map, join_by, take_while, prefix_len}
 use Rattle.std.specs.Fmt.{decimal, signed_decimal}
@@ -33,7 +33,7 @@ counters_up_to gauge counters = take_while (stands_before gauge) counters
 abbrev pub counters_beyond : GaugeRow → List CounterRow → List CounterRow
 counters_beyond gauge counters = drop (prefix_len (stands_before gauge) counters) counters
 
--- counters and gauges together: before each gauge the counters up to its name, and behind the last gauge the other counters
+-- counters and gauges together: before each gauge the counters up to its name, behind the last gauge the others
 abbrev pub together : List CounterRow → List GaugeRow → List Stat
 together counters [] = map CounterStat counters
 together counters (gauge ∷ gauges) =
@@ -69,7 +69,8 @@ value_text (Some value) = thousandths value
 -- `LABEL(INTERVAL,CUMULATIVE)`
 abbrev pub quantile_part : List BinCount → List BinCount → ℕ → List ℕ
 quantile_part interval cumulative q =
-    quantile_label q ++ (40 ∷ (value_text (quantile_of interval q) ++ (44 ∷ (value_text (quantile_of cumulative q) ++ 41 ∷ []))))
+    quantile_label q
+    ++ (40 ∷ (value_text (quantile_of interval q) ++ (44 ∷ (value_text (quantile_of cumulative q) ++ 41 ∷ []))))
 
 -- a part for each quantile, parted by spaces, where there are values
 abbrev pub quantiles_text : List BinCount → List BinCount → List ℕ

@@ -13,7 +13,7 @@ full_name (CounterStat row) = row.name
 full_name (GaugeStat row) = row.name
 full_name (HistogramStat row) = row.name
 
--- a counter is before a gauge of its name
+-- in the order of the text
 abbrev pub stat_place : Stat → ℕ
 stat_place (TextStat row) = 0
 stat_place (CounterStat row) = 1
@@ -22,15 +22,17 @@ stat_place (HistogramStat row) = 3
 
 -- by name, and of one name by kind
 abbrev pub comes_before : Stat → Stat → Bool
-comes_before a b = is_lt (ordering_then (slice_cmp nat_cmp (full_name a) (full_name b)) (nat_cmp (stat_place a) (stat_place b)))
+comes_before a b =
+    is_lt (ordering_then (slice_cmp nat_cmp (full_name a) (full_name b)) (nat_cmp (stat_place a) (stat_place b)))
 
--- names rise in byte order
+-- rows stand by name in byte order
 abbrev pub AreCountersByName : List CounterRow → Type 0
 AreCountersByName counters = IsSortedBy (λ a b. is_lt (slice_cmp nat_cmp a.name b.name)) counters
 
 abbrev pub AreGaugesByName : List GaugeRow → Type 0
 AreGaugesByName gauges = IsSortedBy (λ a b. is_lt (slice_cmp nat_cmp a.name b.name)) gauges
 
+-- the counter or the gauge that a stat is, if it is one
 abbrev pub counter_in : Stat → Option CounterRow
 counter_in (TextStat row) = None
 counter_in (CounterStat row) = Some row

@@ -3,11 +3,11 @@ use Rattle.std.specs.Prelude.{ℕ, List, ◌∷◌}
 use Rattle.std.specs.List.{flat_map}
 use Rattle.stat_defs.specs.declared.bins.BinCount.{BinCount}
 use Rattle.text_parts.specs.Histograms.{AreHistograms}
-use Rattle.admin_read.specs.declared.rows.Row.{Row}
-use Rattle.admin_read.specs.declared.rows.Row.TheVariants.{Text, Counter, Gauge, Histogram}
+use Rattle.admin_read.specs.declared.rows.StatRow.{StatRow}
+use Rattle.admin_read.specs.declared.rows.StatRow.TheVariants.{Text, Counter, Gauge, Histogram}
 use Rattle.admin_read.specs.Admin.{Stat, TextStat, CounterStat, GaugeStat, HistogramStat, quantile_part}
 
-abbrev pub stat_of : Row → Stat
+abbrev pub stat_of : StatRow → Stat
 stat_of (Text row) = TextStat row.now
 stat_of (Counter row) = CounterStat row.now
 stat_of (Gauge row) = GaugeStat row.now

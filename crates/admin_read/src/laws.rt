@@ -7,11 +7,11 @@ ghost use Rattle.stat_defs.specs.declared.views.GaugeRow.{GaugeRow};
 ghost use Rattle.admin_read.specs.Admin.{together};
 ghost use Rattle.admin_read.specs.Order.{comes_before, AreCountersByName, AreGaugesByName, counter_in, gauge_in};
 
-/// Where counters and gauges stand by name, both together stand by name, a counter before the gauges of its name. However they
-/// stand, each of them has its line once, counters in their order and gauges in theirs.
+/// Where counters and gauges stand by name, both together stand by name, a counter before the gauges of its name.
+/// However they stand, each of them has its line once, counters in their order and gauges in theirs.
 pub fn order_law()
-    ensures order { (counters : List CounterRow) (gauges : List GaugeRow) → AreCountersByName counters → AreGaugesByName gauges
-        → IsSortedBy comes_before (together counters gauges) }
+    ensures order { (counters : List CounterRow) (gauges : List GaugeRow)
+        → AreCountersByName counters → AreGaugesByName gauges → IsSortedBy comes_before (together counters gauges) }
     ensures counters { (counters : List CounterRow) (gauges : List GaugeRow)
         → filter_map counter_in (together counters gauges) ≡ counters }
     ensures gauges { (counters : List CounterRow) (gauges : List GaugeRow)

@@ -16,15 +16,16 @@ mod tests;
 
 pub use laws::order_law;
 use lines::put_row;
-use rows::{Row, rows_of};
+use rows::{StatRow, rows_of};
 use stat_defs::FlushView;
 use stats_io::{Sink, push_all};
 use std::alloc::Global;
 use text_parts::{TextFault, push_full};
 
-fn write_rows<O: Sink>(alloc: Global, rows: &[Row<'_>], out: &mut O) -> Result<(), TextFault>
+fn write_rows<O: Sink>(alloc: Global, rows: &[StatRow<'_>], out: &mut O) -> Result<(), TextFault>
     requires { All (λ row. CanBeRead (stat_of row)) rows.now }
-    ensures answer { IsTextAnswer (O.state out.old) (O.state out.new) (flat_map stat_line (map stat_of rows.now)) result }
+    ensures answer { IsTextAnswer (O.state out.old) (O.state out.new)
+        (flat_map stat_line (map stat_of rows.now)) result }
     ensures later { (O.state out.old).faults ≤ (O.state out.new).faults }
 {
     let mut text = Vec::new(alloc);
@@ -36,7 +37,8 @@ fn write_rows<O: Sink>(alloc: Global, rows: &[Row<'_>], out: &mut O) -> Result<(
     Ok(())
 }
 
-/// Appends the admin text of what a flush shows. The text is pushed in pieces of `PUSH_BYTES` and more.
+/// Appends the admin text of what a flush shows. Rows keep the order of the view, which is by name, and `order_law` says how
+/// counters and gauges join. Names and texts are written as they are. The text is pushed in pieces of `PUSH_BYTES` and more.
 pub fn write_admin<O: Sink>(alloc: Global, view: &FlushView, out: &mut O) -> Result<(), TextFault>
     requires { HasHistograms view.now }
     ensures answer { IsTextAnswer (O.state out.old) (O.state out.new) (admin_text view.now) result }

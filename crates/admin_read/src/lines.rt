@@ -6,7 +6,7 @@ ghost use Rattle.text_parts.specs.Histograms.{AreHistograms};
 ghost use Rattle.admin_read.specs.Admin.{named, quoted, quantile_label, value_text, quantile_part, quantiles_text, stat_line};
 ghost use Rattle.admin_read.specs.Rows.{stat_of, CanBeRead, spaced_parts};
 
-use crate::rows::Row;
+use crate::rows::StatRow;
 use loglinear_bins::Bins;
 use stat_defs::{CounterRow, GaugeRow, HistRow, NoMemory, TextRow, Txt};
 use std::alloc::{AllocError, Global};
@@ -43,7 +43,8 @@ fn put_counter(text: &mut Vec<u8>, row: &CounterRow) -> Result<(), AllocError>
 }
 
 fn put_gauge(text: &mut Vec<u8>, row: &GaugeRow) -> Result<(), AllocError>
-    ensures { OnOk result (text.new.items ≡ text.old.items ++ named row.now.name (signed_decimal row.now.value)) }
+    ensures { OnOk result (text.new.items
+        ≡ text.old.items ++ named row.now.name (signed_decimal row.now.value)) }
 {
     begin_line(text, &row.name)?;
     text.push(b' ')?;
@@ -95,7 +96,8 @@ fn put_parts(
     quantiles: &[u32],
 ) -> Result<(), AllocError>
     requires { All (λ q. q ≤ 1000) quantiles.now }
-    ensures { OnOk result (text.new.items ≡ text.old.items ++ spaced_parts interval.now cumulative.now quantiles.now) }
+    ensures { OnOk result (text.new.items
+        ≡ text.old.items ++ spaced_parts interval.now cumulative.now quantiles.now) }
 {
     for q in quantiles {
         text.push(b' ')?;
@@ -106,7 +108,8 @@ fn put_parts(
 
 /// Appends a space and what a histogram shows.
 fn put_quantiles(text: &mut Vec<u8>, interval: &Bins, cumulative: &Bins) -> Result<(), AllocError>
-    ensures { OnOk result (text.new.items ≡ text.old.items ++ (32 ∷ quantiles_text interval.now cumulative.now)) }
+    ensures { OnOk result (text.new.items
+        ≡ text.old.items ++ (32 ∷ quantiles_text interval.now cumulative.now)) }
 {
     if cumulative.count() == 0 {
         text.extend_from_slice(b" No recorded values")?;
@@ -129,15 +132,15 @@ fn put_histogram(alloc: Global, text: &mut Vec<u8>, row: &HistRow) -> Result<(),
 }
 
 /// Appends the line of a row.
-pub(crate) fn put_row(alloc: Global, text: &mut Vec<u8>, row: &Row<'_>) -> Result<(), NoMemory>
+pub(crate) fn put_row(alloc: Global, text: &mut Vec<u8>, row: &StatRow<'_>) -> Result<(), NoMemory>
     requires { CanBeRead (stat_of row.now) }
     ensures { OnOk result (text.new.items ≡ text.old.items ++ stat_line (stat_of row.now)) }
 {
     match row {
-        Row::Text(row) => put_text(text, row)?,
-        Row::Counter(row) => put_counter(text, row)?,
-        Row::Gauge(row) => put_gauge(text, row)?,
-        Row::Histogram(row) => put_histogram(alloc, text, row)?,
+        StatRow::Text(row) => put_text(text, row)?,
+        StatRow::Counter(row) => put_counter(text, row)?,
+        StatRow::Gauge(row) => put_gauge(text, row)?,
+        StatRow::Histogram(row) => put_histogram(alloc, text, row)?,
     }
     Ok(())
 }

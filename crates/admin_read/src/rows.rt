@@ -9,36 +9,45 @@ use std::alloc::{AllocError, Global};
 
 /// A row of a view.
 #[derive(Clone, Copy)]
-pub(crate) enum Row<'a> {
+pub(crate) enum StatRow<'a> {
     Text(&'a TextRow),
     Counter(&'a CounterRow),
     Gauge(&'a GaugeRow),
     Histogram(&'a HistRow),
 }
 
-fn add_texts<'a>(rows: &mut Vec<Row<'a>>, texts: &'a [TextRow]) -> Result<(), AllocError>
-    ensures { OnOk result (map stat_of rows.new.items ≡ map stat_of rows.old.items ++ map TextStat texts.now) }
+fn add_texts<'a>(rows: &mut Vec<StatRow<'a>>, texts: &'a [TextRow]) -> Result<(), AllocError>
+    ensures { OnOk result (map stat_of rows.new.items
+        ≡ map stat_of rows.old.items ++ map TextStat texts.now) }
 {
     for row in texts {
-        rows.push(Row::Text(row))?;
+        rows.push(StatRow::Text(row))?;
     }
     Ok(())
 }
 
-fn add_counters<'a>(rows: &mut Vec<Row<'a>>, counters: &'a [CounterRow]) -> Result<(), AllocError>
-    ensures { OnOk result (map stat_of rows.new.items ≡ map stat_of rows.old.items ++ map CounterStat counters.now) }
+fn add_counters<'a>(
+    rows: &mut Vec<StatRow<'a>>,
+    counters: &'a [CounterRow],
+) -> Result<(), AllocError>
+    ensures { OnOk result (map stat_of rows.new.items
+        ≡ map stat_of rows.old.items ++ map CounterStat counters.now) }
 {
     for row in counters {
-        rows.push(Row::Counter(row))?;
+        rows.push(StatRow::Counter(row))?;
     }
     Ok(())
 }
 
-fn add_histograms<'a>(rows: &mut Vec<Row<'a>>, histograms: &'a [HistRow]) -> Result<(), AllocError>
-    ensures { OnOk result (map stat_of rows.new.items ≡ map stat_of rows.old.items ++ map HistogramStat histograms.now) }
+fn add_histograms<'a>(
+    rows: &mut Vec<StatRow<'a>>,
+    histograms: &'a [HistRow],
+) -> Result<(), AllocError>
+    ensures { OnOk result (map stat_of rows.new.items
+        ≡ map stat_of rows.old.items ++ map HistogramStat histograms.now) }
 {
     for row in histograms {
-        rows.push(Row::Histogram(row))?;
+        rows.push(StatRow::Histogram(row))?;
     }
     Ok(())
 }
@@ -64,26 +73,28 @@ fn count_before(gauge: &GaugeRow, counters: &[CounterRow]) -> usize
 
 /// Adds the counters that stand before a gauge, and the gauge, and gives the other counters.
 fn add_gauge<'a>(
-    rows: &mut Vec<Row<'a>>,
+    rows: &mut Vec<StatRow<'a>>,
     counters: &'a [CounterRow],
     gauge: &'a GaugeRow,
 ) -> Result<&'a [CounterRow], AllocError>
     ensures added { OnOk result (map stat_of rows.new.items
-        ≡ map stat_of rows.old.items ++ (map CounterStat (counters_up_to gauge.now counters.now) ++ GaugeStat gauge.now ∷ [])) }
+        ≡ map stat_of rows.old.items
+        ++ (map CounterStat (counters_up_to gauge.now counters.now) ++ GaugeStat gauge.now ∷ [])) }
     ensures others { IfOk result (λ others. others.now ≡ counters_beyond gauge.now counters.now) }
 {
     let (before, others) = counters.split_at(count_before(gauge, counters));
     add_counters(rows, before)?;
-    rows.push(Row::Gauge(gauge))?;
+    rows.push(StatRow::Gauge(gauge))?;
     Ok(others)
 }
 
 fn add_together<'a>(
-    rows: &mut Vec<Row<'a>>,
+    rows: &mut Vec<StatRow<'a>>,
     counters: &'a [CounterRow],
     gauges: &'a [GaugeRow],
 ) -> Result<(), AllocError>
-    ensures { OnOk result (map stat_of rows.new.items ≡ map stat_of rows.old.items ++ together counters.now gauges.now) }
+    ensures { OnOk result (map stat_of rows.new.items
+        ≡ map stat_of rows.old.items ++ together counters.now gauges.now) }
 {
     let mut others = counters;
     for gauge in gauges {
@@ -93,7 +104,7 @@ fn add_together<'a>(
 }
 
 /// The rows of a view in the order in which they are written.
-pub(crate) fn rows_of(alloc: Global, view: &FlushView) -> Result<Vec<Row<'_>>, AllocError>
+pub(crate) fn rows_of(alloc: Global, view: &FlushView) -> Result<Vec<StatRow<'_>>, AllocError>
     ensures { IfOk result (λ rows. map stat_of rows.items ≡ stats view.now) }
 {
     let mut rows = Vec::new(alloc);
