@@ -1,5 +1,5 @@
 -- Each worker of a ledger has one end in the log.
-use Rattle.std.proofs.Common.{◌≡◌, ℕ, zero, suc, ◌+◌, ◌<◌, ◌≤◌, ◌==◌, ◌&&◌, cond, nat_le, not, Bool, true, false, Option, Some, None, List, [], ◌∷◌, ◌++◌, length, refl, ap, sym, ◌∙◌, subst, arith, inl, inr, ◌⊎◌}
+use Rattle.std.proofs.Common.{◌≡◌, ℕ, suc, ◌+◌, ◌<◌, ◌≤◌, ◌==◌, ◌&&◌, cond, nat_le, Bool, true, false, Option, Some, None, List, [], ◌∷◌, ◌++◌, length, refl, ap, sym, ◌∙◌, subst, arith, inl, inr}
 use Rattle.std.specs.Prelude.{sum_by}
 use Rattle.std.specs.List.{list_all}
 use Rattle.std.proofs.lemmas.Bool.Decides.{leb_tells}
@@ -94,20 +94,20 @@ own_ends rules seat s [] = refl
 own_ends rules seat s (entry ∷ log) =
     let next : State = effect rules entry.seat entry.call entry.reply s in
     by_case next (entry.seat == seat) refl (own_ends rules seat next log) where
-  by_case : (next : State) (b : Bool) → (entry.seat == seat) ≡ b
-      → sum_by own_end (own rules seat next log) ≡ sum_by (end_by seat) log
-      → sum_by own_end (cond b (record { call = entry.call; reply = entry.reply; after = next } ∷ own rules seat next log) (own rules seat next log))
-      ≡ sum_by (end_by seat) (entry ∷ log)
-  by_case next true same rest =
-      let o : Own = record { call = entry.call; reply = entry.reply; after = next } in
-      let head : end_by seat entry ≡ end_of entry = ap (λ b. cond b (end_of entry) 0) same in
-      let one = sum_by-cons own_end o (own rules seat next log) in
-      let whole = sum_by-cons (end_by seat) entry log in
-      omega (arith, head, one, whole, rest)
-  by_case next false other rest =
-      let head : end_by seat entry ≡ 0 = ap (λ b. cond b (end_of entry) 0) other in
-      let whole = sum_by-cons (end_by seat) entry log in
-      omega (arith, head, whole, rest)
+      by_case : (next : State) (b : Bool) → (entry.seat == seat) ≡ b
+          → sum_by own_end (own rules seat next log) ≡ sum_by (end_by seat) log
+          → sum_by own_end (cond b (record { call = entry.call; reply = entry.reply; after = next } ∷ own rules seat next log) (own rules seat next log))
+          ≡ sum_by (end_by seat) (entry ∷ log)
+      by_case next true same rest =
+          let o : Own = record { call = entry.call; reply = entry.reply; after = next } in
+          let head : end_by seat entry ≡ end_of entry = ap (λ b. cond b (end_of entry) 0) same in
+          let one = sum_by-cons own_end o (own rules seat next log) in
+          let whole = sum_by-cons (end_by seat) entry log in
+          omega (arith, head, one, whole, rest)
+      by_case next false other rest =
+          let head : end_by seat entry ≡ 0 = ap (λ b. cond b (end_of entry) 0) other in
+          let whole = sum_by-cons (end_by seat) entry log in
+          omega (arith, head, whole, rest)
 
 one_end : (rules : NameRules) (workers seat : ℕ) (work : Work) (log : List Entry)
     → Follows rules workers seat (events_in work) (verdicts_in work) log → sum_by (end_by seat) log ≡ 1

@@ -1,6 +1,6 @@
 -- A histogram's interval has the bins of all values that the flush took of it.
 use Rattle.std.proofs.Common.{◌≡◌, ◌≢◌, ℕ, zero, suc, ◌+◌, ◌<◌, ◌≤◌, ◌==◌, Bool, true, false, cond, List, [], ◌∷◌, ◌++◌, map, length, refl, ap, sym, ◌∙◌, arith, inl, inr, ◌⊎◌}
-use Rattle.std.specs.Prelude.{fold, filter, sum_by, All, get_or}
+use Rattle.std.specs.Prelude.{fold, filter, sum_by, get_or}
 use Rattle.std.specs.List.{flat_map, AllByRecursion, AllPairs}
 use Rattle.std.proofs.lemmas.Bool.Decides.{eqb_tells, leb_tells}
 use Rattle.std.proofs.lemmas.List.{get_or_past}
@@ -10,7 +10,7 @@ use Rattle.stat_defs.specs.declared.bins.Bin.{Bin}
 use Rattle.stat_defs.specs.declared.bins.BinCount.{BinCount}
 use Rattle.stat_defs.specs.declared.reports.Part.{Part}
 use Rattle.loglinear_bins.specs.Bins.{bin_of_value, is_same}
-use Rattle.loglinear_bins.specs.Counts.{count_of, merged, bins_of}
+use Rattle.loglinear_bins.specs.Counts.{count_of, merged}
 use Rattle.loglinear_bins.proofs.Adding.{count_of-merged}
 use Rattle.loglinear_bins.proofs.Values.{AreBinsOf-bins_of}
 use Rattle.merge_round.specs.Halves.{values_on, bins_by}
@@ -160,8 +160,8 @@ module _ (id : ℕ) (bin : Bin) where
     not_there : (w : ℕ) (ps : List Part) → AllByRecursion (λ p. IsOn w p → ⊥) ps → HasPart ps w id → ⊥
     not_there w ps none (k, x, below, at, is) =
         All-from_recursion (λ p. IsOn w p → ⊥) ps none k x below (sym_at ps k x at is) where
-      sym_at : (l : List Part) (k : ℕ) (x : Part) → get_or l k x ≡ x → IsOn w x → IsOn w (get_or l k x)
-      sym_at l k x at is = (ap (λ (p : Part). p.worker) at ∙ is.0, ap (λ (p : Part). p.id.0) at ∙ is.1)
+          sym_at : (l : List Part) (k : ℕ) (x : Part) → get_or l k x ≡ x → IsOn w x → IsOn w (get_or l k x)
+          sym_at l k x at is = (ap (λ (p : Part). p.worker) at ∙ is.0, ap (λ (p : Part). p.id.0) at ∙ is.1)
 
     -- the parts of a worker add the bins that it has of the histogram
     by_worker : (w : ℕ) (ps : List Part) → ArePartsOf bins ps → Whole w ps
@@ -170,10 +170,10 @@ module _ (id : ℕ) (bin : Bin) where
           | inl found ↦ found
           | inr none ↦ decided (bins w id) refl none
         ] where
-      decided : (l : List BinCount) → bins w id ≡ l
-          → AllByRecursion (λ p. IsOn w p → ⊥) ps × (sum_by (of_worker w) ps ≡ 0) → Whole w ps
-      decided [] is none = none.1 ∙ ap (λ (l : List BinCount). count_of l bin) (sym is)
-      decided (c ∷ cs) is none = absurd (not_there w ps none.0 (are.whole w id (λ empty. nil_cons c cs (sym empty ∙ is))))
+          decided : (l : List BinCount) → bins w id ≡ l
+              → AllByRecursion (λ p. IsOn w p → ⊥) ps × (sum_by (of_worker w) ps ≡ 0) → Whole w ps
+          decided [] is none = none.1 ∙ ap (λ (l : List BinCount). count_of l bin) (sym is)
+          decided (c ∷ cs) is none = absurd (not_there w ps none.0 (are.whole w id (λ empty. nil_cons c cs (sym empty ∙ is))))
 
   module _ (segs : List (List Recording)) where
     abbrev bins : ℕ → ℕ → List BinCount
@@ -211,12 +211,12 @@ module _ (id : ℕ) (bin : Bin) where
         total_shift (λ w. count_on id bin (segment_of segs w)) 0 (length segs)
         ∙ members (count_on id bin) refl (count_append id bin) segs
         ∙ in_order segs where
-      in_order : (xss : List (List Recording)) → count_on id bin (flat_map (λ xs. xs) xss) ≡ count_in bin (flat_map (values_on id) xss)
-      in_order [] = refl
-      in_order (xs ∷ xss) =
-          count_append id bin xs (flat_map (λ ys. ys) xss)
-          ∙ ap (λ n. count_on id bin xs + n) (in_order xss)
-          ∙ sym (sum_by-append (has bin) (values_on id xs) (flat_map (values_on id) xss))
+          in_order : (xss : List (List Recording)) → count_on id bin (flat_map (λ xs. xs) xss) ≡ count_in bin (flat_map (values_on id) xss)
+          in_order [] = refl
+          in_order (xs ∷ xss) =
+              count_append id bin xs (flat_map (λ ys. ys) xss)
+              ∙ ap (λ n. count_on id bin xs + n) (in_order xss)
+              ∙ sym (sum_by-append (has bin) (values_on id xs) (flat_map (values_on id) xss))
 
     pub interval : (parts : List Part) → ArePartsOf (bins_by_worker segs) parts
         → count_of (all_bins [] (filter (is_part_on id) parts)) bin ≡ count_in bin (flat_map (values_on id) segs)

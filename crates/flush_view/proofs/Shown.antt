@@ -1,8 +1,7 @@
 -- The metrics that a view shows are members of the book, and what holds of their numbers holds of the rows.
-use Rattle.std.proofs.Common.{◌≡◌, ℕ, suc, ◌+◌, ◌&&◌, cond, Bool, true, false, List, [], ◌∷◌, map, length, refl, ap, sym, ◌∙◌, subst, arith}
-use Rattle.std.specs.Prelude.{filter, if◌then◌else◌}
+use Rattle.std.proofs.Common.{◌≡◌, ℕ, ◌+◌, ◌&&◌, cond, Bool, true, false, List, [], ◌∷◌, sym, subst}
+use Rattle.std.specs.Prelude.{filter}
 use Rattle.std.specs.List.{enumerate_from, AllByRecursion}
-use Rattle.stat_defs.specs.declared.history.Entry.{Entry}
 use Rattle.stat_defs.specs.declared.ids.Kind.{Kind}
 use Rattle.stat_defs.specs.declared.ids.Kind.TheVariants.{Counter}
 use Rattle.stat_defs.specs.declared.ids.MetricId.{MetricId}
@@ -41,16 +40,16 @@ module _ (Q : ℕ → Type 0) (kind : Kind) (passes : ℕ → Bool) where
   of_kind id [] all = tt
   of_kind id (metric ∷ metrics) all =
       by_case (same_kind metric.kind kind) (passes id) (of_kind (id + 1) metrics) all where
-    by_case : (a b : Bool)
-        → (AllByRecursion (λ (i : MetricId). Q i.0) (ids_from (λ m. same_kind m.kind kind) (id + 1) metrics)
-        → AllByRecursion (λ (numbered : NumberedMetric). Q numbered.0) (filter shown (enumerate_from (id + 1) metrics)))
-        → AllByRecursion (λ (i : MetricId). Q i.0)
-        (cond a (record { 0 = id } ∷ ids_from (λ m. same_kind m.kind kind) (id + 1) metrics) (ids_from (λ m. same_kind m.kind kind) (id + 1) metrics))
-        → AllByRecursion (λ (numbered : NumberedMetric). Q numbered.0)
-        (cond (a && b) ((id, metric) ∷ filter shown (enumerate_from (id + 1) metrics)) (filter shown (enumerate_from (id + 1) metrics)))
-    by_case true true rest have = (have.0, rest have.1)
-    by_case true false rest have = rest have.1
-    by_case false b rest have = rest have
+        by_case : (a b : Bool)
+            → (AllByRecursion (λ (i : MetricId). Q i.0) (ids_from (λ m. same_kind m.kind kind) (id + 1) metrics)
+            → AllByRecursion (λ (numbered : NumberedMetric). Q numbered.0) (filter shown (enumerate_from (id + 1) metrics)))
+            → AllByRecursion (λ (i : MetricId). Q i.0)
+            (cond a (record { 0 = id } ∷ ids_from (λ m. same_kind m.kind kind) (id + 1) metrics) (ids_from (λ m. same_kind m.kind kind) (id + 1) metrics))
+            → AllByRecursion (λ (numbered : NumberedMetric). Q numbered.0)
+            (cond (a && b) ((id, metric) ∷ filter shown (enumerate_from (id + 1) metrics)) (filter shown (enumerate_from (id + 1) metrics)))
+        by_case true true rest have = (have.0, rest have.1)
+        by_case true false rest have = rest have.1
+        by_case false b rest have = rest have
 
   all_shown : (s : State) → AllByRecursion (λ (i : MetricId). Q i.0) (ids_made kind s)
       → AllByRecursion (λ (numbered : NumberedMetric). Q numbered.0) (metrics_shown kind passes s)

@@ -64,7 +64,7 @@ numbered_metrics s = enumerate_from 0 (metrics_of s)
 abbrev pub metrics_shown : Kind → (ℕ → Bool) → State → List NumberedMetric
 metrics_shown kind passes s =
     by_name (λ numbered. numbered.1.name)
-        (filter (λ numbered. same_kind numbered.1.kind kind && passes numbered.0) (numbered_metrics s))
+    (filter (λ numbered. same_kind numbered.1.kind kind && passes numbered.0) (numbered_metrics s))
 
 -- the metric of this number was made and is not gone
 abbrev pub has_not_gone : State → ℕ → Bool
