@@ -1,6 +1,6 @@
 -- A histogram's interval has the bins of all values that the flush took of it.
 use Rattle.std.proofs.Common.{◌≡◌, ◌≢◌, ℕ, zero, suc, ◌+◌, ◌<◌, ◌≤◌, ◌==◌, Bool, true, false, cond, List, [], ◌∷◌, ◌++◌, map, length, refl, ap, sym, ◌∙◌, arith, inl, inr, ◌⊎◌}
-use Rattle.std.specs.Prelude.{fold, filter, sum_by, All, get_or}
+use Rattle.std.specs.Prelude.{fold, filter, sum_by, get_or}
 use Rattle.std.specs.List.{flat_map, AllByRecursion, AllPairs}
 use Rattle.std.proofs.lemmas.Bool.Decides.{eqb_tells, leb_tells}
 use Rattle.std.proofs.lemmas.List.{get_or_past}
@@ -10,7 +10,7 @@ use Rattle.stat_defs.specs.declared.bins.Bin.{Bin}
 use Rattle.stat_defs.specs.declared.bins.BinCount.{BinCount}
 use Rattle.stat_defs.specs.declared.reports.Part.{Part}
 use Rattle.loglinear_bins.specs.Bins.{bin_of_value, is_same}
-use Rattle.loglinear_bins.specs.Counts.{count_of, merged, bins_of}
+use Rattle.loglinear_bins.specs.Counts.{count_of, merged}
 use Rattle.loglinear_bins.proofs.Adding.{count_of-merged}
 use Rattle.loglinear_bins.proofs.Values.{AreBinsOf-bins_of}
 use Rattle.merge_round.specs.Halves.{values_on, bins_by}

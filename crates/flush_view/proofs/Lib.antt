@@ -4,3 +4,5 @@ mod Rising
 mod Totals
 mod Intervals
 mod Cumulative
+mod Ends
+mod Shown

@@ -1,11 +1,12 @@
 -- What holds of all views and outputs. This project's own.
-use Rattle.std.specs.Prelude.{◌≡◌, ℕ, ◌||◌, Bool, true, Option, Some, List, map, slice_get}
+use Rattle.std.specs.Prelude.{◌≡◌, ℕ, ◌||◌, Bool, true, Option, Some, List, length, map, slice_get}
 use Rattle.std.specs.List.{list_all, flat_map, AllByRecursion}
 use Rattle.stat_defs.specs.declared.configs.Config.{Config}
 use Rattle.stat_defs.specs.declared.events.Event.{Event}
 use Rattle.stat_defs.specs.declared.history.Call.TheVariants as call
 use Rattle.stat_defs.specs.declared.history.Entry.{Entry}
 use Rattle.stat_defs.specs.declared.history.Reply.TheVariants as reply
+use Rattle.stat_defs.specs.declared.ids.Kind.TheVariants.{Counter}
 use Rattle.stat_defs.specs.declared.metrics.Metric.{Metric}
 use Rattle.stat_defs.specs.declared.reports.FlushRecord.{FlushRecord}
 use Rattle.stat_defs.specs.declared.reports.Part.{Part}
@@ -14,12 +15,12 @@ use Rattle.loglinear_bins.specs.Counts.{AreBinsOf, AreLawful, IsBinList}
 use Rattle.merge_round.specs.Halves.{values_on}
 use Rattle.book_state.specs.State.{NameRules, State, is_gone}
 use Rattle.book_state.specs.Step.{effect}
-use Rattle.ledger.specs.Work.{Work, Recording, recordings}
+use Rattle.ledger.specs.Work.{Work, Recording, recordings, units_of}
 use Rattle.ledger.specs.Flushes.{Fits}
-use Rattle.ledger.specs.Ledger.{RunPlan, Account, ReplayLedger, Direct}
+use Rattle.ledger.specs.Ledger.{RunPlan, HasHistory, Account, ReplayLedger, Direct}
 use Rattle.ledger.specs.OneReport.{without_ends, NoneFailed}
 use Rattle.flush_view.specs.ByName.{SortsByName}
-use Rattle.flush_view.specs.Views.{ViewRules, NumberedMetric, parts_on, merged_parts, view, views}
+use Rattle.flush_view.specs.Views.{ViewRules, NumberedMetric, ends_in, last_state, metrics_shown, counter_row, parts_on, merged_parts, view, views}
 use Rattle.flush_view.specs.Symbols.{is_live_life}
 use Rattle.flush_view.specs.Output.{ViewText, output}
 
@@ -35,8 +36,9 @@ NoEndShown = (text : ViewText) (rules : ViewRules) (symbols : Bool) (one other :
 
 pub record OneOutput : Type 0 where
   -- a replay of these events has one output
-  pub of_events : (text : ViewText) (rules : ViewRules) (symbols : Bool) (contents others : List (Option (List ℕ)))
-      (events : List (List Event)) (plan : RunPlan) (one other : Report)
+  pub of_events : (text : ViewText) (rules : ViewRules) (symbols : Bool)
+      (contents others : List (Option (List ℕ))) (events : List (List Event)) (plan : RunPlan)
+      (one other : Report)
       → ReplayLedger contents events plan one → ReplayLedger others events plan other
       → output text rules symbols one ≡ output text rules symbols other
   -- a replay of these contents has one output, where no read and no opening failed
@@ -54,13 +56,29 @@ IntervalOfValues = (rules : NameRules) (log : List Entry) (last : Bool) (segs : 
 
 -- all parts of a histogram together have the bins of all values that the workers recorded in it
 abbrev pub CumulativeOfAll : Type 0
-CumulativeOfAll = (plan : RunPlan) (workers : List Work) (report : Report) (id : ℕ) → Account plan workers report
+CumulativeOfAll = (plan : RunPlan) (workers : List Work) (report : Report) (id : ℕ)
+    → Account plan workers report
     → AreBinsOf (merged_parts (flat_map (parts_on id) report.flushes))
     (flat_map (λ work. values_on id (recordings work)) workers)
 
--- a sum of lawful parts is lawful, rises and has no empty bin, also where a part does not rise or has empty bins
+-- each worker has one end in the log, so the views replay it with the workers that it has
+abbrev pub EndsOfWorkers : Type 0
+EndsOfWorkers = (plan : RunPlan) (workers : List Work) (report : Report) → HasHistory plan workers report
+    → ends_in report.log ≡ length workers
+
+-- with all flushes, the total of each counter that is shown is the units that all workers added to it
+abbrev pub TotalsOfUnits : Type 0
+TotalsOfUnits = (plan : RunPlan) (workers : List Work) (report : Report) (flush : FlushRecord)
+    (passes : ℕ → Bool)
+    → HasHistory plan workers report → Account plan workers report
+    → AllByRecursion (λ numbered.
+    (counter_row flush report.flushes numbered).total ≡ units_of numbered.0 workers)
+    (metrics_shown Counter passes (last_state plan.rules report.log))
+
+-- a sum of lawful parts is lawful, rises and has no empty bin, also where a part does not rise or has some
 abbrev pub SumsRise : Type 0
-SumsRise = (parts : List Part) → AllByRecursion (λ part. AreLawful part.bins) parts → IsBinList (merged_parts parts)
+SumsRise = (parts : List Part) → AllByRecursion (λ part. AreLawful part.bins) parts
+    → IsBinList (merged_parts parts)
 
 -- rows and symbols stand in their order, and in no other
 pub record OneOrder : Type 0 where

@@ -15,7 +15,8 @@ use Rattle.flush_view.specs.Symbols.{live_metrics, symbol_line}
 abbrev pub ViewText : Type 0
 ViewText = FlushView → List ℕ
 
--- `# flush K` for each flush but the last, and `# last`, each with the text of its view; the first of these is flush k
+-- `# flush K` for each flush but the last, and `# last`, each with the text of its view; k is the first one's
+-- number
 abbrev pub flush_sections : ViewText → ℕ → List FlushView → List (List ℕ)
 flush_sections text k [] = []
 flush_sections text k (last ∷ []) = codes "# last\n" ∷ text last ∷ []
@@ -27,7 +28,8 @@ abbrev pub read_line : ℕ × ReadRecord → List ℕ
 read_line (j, read) =
     codes "# read " ++ (decimal j
     ++ (codes ": " ++ (decimal (length read.counters)
-    ++ (codes " counters, " ++ (decimal (sum_by (λ reading. reading.word) read.counters) ++ codes " units\n")))))
+    ++ (codes " counters, " ++ (decimal (sum_by (λ reading. reading.word) read.counters)
+    ++ codes " units\n")))))
 
 -- `# symbols` and its rows, where they were asked for
 abbrev pub symbol_sections : Bool → State → List (List ℕ)
@@ -49,7 +51,8 @@ abbrev pub worker_line : ℕ × List Verdict → List ℕ
 worker_line (w, verdicts) =
     codes "# worker " ++ (decimal w
     ++ (codes ": " ++ (decimal (count_by took_effect verdicts)
-    ++ (codes " accepted, " ++ (decimal (count_by (λ v. not (took_effect v)) verdicts) ++ codes " dropped\n")))))
+    ++ (codes " accepted, " ++ (decimal (count_by (λ v. not (took_effect v)) verdicts)
+    ++ codes " dropped\n")))))
 
 -- the sections of the output in order: flushes, readings, symbols where they were asked for, and files
 abbrev pub sections : ViewText → ViewRules → Bool → Report → List (List ℕ)

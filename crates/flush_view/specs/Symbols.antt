@@ -1,5 +1,5 @@
--- The rows of `# symbols`: the metrics that are live after the last sweep, with the symbols of their names (Envoy's
--- design note on statistics: a name is stored as symbol numbers; the form of the rows is this project's own).
+-- The rows of `# symbols`: the metrics that are live after the last sweep, with the symbols of their names
+-- (Envoy's design note on statistics: a name is stored as symbol numbers; the rows are this project's own).
 use Rattle.std.specs.Prelude.{ℕ, ◌&&◌, Bool, true, false, List, [], ◌∷◌, ◌++◌, filter, codes}
 use Rattle.std.specs.List.{flat_map, zip}
 use Rattle.std.specs.Fmt.{decimal}

@@ -1,5 +1,5 @@
--- What one flush of a report shows (Envoy's statistics overview: counters, gauges, histograms and text readouts at each
--- flush; which of them have a row, and in which order, is this project's own).
+-- What one flush of a report shows (Envoy's statistics overview: counters, gauges, histograms and text
+-- readouts at each flush; which of them have a row, and in which order, is this project's own).
 use Rattle.std.specs.Prelude.{◌≡◌, ℕ, suc, ◌==◌, ◌&&◌, ◌||◌, nat_lt, Bool, false, Option, Some, option_map, List, [], ◌∷◌, ◌++◌, map, filter, fold, take, slice_get, count_by, sum_by}
 use Rattle.std.specs.Int.{w64, cast_signed}
 use Rattle.std.specs.List.{enumerate_from, flat_map, list_any}
@@ -60,7 +60,7 @@ NumberedMetric = ℕ × Metric
 abbrev pub numbered_metrics : State → List NumberedMetric
 numbered_metrics s = enumerate_from 0 (metrics_of s)
 
--- the metrics of this kind whose numbers pass, in byte order of full names, and those of one name by their numbers
+-- the metrics of this kind whose numbers pass, in byte order of full names, and those of one name by number
 abbrev pub metrics_shown : Kind → (ℕ → Bool) → State → List NumberedMetric
 metrics_shown kind passes s =
     by_name (λ numbered. numbered.1.name)
@@ -124,8 +124,8 @@ histogram_row bounds flush so_far numbered = record {
   bounds = bounds numbered.1.name;
 }
 
--- A flush shows each metric that was not gone before its sweep, each counter with units in it, and each histogram with a
--- part in it. Names, kinds and tags are those of the whole log.
+-- A flush shows each metric that was not gone before its sweep, each counter with units in it, and each
+-- histogram with a part in it. Names, kinds and tags are those of the whole log.
 abbrev pub view_of : ViewRules → List Entry → FlushRecord → List FlushRecord → FlushView
 view_of rules log flush so_far =
     let before = state_before rules.names log flush in

@@ -42,7 +42,8 @@ one_7 = record { bin = record { val = 70; exp = pos 0 }; count = 1 } ∷ []
 abbrev pub no_rows : FlushView
 no_rows = record { counters = []; gauges = []; texts = []; histograms = [] }
 
--- the one flush of a report shows this, whatever its text is, and this stands behind it, without symbols and with them
+-- the one flush of a report shows this, whatever its text is, and these stand behind it: symbols where they
+-- are asked for, and workers' lines
 pub record IsShown (report : Report) (shown : FlushView) (symbols workers : List ℕ) : Type 0 where
   pub shows : view plain_view report.log report.flushes 0 ≡ Some shown
   pub none_behind : view plain_view report.log report.flushes 1 ≡ None

@@ -9,9 +9,7 @@ use Rattle.stat_defs.specs.declared.events.Key.{Key}
 use Rattle.stat_defs.specs.declared.history.Call.TheVariants as call
 use Rattle.stat_defs.specs.declared.history.Entry.{Entry}
 use Rattle.stat_defs.specs.declared.history.Reply.TheVariants as reply
-use Rattle.stat_defs.specs.declared.ids.Kind.{Kind}
 use Rattle.stat_defs.specs.declared.ids.Kind.TheVariants.{Counter, Gauge, Histogram, Text}
-use Rattle.stat_defs.specs.declared.ids.Mode.{Mode}
 use Rattle.stat_defs.specs.declared.ids.Mode.TheVariants.{Uninit, Never}
 use Rattle.stat_defs.specs.declared.metrics.Tagged.{Tagged}
 use Rattle.stat_defs.specs.declared.reports.FlushRecord.{FlushRecord}
@@ -19,6 +17,7 @@ use Rattle.stat_defs.specs.declared.reports.Part.{Part}
 use Rattle.stat_defs.specs.declared.views.FlushView.{FlushView}
 use Rattle.tag_rules.specs.Bounds.{bounds_for}
 use Rattle.tag_rules.specs.Tagging.{tagged}
+use Rattle.book_state.specs.Follows.{key_in}
 use Rattle.book_state.specs.Log.{openings, Legal}
 use Rattle.book_state.specs.Worked.{plain, root_alone, opens, makes, releases, acks, ends, sweeps}
 use Rattle.ledger.specs.Worked.{delta, reading, makes_key, finds_key}
@@ -40,7 +39,7 @@ made_again = openings 0 root_alone
     ∷ sweeps 0
     ∷ []
 
--- the first flush has 1 unit of the counter that it makes gone, and the last so many more of it, and 3 of the other
+-- the first flush has 1 unit of the counter that it makes gone, and the last so many more, and 3 of the other
 abbrev pub flushes_again : ℕ → List FlushRecord
 flushes_again left = record { at = 5; deltas = delta 0 1 ∷ []; gauges = []; parts = [] }
     ∷ record { at = 9; deltas = delta 0 left ∷ delta 1 3 ∷ []; gauges = []; parts = [] }
@@ -51,7 +50,7 @@ first_again = record no_rows { counters = counter_with (codes "t.u") 1 1 ∷ [] 
 
 pub record GoneAndMadeAgain : Type 0 where
   pub legal : Legal plain root_alone 1 made_again
-  -- a counter that is gone has a row where it has units, before the later one of its name, and none where it has not
+  -- a counter that is gone has a row where it has units, before the later one of its name, and else none
   pub units_left : views plain_view made_again (flushes_again 2)
       ≡ first_again
       ∷ record no_rows { counters = counter_with (codes "t.u") 2 3 ∷ counter_with (codes "t.u") 3 3 ∷ [] }
@@ -61,20 +60,21 @@ pub record GoneAndMadeAgain : Type 0 where
       ∷ record no_rows { counters = counter_with (codes "t.u") 3 3 ∷ [] }
       ∷ []
 
-abbrev pub key_in_root : Kind → Mode → List ℕ → Key
-key_in_root kind mode name = record { label = codes "root"; kind = kind; mode = mode; name = name }
-
 abbrev pub sets_readout : ℕ → List ℕ → Entry
-sets_readout id text = record { seat = 1; call = call.SetText (record { 0 = id }) text; reply = reply.TextSet }
+sets_readout id text = record {
+  seat = 1;
+  call = call.SetText (record { 0 = id }) text;
+  reply = reply.TextSet;
+}
 
 -- a text is set before a sweep and behind it, and a histogram is made behind it
 abbrev pub two_texts : List Entry
 two_texts = openings 0 root_alone
-    ++ makes_key 1 (key_in_root Text Uninit (codes "r")) 0 1
+    ++ makes_key 1 (key_in (codes "root") Text Uninit (codes "r")) 0 1
     ∷ sets_readout 0 (codes "x")
     ∷ sweeps 0
-    ∷ makes_key 1 (key_in_root Histogram Uninit (codes "h_ms")) 1 2
-    ∷ finds_key 2 (key_in_root Histogram Uninit (codes "h_ms")) 1
+    ∷ makes_key 1 (key_in (codes "root") Histogram Uninit (codes "h_ms")) 1 2
+    ∷ finds_key 2 (key_in (codes "root") Histogram Uninit (codes "h_ms")) 1
     ∷ sets_readout 0 (codes "y")
     ∷ ends 1
     ∷ ends 2
@@ -100,10 +100,14 @@ flushes_with_parts = record { at = 3; deltas = []; gauges = []; parts = first_pa
 abbrev pub one_bound : List Bound
 one_bound = record { halves = 20 } ∷ []
 
--- one tag of a fixed value, and a bound for names that end in `_ms`
+-- one tag of a fixed value
+abbrev pub region_tagged : List ℕ → Tagged
+region_tagged = tagged (record { tag_name = codes "region"; rule = Fixed (codes "eu-1") } ∷ [])
+
+-- that tag, and a bound for names that end in `_ms`
 abbrev pub with_settings : ViewRules
 with_settings = record {
-  names = record plain { tagged = tagged (record { tag_name = codes "region"; rule = Fixed (codes "eu-1") } ∷ []) };
+  names = record plain { tagged = region_tagged };
   bounds = bounds_for (record { pattern = Suffix (codes "_ms"); bounds = one_bound } ∷ []);
 }
 
@@ -125,12 +129,14 @@ text_and_bins text interval cumulative = record no_rows {
   } ∷ [];
 }
 
--- The first flush shows the text that was set before its sweep, and the histogram that was made behind it, as it has
--- parts of it; the parts of two workers are one sum. The last flush shows the later text, and all bins, rising.
+-- The first flush shows the text that was set before its sweep, and the histogram that was made behind it, as
+-- it has parts of it; the parts of two workers are one sum. The last flush shows the later text, and all
+-- bins, rising.
 pub record TextsAndParts : Type 0 where
   pub legal : Legal with_settings.names root_alone 2 two_texts
   pub shows : views with_settings two_texts flushes_with_parts
-      ≡ text_and_bins (codes "x") (bin_count 10 1 ∷ bin_count 70 3 ∷ []) (bin_count 10 1 ∷ bin_count 70 3 ∷ [])
+      ≡ text_and_bins (codes "x")
+      (bin_count 10 1 ∷ bin_count 70 3 ∷ []) (bin_count 10 1 ∷ bin_count 70 3 ∷ [])
       ∷ text_and_bins (codes "y")
       (bin_count 20 4 ∷ []) (bin_count 10 1 ∷ bin_count 20 4 ∷ bin_count 70 3 ∷ [])
       ∷ []
@@ -145,11 +151,11 @@ makes_numbered key id numbers = record {
 -- three kinds have one name
 abbrev pub of_one_name : List Entry
 of_one_name = openings 0 root_alone
-    ++ makes_numbered (key_in_root Text Uninit (codes "a")) 0 (1 ∷ [])
-    ∷ makes_numbered (key_in_root Gauge Never (codes "a")) 1 (1 ∷ [])
-    ∷ makes_numbered (key_in_root Counter Uninit (codes "b")) 2 (2 ∷ [])
-    ∷ makes_numbered (key_in_root Counter Uninit (codes "a")) 3 (1 ∷ [])
-    ∷ makes_numbered (key_in_root Histogram Uninit (codes "a.b")) 4 (1 ∷ 2 ∷ [])
+    ++ makes_numbered (key_in (codes "root") Text Uninit (codes "a")) 0 (1 ∷ [])
+    ∷ makes_numbered (key_in (codes "root") Gauge Never (codes "a")) 1 (1 ∷ [])
+    ∷ makes_numbered (key_in (codes "root") Counter Uninit (codes "b")) 2 (2 ∷ [])
+    ∷ makes_numbered (key_in (codes "root") Counter Uninit (codes "a")) 3 (1 ∷ [])
+    ∷ makes_numbered (key_in (codes "root") Histogram Uninit (codes "a.b")) 4 (1 ∷ 2 ∷ [])
     ∷ ends 1
     ∷ sweeps 0
     ∷ []

@@ -1,5 +1,5 @@
 //! Laws of views and outputs, which hold without any call. Each function does nothing.
-ghost use Rattle.flush_view.specs.Laws.{ViewOfEach, NoEndShown, OneOutput, IntervalOfValues, CumulativeOfAll, SumsRise, OneOrder, NoneRetired};
+ghost use Rattle.flush_view.specs.Laws.{ViewOfEach, NoEndShown, OneOutput, IntervalOfValues, CumulativeOfAll, EndsOfWorkers, TotalsOfUnits, SumsRise, OneOrder, NoneRetired};
 
 /// A law: the views of all flushes are those of each flush.
 pub fn view_of_each()
@@ -27,6 +27,18 @@ pub fn interval_of_values()
 /// were recorded in it.
 pub fn cumulative_of_all()
     ensures { CumulativeOfAll }
+{}
+
+/// A law: in a log that the ledger's second part holds of, each worker has one end. So a view, which counts
+/// the ends, replays the log with the workers that it has.
+pub fn ends_of_workers()
+    ensures { EndsOfWorkers }
+{}
+
+/// A law: where the flushes account for all, the total of each counter's row in the last view is the units
+/// of all accepted increments of that counter.
+pub fn totals_of_units()
+    ensures { TotalsOfUnits }
 {}
 
 /// A law: the bins of a histogram's row are lawful, rise and are not empty, as the texts want them.
