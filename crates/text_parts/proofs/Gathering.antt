@@ -1,7 +1,6 @@
 -- A text that is gathered and pushed piece by piece.
-use Rattle.std.proofs.Common.{◌≡◌, ℕ, Option, List, [], ◌++◌, length, refl, sym, ◌∙◌, ap, subst, append_assoc, append-nil}
+use Rattle.std.proofs.Common.{ℕ, List, [], ◌++◌, refl, sym, ◌∙◌, ap, subst, append_assoc}
 use Rattle.std.proofs.KnownBytes.{Appends-nil}
-use Rattle.std.specs.Io.KnownBytes.{Appends}
 use Rattle.stats_io.specs.States.{SinkState}
 use Rattle.stats_io.specs.Push.{AppendsFront, WritesWhole, WritesFront}
 use Rattle.stats_io.proofs.Front.{front_whole, cut_first, cut_next, whole_next}
