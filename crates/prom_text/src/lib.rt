@@ -5,7 +5,6 @@ ghost use Rattle.std.specs.Prelude.{◌≡◌, ◌≤◌, ◌++◌, OnOk, option
 ghost use Rattle.std.specs.List.{All};
 ghost use Rattle.text_parts.specs.Answer.{IsTextAnswer};
 ghost use Rattle.text_parts.specs.Histograms.{HasHistograms};
-ghost use Rattle.prom_text.specs.Members.{same_group};
 ghost use Rattle.prom_text.specs.Prometheus.{prom_text, HasHistogram};
 ghost use Rattle.prom_text.specs.Rows.{member_of, begins_group as the_begin, member_text, text_from};
 

@@ -1,10 +1,14 @@
-use Rattle.std.proofs.Common.{◌≡◌, ◌++◌, ◌∙◌, ap, sym, arith}
+use Rattle.std.proofs.Common.{◌≡◌, ◌≤◌, ◌++◌, ◌∙◌, ap, sym, arith}
+use Rattle.std.proofs.lemmas.List.Elements.{All-from_recursion}
 use Rattle.loglinear_bins.specs.Counts.{total}
-use Rattle.admin_read.proofs.Quantiles.{quantiles_within, text_of_none}
+use Rattle.admin_read.specs.declared.lines.TheConstants.{QUANTILES}
+use Rattle.admin_read.proofs.Quantiles.{text_of_none}
 use Rattle.admin_read.proofs.lines.put_quantiles.Goals as goal
 
 pub put_parts-requires : goal.put_parts-requires
-put_parts-requires c = quantiles_within
+put_parts-requires c =
+    All-from_recursion (λ q. q ≤ 1000) QUANTILES
+    (omega arith, (omega arith, (omega arith, (omega arith, (omega arith, (omega arith, (omega arith, (omega arith, (omega arith, (omega arith, tt))))))))))
 
 pub returns-then-count-eq0 : goal.returns-then-count-eq0
 returns-then-count-eq0 c =
