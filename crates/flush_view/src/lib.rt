@@ -10,6 +10,6 @@ pub use laws::{
     one_output, sums_rise, totals_of_units, view_of_each,
 };
 pub use worked::{
-    a_name_made_again, a_released_scope, a_subtraction, gauge_moves, names_in_order,
-    shared_symbols, texts_and_parts, two_increments, two_workers, values_and_texts,
+    a_name_made_again, a_released_scope, a_retired_gauge, a_subtraction, gauge_moves,
+    names_in_order, shared_symbols, texts_and_parts, two_increments, two_workers, values_and_texts,
 };
