@@ -20,7 +20,7 @@ use Rattle.ledger.specs.Flushes.{Fits}
 use Rattle.ledger.specs.Ledger.{RunPlan, HasHistory, Account, ReplayLedger, Direct}
 use Rattle.ledger.specs.OneReport.{without_ends, NoneFailed}
 use Rattle.flush_view.specs.ByName.{SortsByName}
-use Rattle.flush_view.specs.Views.{ViewRules, NumberedMetric, ends_in, last_state, metrics_shown, counter_row, parts_on, merged_parts, view, views}
+use Rattle.flush_view.specs.Views.{ViewRules, NumberedMetric, row_name, ends_in, last_state, metrics_shown, counter_row, parts_on, merged_parts, view, views}
 use Rattle.flush_view.specs.Symbols.{is_live_life}
 use Rattle.flush_view.specs.Output.{ViewText, output}
 
@@ -82,7 +82,7 @@ SumsRise = (parts : List Part) → AllByRecursion (λ part. AreLawful part.bins)
 
 -- rows and symbols stand in their order, and in no other
 pub record OneOrder : Type 0 where
-  pub rows : SortsByName NumberedMetric (λ numbered. numbered.1.name)
+  pub rows : SortsByName NumberedMetric row_name
   pub symbols : SortsByName Metric (λ metric. metric.name)
 
 -- after a sweep behind the ends of all workers no metric is retired
