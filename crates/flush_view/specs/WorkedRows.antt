@@ -100,11 +100,11 @@ flushes_of_retired = gauge_record 4 (reading 0 5 ∷ [])
 abbrev pub retired_shown : FlushView
 retired_shown = record no_rows { gauges = gauge_at (codes "t.g") (pos 5) ∷ [] }
 
--- a retired gauge has a row, also in the flush whose sweep makes it gone, and none behind that; it has no row of
--- symbols
+-- a retired gauge has a row, also in the flush whose sweep makes it gone, and none behind that
 pub record RetiredShown : Type 0 where
   pub legal : Legal plain root_alone 1 gauge_retired
   pub shows : views plain_view gauge_retired flushes_of_retired ≡ retired_shown ∷ retired_shown ∷ no_rows ∷ []
+  -- it has no row of symbols while it is retired
   pub no_symbol : live_metrics (replay plain 1 (take 4 gauge_retired)) ≡ []
 
 -- a text is set before a sweep and behind it, and a histogram is made behind it
