@@ -6,3 +6,4 @@ mod Intervals
 mod Cumulative
 mod Ends
 mod Shown
+mod Made

@@ -1,11 +1,13 @@
 -- A list is put in order by names in one way.
-use Rattle.std.proofs.Common.{◌≡◌, ℕ, zero, suc, ◌+◌, ◌&&◌, not, Bool, true, false, cond, List, [], ◌∷◌, refl, ap, sym, subst, ◌∙◌, arith, inl, inr, ◌⊎◌}
+use Rattle.std.proofs.Common.{◌≡◌, ℕ, zero, suc, ◌+◌, ◌&&◌, not, Bool, true, false, cond, List, [], ◌∷◌, refl, ap, sym, subst, ◌∙◌, arith, inl, inr}
 use Rattle.std.specs.Prelude.{filter}
 use Rattle.std.specs.Cmp.{IsStrictWeakOrder}
 use Rattle.std.specs.List.Sorted.{IsSortedBy, ties}
+use Rattle.std.proofs.lemmas.Bool.{cases_Bool}
 use Rattle.std.proofs.lemmas.Cmp.{nat_list_cmp_total}
 use Rattle.std.proofs.lemmas.List.MinMax.{ranks_by}
 use Rattle.book_state.proofs.Lists.{true_false}
+use Rattle.ledger.proofs.Lists.{nil_cons, cons_same, head_same, tail_same}
 use Rattle.flush_view.specs.ByName.{comes_before, put_by_name, by_name, SortsByName}
 
 both_false : (a b : Bool) → (not a && not b) ≡ true → (a ≡ false) × (b ≡ false)
@@ -18,23 +20,7 @@ and_so true b e f = absurd (true_false e)
 and_so false true e f = absurd (true_false f)
 and_so false false e f = refl
 
-either : (b : Bool) → (b ≡ true) ⊎ (b ≡ false)
-either true = inl refl
-either false = inr refl
-
 module _ {X : Type 0} where
-  not_cons : (x : X) (xs : List X) → [] ≡ x ∷ xs → ⊥
-  not_cons x xs e = subst (λ l. elim l as (λ _. Type 0) [ [] ↦ Unit {0} | y ∷ ys ↦ ⊥ ]) e tt
-
-  heads : (x y : X) (xs ys : List X) → x ∷ xs ≡ y ∷ ys → x ≡ y
-  heads x y xs ys e = ap (λ l. elim l as (λ _. X) [ [] ↦ x | z ∷ zs ↦ z ]) e
-
-  tails : (x y : X) (xs ys : List X) → x ∷ xs ≡ y ∷ ys → xs ≡ ys
-  tails x y xs ys e = ap (λ l. elim l as (λ _. List X) [ [] ↦ xs | z ∷ zs ↦ zs ]) e
-
-  cons_same : (x y : X) (xs ys : List X) → x ≡ y → xs ≡ ys → x ∷ xs ≡ y ∷ ys
-  cons_same x y xs ys e f = cc
-
   -- of two members of which one alone is kept the order does not matter
   one_kept : (x y : X) (zs : List X) (a b : Bool) → (a ≡ true → b ≡ true → ⊥)
       → cond b (y ∷ cond a (x ∷ zs) zs) (cond a (x ∷ zs) zs) ≡ cond a (x ∷ cond b (y ∷ zs) zs) (cond b (y ∷ zs) zs)
@@ -44,7 +30,7 @@ module _ {X : Type 0} where
   one_kept x y zs false false apart = refl
 
   same_kept : (x y : X) (xs ys : List X) (a b : Bool) → x ≡ y → a ≡ b → cond a (x ∷ xs) xs ≡ cond b (y ∷ ys) ys → xs ≡ ys
-  same_kept x y xs ys true true e f same = tails x y xs ys same
+  same_kept x y xs ys true true e f same = tail_same x y xs ys same
   same_kept x y xs ys false false e f same = same
   same_kept x y xs ys true false e f same = absurd (true_false f)
   same_kept x y xs ys false true e f same = absurd (true_false (sym f))
@@ -57,7 +43,7 @@ module _ {X : Type 0} (name : X → List ℕ) where
   ranks = ranks_by nat_list_cmp_total name
 
   never : (x : X) → lt x x ≡ false
-  never x = elim (either (lt x x)) [ inl e ↦ ranks.one_way x x e | inr e ↦ e ]
+  never x = elim (cases_Bool (lt x x)) [ inl e ↦ ranks.one_way x x e | inr e ↦ e ]
 
   abbrev Rises : X → List X → Type 0
   Rises x [] = Unit {0}
@@ -95,14 +81,14 @@ module _ {X : Type 0} (name : X → List ℕ) where
 
   put-rises : (z x : X) (ys : List X) → Rises z ys → lt x z ≡ false → Rises z (put_by_name name x ys)
   put-rises z x [] rise above = (above, tt)
-  put-rises z x (y ∷ ys) rise above = elim (either (lt y x)) [
+  put-rises z x (y ∷ ys) rise above = elim (cases_Bool (lt y x)) [
     | inl e ↦ subst (λ b. Rises z (step x y ys b)) (sym e) (rise.0, put-rises y x ys rise.1 (ranks.one_way y x e))
     | inr e ↦ subst (λ b. Rises z (step x y ys b)) (sym e) (above, (e, rise.1))
   ]
 
   put-all_rise : (x : X) (ys : List X) → AllRise ys → AllRise (put_by_name name x ys)
   put-all_rise x [] rise = tt
-  put-all_rise x (y ∷ ys) rise = elim (either (lt y x)) [
+  put-all_rise x (y ∷ ys) rise = elim (cases_Bool (lt y x)) [
     | inl e ↦ subst (λ b. AllRise (step x y ys b)) (sym e) (put-rises y x ys rise (ranks.one_way y x e))
     | inr e ↦ subst (λ b. AllRise (step x y ys b)) (sym e) (e, rise)
   ]
@@ -116,7 +102,7 @@ module _ {X : Type 0} (name : X → List ℕ) where
 
   put-stable : (z x : X) (ys : List X) → filter (ties lt z) (put_by_name name x ys) ≡ filter (ties lt z) (x ∷ ys)
   put-stable z x [] = refl
-  put-stable z x (y ∷ ys) = elim (either (lt y x)) [
+  put-stable z x (y ∷ ys) = elim (cases_Bool (lt y x)) [
     | inl e ↦ subst (λ b. filter (ties lt z) (step x y ys b) ≡ filter (ties lt z) (x ∷ y ∷ ys)) (sym e)
         (ap (λ (l : List X). cond (ties lt z y) (y ∷ l) l) (put-stable z x ys)
         ∙ one_kept x y (filter (ties lt z) ys) (ties lt z x) (ties lt z y) (no_third z x y e))
@@ -129,8 +115,8 @@ module _ {X : Type 0} (name : X → List ℕ) where
 
   -- where some member ties with u, u is not below what all members are not below
   not_below : (u x : X) (ys : List X) (w : X) (ws : List X) → Rises x ys → filter (ties lt u) ys ≡ w ∷ ws → lt u x ≡ false
-  not_below u x [] w ws rise some = absurd (not_cons w ws some)
-  not_below u x (y ∷ ys) w ws rise some = elim (either (ties lt u y)) [
+  not_below u x [] w ws rise some = absurd (nil_cons w ws some)
+  not_below u x (y ∷ ys) w ws rise some = elim (cases_Bool (ties lt u y)) [
     | inl e ↦ ranks.chain u y x (both_false (lt u y) (lt y u) e).0 rise.0
     | inr e ↦ ranks.chain u y x (not_below u y ys w ws rise.1 (subst (λ b. cond b (y ∷ filter (ties lt u) ys) (filter (ties lt u) ys) ≡ w ∷ ws) e some)) rise.0
   ]
@@ -143,13 +129,13 @@ module _ {X : Type 0} (name : X → List ℕ) where
 
   same : (xs ys : List X) → AllRise xs → AllRise ys → ((z : X) → filter (ties lt z) xs ≡ filter (ties lt z) ys) → xs ≡ ys
   same [] [] a b kept = refl
-  same [] (y ∷ ys) a b kept = absurd (not_cons y (filter (ties lt y) ys) (kept y ∙ itself y ys))
-  same (x ∷ xs) [] a b kept = absurd (not_cons x (filter (ties lt x) xs) (sym (kept x) ∙ itself x xs))
+  same [] (y ∷ ys) a b kept = absurd (nil_cons y (filter (ties lt y) ys) (kept y ∙ itself y ys))
+  same (x ∷ xs) [] a b kept = absurd (nil_cons x (filter (ties lt x) xs) (sym (kept x) ∙ itself x xs))
   same (x ∷ xs) (y ∷ ys) a b kept =
       let there = sym (kept x) ∙ itself x xs in
       let here = kept y ∙ itself y ys in
       let tie : ties lt x y ≡ true = and_so (lt x y) (lt y x) (not_below_first x y ys x (filter (ties lt x) xs) b there) (not_below_first y x xs y (filter (ties lt y) ys) a here) in
-      let first : x ≡ y = sym (heads y x (filter (ties lt x) ys) (filter (ties lt x) xs) (sym (ap (λ b. cond b (y ∷ filter (ties lt x) ys) (filter (ties lt x) ys)) tie) ∙ there)) in
+      let first : x ≡ y = sym (head_same y x (filter (ties lt x) ys) (filter (ties lt x) xs) (sym (ap (λ b. cond b (y ∷ filter (ties lt x) ys) (filter (ties lt x) ys)) tie) ∙ there)) in
       cons_same x y xs ys first (same xs ys (rest x xs a) (rest y ys b) (λ z.
       same_kept x y (filter (ties lt z) xs) (filter (ties lt z) ys) (ties lt z x) (ties lt z y) first (ap (λ v. ties lt z v) first) (kept z)))
     where

@@ -1,8 +1,9 @@
 -- A sum of parts is lawful, rises and has no empty bin.
-use Rattle.std.proofs.Common.{◌≡◌, ℕ, zero, suc, ◌+◌, ◌<◌, ◌≤◌, ◌&&◌, Bool, true, false, cond, List, [], ◌∷◌, map, nat_lt, refl, ap, sym, subst, ◌∙◌, arith, inl, inr, ◌⊎◌}
+use Rattle.std.proofs.Common.{◌≡◌, ℕ, zero, suc, ◌+◌, ◌<◌, ◌≤◌, ◌&&◌, Bool, true, false, cond, List, [], ◌∷◌, map, nat_lt, refl, ap, sym, subst, ◌∙◌, arith, inl, inr}
 use Rattle.std.specs.Prelude.{fold}
 use Rattle.std.specs.List.{list_all, AllByRecursion}
 use Rattle.std.specs.List.Sorted.{IsStrictlyIncreasing}
+use Rattle.std.proofs.lemmas.Bool.{cases_Bool}
 use Rattle.std.proofs.lemmas.Bool.Decides.{eqb_tells, leb_tells, Decides-ltb}
 use Rattle.stat_defs.specs.declared.bins.Bin.{Bin}
 use Rattle.stat_defs.specs.declared.bins.BinCount.{BinCount}
@@ -15,11 +16,7 @@ use Rattle.loglinear_bins.proofs.Places.{is_same-refl, bin_at-place_of}
 use Rattle.book_state.proofs.Lists.{both, true_false}
 use Rattle.flush_view.specs.Views.{merged_parts}
 
-either : (b : Bool) → (b ≡ true) ⊎ (b ≡ false)
-either true = inl refl
-either false = inr refl
-
-and_so : (a b : Bool) → a ≡ true → b ≡ true → (a && b) ≡ true
+pub and_so : (a b : Bool) → a ≡ true → b ≡ true → (a && b) ≡ true
 and_so true b e f = f
 and_so false b e f = absurd (true_false (sym e))
 
@@ -75,13 +72,13 @@ module _ (bin : Bin) (n : ℕ) (is : is_lawful bin ≡ true) where
       let lawful = both (is_lawful c.bin) (list_all (λ x. is_lawful x.bin) cs) good.lawful in
       let some = both (nat_lt 0 c.count) (list_all (λ x. nat_lt 0 x.count) cs) good.some in
       let tail : Good (low_tenths c.bin + 1) cs = record { lawful = lawful.1; some = some.1; rise = good.rise.1 } in
-      elim (either (is_same c.bin bin)) [
+      elim (cases_Bool (is_same c.bin bin)) [
         | inl same ↦ subst (λ b. Good lo (step c cs bin (suc n) b (nat_lt (low_tenths bin) (low_tenths c.bin)))) (sym same) (record {
           lawful = good.lawful;
           some = and_so (nat_lt 0 (c.count + suc n)) (list_all (λ x. nat_lt 0 x.count) cs) (more c.count) some.1;
           rise = good.rise;
         })
-        | inr other ↦ subst (λ b. Good lo (step c cs bin (suc n) b (nat_lt (low_tenths bin) (low_tenths c.bin)))) (sym other) (elim (either (nat_lt (low_tenths bin) (low_tenths c.bin))) [
+        | inr other ↦ subst (λ b. Good lo (step c cs bin (suc n) b (nat_lt (low_tenths bin) (low_tenths c.bin)))) (sym other) (elim (cases_Bool (nat_lt (low_tenths bin) (low_tenths c.bin))) [
           | inl less ↦
               let below = (Decides-ltb (low_tenths bin) (low_tenths c.bin)).0 less in
               subst (λ b. Good lo (step c cs bin (suc n) false b)) (sym less) (record {

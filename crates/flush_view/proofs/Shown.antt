@@ -14,7 +14,7 @@ use Rattle.ledger.specs.Flushes.{ids_made, flushed}
 use Rattle.ledger.specs.Ledger.{RunPlan, HasHistory, Account}
 use Rattle.ledger.specs.Work.{Work, units_of}
 use Rattle.flush_view.specs.ByName.{comes_before, put_by_name, by_name}
-use Rattle.flush_view.specs.Views.{NumberedMetric, metrics_shown, last_state}
+use Rattle.flush_view.specs.Views.{NumberedMetric, row_name, metrics_shown, last_state}
 use Rattle.flush_view.proofs.Ends.{ends_of_workers}
 
 module _ {X : Type 0} (P : X → Type 0) (name : X → List ℕ) where
@@ -54,7 +54,7 @@ module _ (Q : ℕ → Type 0) (kind : Kind) (passes : ℕ → Bool) where
   all_shown : (s : State) → AllByRecursion (λ (i : MetricId). Q i.0) (ids_made kind s)
       → AllByRecursion (λ (numbered : NumberedMetric). Q numbered.0) (metrics_shown kind passes s)
   all_shown s all =
-      sorted_all (λ (numbered : NumberedMetric). Q numbered.0) (λ numbered. numbered.1.name) (filter shown (enumerate_from 0 (metrics_of s)))
+      sorted_all (λ (numbered : NumberedMetric). Q numbered.0) row_name (filter shown (enumerate_from 0 (metrics_of s)))
       (of_kind 0 (metrics_of s) all)
 
 pub last_totals : (plan : RunPlan) (workers : List Work) (report : Report) (passes : ℕ → Bool)

@@ -2,7 +2,9 @@
 use Rattle.std.specs.Prelude.{◌≡◌, ℕ, ◌||◌, Bool, true, Option, Some, List, length, map, slice_get}
 use Rattle.std.specs.List.{list_all, flat_map, AllByRecursion}
 use Rattle.stat_defs.specs.declared.configs.Config.{Config}
+use Rattle.stat_defs.specs.declared.configs.ScopeSpec.{ScopeSpec}
 use Rattle.stat_defs.specs.declared.events.Event.{Event}
+use Rattle.stat_defs.specs.declared.events.Key.{Key}
 use Rattle.stat_defs.specs.declared.history.Call.TheVariants as call
 use Rattle.stat_defs.specs.declared.history.Entry.{Entry}
 use Rattle.stat_defs.specs.declared.history.Reply.TheVariants as reply
@@ -11,16 +13,18 @@ use Rattle.stat_defs.specs.declared.metrics.Metric.{Metric}
 use Rattle.stat_defs.specs.declared.reports.FlushRecord.{FlushRecord}
 use Rattle.stat_defs.specs.declared.reports.Part.{Part}
 use Rattle.stat_defs.specs.declared.reports.Report.{Report}
+use Rattle.stat_defs.specs.Names.{tokens}
 use Rattle.loglinear_bins.specs.Counts.{AreBinsOf, AreLawful, IsBinList}
 use Rattle.merge_round.specs.Halves.{values_on}
-use Rattle.book_state.specs.State.{NameRules, State, is_gone}
+use Rattle.book_state.specs.Log.{replay, Legal}
+use Rattle.book_state.specs.State.{NameRules, Row, State, is_gone}
 use Rattle.book_state.specs.Step.{effect}
 use Rattle.ledger.specs.Work.{Work, Recording, recordings, units_of}
 use Rattle.ledger.specs.Flushes.{Fits}
 use Rattle.ledger.specs.Ledger.{RunPlan, HasHistory, Account, ReplayLedger, Direct}
 use Rattle.ledger.specs.OneReport.{without_ends, NoneFailed}
 use Rattle.flush_view.specs.ByName.{SortsByName}
-use Rattle.flush_view.specs.Views.{ViewRules, NumberedMetric, ends_in, last_state, metrics_shown, counter_row, parts_on, merged_parts, view, views}
+use Rattle.flush_view.specs.Views.{ViewRules, NumberedMetric, row_name, ends_in, last_state, metrics_shown, counter_row, parts_on, merged_parts, view, views}
 use Rattle.flush_view.specs.Symbols.{is_live_life}
 use Rattle.flush_view.specs.Output.{ViewText, output}
 
@@ -82,8 +86,27 @@ SumsRise = (parts : List Part) → AllByRecursion (λ part. AreLawful part.bins)
 
 -- rows and symbols stand in their order, and in no other
 pub record OneOrder : Type 0 where
-  pub rows : SortsByName NumberedMetric (λ numbered. numbered.1.name)
+  pub rows : SortsByName NumberedMetric row_name
   pub symbols : SortsByName Metric (λ metric. metric.name)
+
+-- an entry of the log made the metric of this number, with its symbol numbers, one for each token of its name
+pub record IsMadeIn (log : List Entry) (id : ℕ) (metric : Metric) : Type 0 where
+  pub at : ℕ
+  pub seat : ℕ
+  pub key : Key
+  pub entry : slice_get log at ≡ Some (record {
+    seat = seat;
+    call = call.Find key;
+    reply = reply.Made (record { 0 = id }) metric.numbers;
+  })
+  pub each : length metric.numbers ≡ length (tokens metric.name)
+
+-- so was each metric of a legal log
+abbrev pub NumbersMade : Type 0
+NumbersMade = (rules : NameRules) (scopes : List ScopeSpec) (workers : ℕ) (log : List Entry) (id : ℕ)
+    (row : Row)
+    → Legal rules scopes workers log → slice_get (replay rules workers log).metrics id ≡ Some row
+    → IsMadeIn log id row.metric
 
 -- after a sweep behind the ends of all workers no metric is retired
 abbrev pub NoneRetired : Type 0

@@ -60,10 +60,14 @@ NumberedMetric = ℕ × Metric
 abbrev pub numbered_metrics : State → List NumberedMetric
 numbered_metrics s = enumerate_from 0 (metrics_of s)
 
+-- rows stand by full name
+abbrev pub row_name : NumberedMetric → List ℕ
+row_name numbered = numbered.1.name
+
 -- the metrics of this kind whose numbers pass, in byte order of full names, and those of one name by number
 abbrev pub metrics_shown : Kind → (ℕ → Bool) → State → List NumberedMetric
 metrics_shown kind passes s =
-    by_name (λ numbered. numbered.1.name)
+    by_name row_name
     (filter (λ numbered. same_kind numbered.1.kind kind && passes numbered.0) (numbered_metrics s))
 
 -- the metric of this number was made and is not gone

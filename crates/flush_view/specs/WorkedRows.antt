@@ -1,5 +1,5 @@
 -- Worked cases of rows, computed from the definitions. This project's own.
-use Rattle.std.specs.Prelude.{◌≡◌, ℕ, pos, List, [], ◌∷◌, ◌++◌, codes}
+use Rattle.std.specs.Prelude.{◌≡◌, ℕ, pos, List, [], ◌∷◌, ◌++◌, take, codes}
 use Rattle.std.specs.List.{flat_map}
 use Rattle.stat_defs.specs.declared.bins.BinCount.{BinCount}
 use Rattle.stat_defs.specs.declared.bins.Bound.{Bound}
@@ -14,16 +14,17 @@ use Rattle.stat_defs.specs.declared.ids.Mode.TheVariants.{Uninit, Never}
 use Rattle.stat_defs.specs.declared.metrics.Tagged.{Tagged}
 use Rattle.stat_defs.specs.declared.reports.FlushRecord.{FlushRecord}
 use Rattle.stat_defs.specs.declared.reports.Part.{Part}
+use Rattle.stat_defs.specs.declared.reports.Reading.{Reading}
 use Rattle.stat_defs.specs.declared.views.FlushView.{FlushView}
 use Rattle.tag_rules.specs.Bounds.{bounds_for}
 use Rattle.tag_rules.specs.Tagging.{tagged}
 use Rattle.book_state.specs.Follows.{key_in}
-use Rattle.book_state.specs.Log.{openings, Legal}
+use Rattle.book_state.specs.Log.{openings, replay, Legal}
 use Rattle.book_state.specs.Worked.{plain, root_alone, opens, makes, releases, acks, ends, sweeps}
 use Rattle.ledger.specs.Worked.{delta, reading, makes_key, finds_key}
 use Rattle.flush_view.specs.Views.{ViewRules, last_state, views}
 use Rattle.flush_view.specs.Symbols.{live_metrics, symbol_line}
-use Rattle.flush_view.specs.Worked.{plain_view, no_rows, counter_with}
+use Rattle.flush_view.specs.Worked.{plain_view, no_rows, counter_with, gauge_at}
 
 -- a counter is gone in the first sweep, and one of its name is made behind it
 abbrev pub made_again : List Entry
@@ -66,6 +67,45 @@ sets_readout id text = record {
   call = call.SetText (record { 0 = id }) text;
   reply = reply.TextSet;
 }
+
+abbrev pub makes_numbered : Key → ℕ → List ℕ → Entry
+makes_numbered key id numbers = record {
+  seat = 1;
+  call = call.Find key;
+  reply = reply.Made (record { 0 = id }) numbers;
+}
+
+-- a gauge is retired before the first sweep; its worker acknowledges behind it, and the second makes it gone
+abbrev pub gauge_retired : List Entry
+gauge_retired = openings 0 root_alone
+    ++ opens 1 (codes "s") (codes "t") 1
+    ∷ makes_numbered (key_in (codes "s") Gauge Never (codes "g")) 0 (1 ∷ 2 ∷ [])
+    ∷ releases 1 (codes "s") 1
+    ∷ sweeps 0
+    ∷ acks 1 1
+    ∷ sweeps 1
+    ∷ ends 1
+    ∷ sweeps 0
+    ∷ []
+
+abbrev pub gauge_record : ℕ → List Reading → FlushRecord
+gauge_record at gauges = record { at = at; deltas = []; gauges = gauges; parts = [] }
+
+abbrev pub flushes_of_retired : List FlushRecord
+flushes_of_retired = gauge_record 4 (reading 0 5 ∷ [])
+    ∷ gauge_record 6 (reading 0 5 ∷ [])
+    ∷ gauge_record 8 []
+    ∷ []
+
+abbrev pub retired_shown : FlushView
+retired_shown = record no_rows { gauges = gauge_at (codes "t.g") (pos 5) ∷ [] }
+
+-- a retired gauge has a row, also in the flush whose sweep makes it gone, and none behind that
+pub record RetiredShown : Type 0 where
+  pub legal : Legal plain root_alone 1 gauge_retired
+  pub shows : views plain_view gauge_retired flushes_of_retired ≡ retired_shown ∷ retired_shown ∷ no_rows ∷ []
+  -- it has no row of symbols while it is retired
+  pub no_symbol : live_metrics (replay plain 1 (take 4 gauge_retired)) ≡ []
 
 -- a text is set before a sweep and behind it, and a histogram is made behind it
 abbrev pub two_texts : List Entry
@@ -140,13 +180,6 @@ pub record TextsAndParts : Type 0 where
       ∷ text_and_bins (codes "y")
       (bin_count 20 4 ∷ []) (bin_count 10 1 ∷ bin_count 20 4 ∷ bin_count 70 3 ∷ [])
       ∷ []
-
-abbrev pub makes_numbered : Key → ℕ → List ℕ → Entry
-makes_numbered key id numbers = record {
-  seat = 1;
-  call = call.Find key;
-  reply = reply.Made (record { 0 = id }) numbers;
-}
 
 -- three kinds have one name
 abbrev pub of_one_name : List Entry

@@ -1,5 +1,5 @@
 //! Laws of views and outputs, which hold without any call. Each function does nothing.
-ghost use Rattle.flush_view.specs.Laws.{ViewOfEach, NoEndShown, OneOutput, IntervalOfValues, CumulativeOfAll, EndsOfWorkers, TotalsOfUnits, SumsRise, OneOrder, NoneRetired};
+ghost use Rattle.flush_view.specs.Laws.{ViewOfEach, NoEndShown, OneOutput, IntervalOfValues, CumulativeOfAll, EndsOfWorkers, TotalsOfUnits, SumsRise, OneOrder, NumbersMade, NoneRetired};
 
 /// A law: the views of all flushes are those of each flush.
 pub fn view_of_each()
@@ -50,6 +50,12 @@ pub fn sums_rise()
 /// list does.
 pub fn one_order()
     ensures { OneOrder }
+{}
+
+/// A law: the symbol numbers of a metric are those of the entry that made it, one for each token of its
+/// full name.
+pub fn numbers_made()
+    ensures { NumbersMade }
 {}
 
 /// A law: after a sweep behind the ends of all workers a metric is live or gone.

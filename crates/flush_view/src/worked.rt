@@ -3,7 +3,7 @@
 ghost use Rattle.std.specs.Prelude.{[], codes};
 ghost use Rattle.ledger.specs.Worked.{of_increments, of_subtraction, of_gauge_moves, of_released, of_shared, of_values_and_texts};
 ghost use Rattle.flush_view.specs.Worked.{IsShown, TwoShown, view_of_increments, view_of_subtraction, view_of_gauge_moves, view_of_released, view_of_shared, view_of_values_and_texts, symbols_of_values_and_texts};
-ghost use Rattle.flush_view.specs.WorkedRows.{GoneAndMadeAgain, TextsAndParts, NamesInOrder};
+ghost use Rattle.flush_view.specs.WorkedRows.{GoneAndMadeAgain, RetiredShown, TextsAndParts, NamesInOrder};
 
 /// A worked view: two increments of one counter show 7 units, and its symbol.
 pub fn two_increments()
@@ -54,6 +54,12 @@ pub fn two_workers()
 /// before the later counter of its name, and none where it has not.
 pub fn a_name_made_again()
     ensures { GoneAndMadeAgain }
+{}
+
+/// A worked view: a retired gauge has a row, also in the flush whose sweep makes it gone, and none behind
+/// that.
+pub fn a_retired_gauge()
+    ensures { RetiredShown }
 {}
 
 /// A worked view: a text is the one before the sweep, a histogram that was made behind the sweep is shown
