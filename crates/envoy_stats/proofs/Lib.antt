@@ -4,6 +4,9 @@ pub mod FilesRead
 pub mod MadeReady
 pub mod Replayed
 pub mod BootRefused
+pub mod Checked
 pub mod CommandWords
+pub mod ValueWords
+pub mod Calls
 pub mod WorkerLines
 pub mod SortedRows

@@ -1,8 +1,20 @@
--- The command lines. This project's own.
-use Rattle.std.specs.Prelude.{◌≡◌, ◌≤◌, ◌==◌, ◌||◌, ℕ, Bool, true, false, not, List, [], ◌∷◌, length, codes}
+-- The commands, and the words that say them. This project's own.
+use Rattle.std.specs.Prelude.{◌≤◌, ◌^◌, ◌-◌, ◌==◌, ◌||◌, ◌&&◌, ℕ, Bool, false, not, if◌then◌else◌, nat_le, Option, None, Some, is_some, List, [], ◌∷◌, length, map, codes, string_bytes}
 use Rattle.std.specs.Str.{bytes_eq}
-use Rattle.std.specs.List.{list_all}
-use Rattle.envoy_stats.specs.declared.command.TheConstants.{MAX_FILES}
+use Rattle.std.specs.List.{list_all, filter_map}
+use Rattle.event_script.specs.EventIn.{read_number}
+use Rattle.envoy_stats.specs.declared.command.Command.{Command as Spoken}
+use Rattle.envoy_stats.specs.declared.command.Command.TheVariants as spoken
+use Rattle.envoy_stats.specs.declared.command.TheConstants.{MAX_FILES, MAX_VALUES}
+
+-- a command, with what its words name
+pub data Command : Type 0 where
+  -- applies these files under that bootstrap
+  Replay : (boot : List ℕ) (files : List (List ℕ)) → Command
+  -- loads that bootstrap
+  Check : (boot : List ℕ) → Command
+  -- tells the bins of these values
+  Bins : (values : List ℕ) → Command
 
 -- a file name: not empty, and not an option
 abbrev pub is_file_word : List ℕ → Bool
@@ -13,14 +25,46 @@ is_file_word (b ∷ bs) = not (b == 45)
 abbrev pub is_boot_word : List ℕ → Bool
 is_boot_word word = bytes_eq word (codes "-") || is_file_word word
 
--- `replay BOOT FILE..`, with 1 to 32 files
-pub record IsReplay (words : List (List ℕ)) (boot : List ℕ) (files : List (List ℕ)) : Type 0 where
-  pub words_are : words ≡ codes "replay" ∷ boot ∷ files
-  pub is_boot : is_boot_word boot ≡ true
-  pub are_files : list_all is_file_word files ≡ true
-  pub some : 1 ≤ length files
-  pub few : length files ≤ MAX_FILES
+-- a decimal number of 64 bits, without leading zeros
+abbrev pub value_in : List ℕ → Option ℕ
+value_in word = read_number (2 ^ 64 - 1) word
 
--- the words are a command
-abbrev pub IsCommand : List (List ℕ) → Type 0
-IsCommand words = (boot : List ℕ) × ((files : List (List ℕ)) × IsReplay words boot files)
+-- 1 to so many words, each of which passes the test
+abbrev pub are_some : (List ℕ → Bool) → ℕ → List (List ℕ) → Bool
+are_some test most words = nat_le 1 (length words) && nat_le (length words) most && list_all test words
+
+abbrev pub are_files : List (List ℕ) → Bool
+are_files words = are_some is_file_word MAX_FILES words
+
+abbrev pub are_values : List (List ℕ) → Bool
+are_values words = are_some (λ word. is_some (value_in word)) MAX_VALUES words
+
+-- `replay BOOT FILE..`, with 1 to 32 files
+abbrev pub behind_replay : List (List ℕ) → Option Command
+behind_replay [] = None
+behind_replay (boot ∷ files) = if is_boot_word boot && are_files files then Some (Replay boot files) else None
+
+-- `check BOOT`
+abbrev pub behind_check : List (List ℕ) → Option Command
+behind_check [] = None
+behind_check (boot ∷ []) = if is_boot_word boot then Some (Check boot) else None
+behind_check (boot ∷ word ∷ words) = None
+
+-- `bins V..`, with 1 to 64 values
+abbrev pub behind_bins : List (List ℕ) → Option Command
+behind_bins words = if are_values words then Some (Bins (filter_map value_in words)) else None
+
+-- the command that these words say; None where they are no command
+abbrev pub command : List (List ℕ) → Option Command
+command [] = None
+command (word ∷ words) =
+    if bytes_eq word (codes "replay") then behind_replay words
+    else (if bytes_eq word (codes "check") then behind_check words
+    else (if bytes_eq word (codes "bins") then behind_bins words
+    else None))
+
+-- what contracts see of a command that was read
+abbrev pub spoken_as : Spoken → Command
+spoken_as (spoken.Replay boot files) = Replay boot.now (map string_bytes files.now)
+spoken_as (spoken.Check boot) = Check boot.now
+spoken_as (spoken.Bins values) = Bins (filter_map value_in (map string_bytes values.now))

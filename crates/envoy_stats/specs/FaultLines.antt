@@ -29,9 +29,13 @@ abbrev pub fault_lines : ℕ → List FileEnd → List ℕ
 fault_lines number [] = []
 fault_lines number (end ∷ ends) = fault_line number end ++ fault_lines (number + 1) ends
 
--- these lines, and then a line on the output where it was not written
+-- the line on an output that was not written
+abbrev pub write_line : ℕ → List ℕ
+write_line status = if status == UNWRITTEN then codes "write failed\n" else []
+
+-- these lines, and then that line
 abbrev pub with_write_line : List ℕ → ℕ → List ℕ
-with_write_line lines status = lines ++ (if status == UNWRITTEN then codes "write failed\n" else [])
+with_write_line lines status = lines ++ write_line status
 
 -- what is said of files that ended so, and then of the output
 abbrev pub said_of : List FileEnd → ℕ → List ℕ

@@ -4,6 +4,8 @@ pub mod WorkerEnd
 pub mod FileRead
 pub mod Report
 pub mod Output
+pub mod BinLines
+pub mod LoadedLine
 pub mod FaultLines
 pub mod FileRun
 pub mod Outcome

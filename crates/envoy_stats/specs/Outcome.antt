@@ -16,12 +16,14 @@ use Rattle.boot_load.specs.declared.fault.LoadFault.TheVariants as unloaded
 use Rattle.boot_load.specs.Load.{Loads}
 use Rattle.boot_load.specs.BootLine.{boot_line}
 use Rattle.envoy_stats.specs.declared.status.TheConstants.{DONE, NO_COMMAND, BAD_BOOT, BAD_FILE, UNREADABLE, UNWRITTEN, NO_MEMORY}
-use Rattle.envoy_stats.specs.Command.{IsReplay, IsCommand}
+use Rattle.envoy_stats.specs.Command.{Command, Replay, Check, Bins, command}
 use Rattle.envoy_stats.specs.World.{World, Sight}
 use Rattle.envoy_stats.specs.FileRead.{FileRead, AreFiles}
 use Rattle.envoy_stats.specs.Report.{counting_rules, report_of}
 use Rattle.envoy_stats.specs.Output.{IsOutput}
-use Rattle.envoy_stats.specs.FaultLines.{usage, out_of_memory, said_of}
+use Rattle.envoy_stats.specs.BinLines.{bin_lines}
+use Rattle.envoy_stats.specs.LoadedLine.{loaded_line}
+use Rattle.envoy_stats.specs.FaultLines.{usage, out_of_memory, write_line, said_of}
 
 -- the status of a file's end
 abbrev pub status_of : FileEnd → ℕ
@@ -56,6 +58,23 @@ abbrev pub IsWritten : SinkState → SinkState → List ℕ → ℕ → ℕ → 
 IsWritten before after text whole status =
     ((status ≡ whole) × WritesWhole before after text) ⊎ ((status ≡ UNWRITTEN) × WritesFront before after text)
 
+-- the text was written, or a front of it where a push failed, and that was said
+pub record IsPrinted (out_before out_after err_before err_after : SinkState) (text : List ℕ) (status : ℕ) : Type 0 where
+  pub written : IsWritten out_before out_after text DONE status
+  pub said : IsSaid err_before err_after (write_line status)
+
+-- memory was wanting before anything was written, and that was said
+pub record IsUnstarted {O : Type 0} (out_before out_after : O) (err_before err_after : SinkState) (status : ℕ) : Type 0 where
+  pub status_is : status ≡ NO_MEMORY
+  pub unwritten : out_after ≡ out_before
+  pub said : IsSaid err_before err_after out_of_memory
+
+-- the text is all that a call writes, where memory is there
+abbrev pub Prints : {O : Type 0} → (O → SinkState) → O → O → SinkState → SinkState → List ℕ → ℕ → Type 0
+Prints state out_before out_after err_before err_after text status =
+    IsPrinted (state out_before) (state out_after) err_before err_after text status
+    ⊎ IsUnstarted out_before out_after err_before err_after status
+
 module _ {K F S O E : Type 0} (see : Sight K F S O E) (before after : World K F O E) where
   -- the words are no command: all but `err` is as it was
   pub record IsRefused : Type 0 where
@@ -63,6 +82,32 @@ module _ {K F S O E : Type 0} (see : Sight K F S O E) (before after : World K F 
     pub shelf : after.shelf ≡ before.shelf
     pub out : after.out ≡ before.out
     pub said : IsSaid (see.err before.err) (see.err after.err) usage
+
+  module _ (boot : List ℕ) where
+    -- the bootstrap was not loaded, and nothing was written; for `-` no file was opened
+    pub record IsBootFault (status : ℕ) : Type 0 where
+      pub fault : LoadFault
+      pub cause : Loads see.source (see.holds before.shelf boot) boot (see.shelf before.shelf) (see.shelf after.shelf)
+          (see.maker before.maker) (see.maker after.maker) (Err fault)
+      pub no_want : fault ≢ unloaded.NoMemory
+      pub status_is : status ≡ status_of_boot fault
+      pub unwritten : after.out ≡ before.out
+      pub usual : boot ≡ codes "-" → after.shelf ≡ before.shelf
+      pub said : IsSaid (see.err before.err) (see.err after.err) (boot_line fault)
+
+    -- all patterns of the bootstrap were made, and the line on it was written; for `-` no file was opened
+    pub record IsChecked (status : ℕ) : Type 0 where
+      pub loaded : Boot
+      pub boot_loaded : Loads see.source (see.holds before.shelf boot) boot (see.shelf before.shelf) (see.shelf after.shelf)
+          (see.maker before.maker) (see.maker after.maker) (Ok loaded)
+      pub usual : boot ≡ codes "-" → after.shelf ≡ before.shelf
+      pub printed : IsPrinted (see.out before.out) (see.out after.out) (see.err before.err) (see.err after.err)
+          (loaded_line loaded.config) status
+
+    -- the bootstrap was loaded, or it was not, or memory was wanting
+    abbrev pub Checks : ℕ → Type 0
+    Checks status = IsChecked status
+        ⊎ (IsBootFault status ⊎ IsUnstarted before.out after.out (see.err before.err) (see.err after.err) status)
 
   module _ (boot : List ℕ) (names : List (List ℕ)) where
     -- the bootstrap was loaded, with all its patterns, and then these files were read
@@ -83,17 +128,6 @@ module _ {K F S O E : Type 0} (see : Sight K F S O E) (before after : World K F 
       pub written : IsWritten (see.out before.out) (see.out after.out) output (status_of_all (map (λ file. file.end.end) files)) status
       pub said : IsSaid (see.err before.err) (see.err after.err) (said_of (map (λ file. file.end.end) files) status)
 
-    -- the bootstrap was not loaded, and nothing was written; for `-` no file was opened
-    pub record IsBootFault (status : ℕ) : Type 0 where
-      pub fault : LoadFault
-      pub cause : Loads see.source (see.holds before.shelf boot) boot (see.shelf before.shelf) (see.shelf after.shelf)
-          (see.maker before.maker) (see.maker after.maker) (Err fault)
-      pub no_want : fault ≢ unloaded.NoMemory
-      pub status_is : status ≡ status_of_boot fault
-      pub unwritten : after.out ≡ before.out
-      pub usual : boot ≡ codes "-" → after.shelf ≡ before.shelf
-      pub said : IsSaid (see.err before.err) (see.err after.err) (boot_line fault)
-
     -- a front was written of the output of files that were read
     pub record IsCutShort : Type 0 where
       pub loaded : Boot
@@ -111,14 +145,24 @@ module _ {K F S O E : Type 0} (see : Sight K F S O E) (before after : World K F 
 
     -- a report comes where the bootstrap was loaded and memory was there
     abbrev pub Replays : ℕ → Option Report → Type 0
-    Replays status None = IsBootFault status ⊎ IsGivenUp status
+    Replays status None = IsBootFault boot status ⊎ IsGivenUp status
     Replays status (Some report) = IsReplayed status report
 
-  -- what a call with these words does: the contract of `quiet_stats`
+  -- the bins of these values were told; no file was opened and no pattern made
+  pub record IsBinned (values : List ℕ) (status : ℕ) : Type 0 where
+    pub maker : after.maker ≡ before.maker
+    pub shelf : after.shelf ≡ before.shelf
+    pub printed : Prints see.out before.out after.out (see.err before.err) (see.err after.err) (bin_lines values) status
+
+  -- What a call with these words does: the contract of `quiet_stats`. Status 1 is that of words that are no command, and
+  -- each command has what it comes to; a report comes of a replay alone.
   pub record IsCall (words : List (List ℕ)) (status : ℕ) (report : Option Report) : Type 0 where
-    pub usage_status : (status ≡ NO_COMMAND) ↔ ¬ IsCommand words
-    pub refused : ¬ IsCommand words → (report ≡ None) × IsRefused
-    pub replayed : (boot : List ℕ) → (names : List (List ℕ)) → IsReplay words boot names → Replays boot names status report
+    pub usage_status : (status ≡ NO_COMMAND) ↔ (command words ≡ None)
+    pub refused : command words ≡ None → (report ≡ None) × IsRefused
+    pub replayed : (boot : List ℕ) → (names : List (List ℕ)) → command words ≡ Some (Replay boot names)
+        → Replays boot names status report
+    pub checked : (boot : List ℕ) → command words ≡ Some (Check boot) → (report ≡ None) × Checks boot status
+    pub binned : (values : List ℕ) → command words ≡ Some (Bins values) → (report ≡ None) × IsBinned values status
 
 -- the words could not be read: for want of memory, or since one of them is no text
 abbrev pub IsUnreadable : SinkState → SinkState → Error → ℕ → Type 0

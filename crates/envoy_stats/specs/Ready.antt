@@ -14,7 +14,7 @@ use Rattle.envoy_stats.specs.Output.{Shows, worker_lines, output_with}
 use Rattle.envoy_stats.specs.FaultLines.{fault_lines, out_of_memory, with_write_line}
 use Rattle.envoy_stats.specs.Outcome.{IsSaid, IsWritten, status_of_all, status_of_boot}
 use Rattle.envoy_stats.specs.declared.reading.Runs.{Runs}
-use Rattle.envoy_stats.specs.declared.replay.Outcome.{Outcome}
+use Rattle.envoy_stats.specs.declared.outcome.Outcome.{Outcome}
 use Rattle.envoy_stats.specs.declared.ready.Ready.{Ready}
 
 -- no event was applied yet

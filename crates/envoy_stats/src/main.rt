@@ -1,4 +1,5 @@
-//! The statistics store as a program: `envoy_stats replay BOOT FILE..` applies event files and writes one flush.
+//! The statistics store as a program: `replay BOOT FILE..` applies event files and writes one flush, `check BOOT` tries a
+//! bootstrap, and `bins V..` tells the bins of values.
 #![tactic(auto)]
 
 ghost use Rattle.std.specs.Prelude.{◌≡◌, ◌≢◌, Option, IfOk, IfErr, map, string_bytes};
@@ -6,8 +7,12 @@ ghost use Rattle.stat_defs.specs.declared.reports.Report.{Report};
 ghost use Rattle.envoy_stats.specs.World.{world, sight};
 ghost use Rattle.envoy_stats.specs.Outcome.{IsCall, IsUnreadable};
 
+mod bins;
+mod check;
 mod command;
 mod laws;
+mod outcome;
+mod quiet;
 mod reading;
 mod ready;
 mod replay;
@@ -20,7 +25,8 @@ mod writing;
 
 pub use laws::each_unopened_file_has_its_fault;
 use name_map::HashKey;
-pub use replay::{Outcome, quiet_stats, quiet_stats_with};
+pub use outcome::Outcome;
+pub use quiet::{quiet_stats, quiet_stats_with};
 use stats_io::{FolderShelf, Shelf, Sink, StdSink};
 use std::alloc::Global;
 use std::io;

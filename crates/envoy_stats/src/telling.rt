@@ -15,6 +15,9 @@ pub const USAGE: &[u8] =
 /// What is said where memory was wanting.
 pub const OUT_OF_MEMORY: &[u8] = b"out of memory\n";
 
+/// What is said where a push on the output failed.
+pub const WRITE_FAILED: &[u8] = b"write failed\n";
+
 /// Says a text. A fault of the sink changes nothing else.
 pub fn say<E: Sink>(err: &mut E, text: &[u8])
     ensures said { IsSaid (E.state err.old) (E.state err.new) text.now }

@@ -30,14 +30,22 @@ const ROWS: &[u8] = b"\
 
 // Words that are no command: a list a line, its words parted by spaces.
 const NO_COMMANDS: &str =
-    "\nreplay\nreplay -\nreplay - \nreplay - -f\nreplay -f f\nreplay f\nreplay - f -f\nrun --format x - f\nbins 01\nrun - f\ncheck -";
+    "\nreplay\nreplay -\nreplay - \nreplay - -f\nreplay -f f\nreplay f\nreplay - f -f\nrun --format x - f\nrun - f\nreplay --format prom - f\ncheck\ncheck -f\ncheck - -\nbins\nbins 01\nbins 00\nbins +1\nbins -1\nbins 1 x\nbins 1 \nbins 18446744073709551616\nbin 1";
+
+// Commands without files, and what comes of them: rows parted by the byte 2, in each the words, the file `f1`, the status, and the
+// two outputs, parted by the byte 1.
+const OTHER_ROWS: &[u8] = b"\
+bins 0 7 10 99 100 109 110 12345 18446744073709551615\x01\x010\x010 0 0\n7 70 0\n10 10 1\n99 99 1\n100 10 2\n109 10 2\n110 11 2\n12345 12 4\n18446744073709551615 18 19\n\x01\x02\
+check -\x01\x010\x01ok: 4 tag rules, 0 patterns, 0 bucket settings, 1 scopes\n\x01\x02\
+check f1\x01{\"stats_config\":{\"stats_tags\":[{\"tag_name\":\"region\",\"fixed_value\":\"eu-1\"}],\"stats_matcher\":{\"exclusion_list\":{\"patterns\":[{\"prefix\":\"cluster.api.internal.\"},{\"safe_regex\":{\"regex\":\".*\\\\.debug\"}}]}},\"histogram_bucket_settings\":[{\"match\":{\"suffix\":\"_ms\"},\"buckets\":[10,50,100,1000]}]},\"stats_run\":{\"scopes\":[{\"label\":\"web\",\"prefix\":\"http.web.\"},{\"label\":\"api\",\"prefix\":\"cluster.api\"}]}}\x010\x01ok: 5 tag rules, 2 patterns, 1 bucket settings, 3 scopes\n\x01\x02\
+check f1\x01{\"stats_config\":{\"histogram_bucket_settings\":[{\"match\":{\"safe_regex\":{\"regex\":\"[\"}},\"buckets\":[1]}]}}\x012\x01\x01boot: bad pattern at stats_config.histogram_bucket_settings[0].match.safe_regex.regex\n\x02\
+check f1\x01[\x012\x01\x01boot: not json\n\x02\
+check f2\x01\x014\x01\x01boot: read failed\n";
 
 const USAGE: &[u8] =
     b"usage: envoy_stats run|replay [--symbols] [--format statsd|prom|admin] BOOT FILE.. | check BOOT | bins V..\n";
 
 const TWO_INCS: &[u8] = b"inc root a 3\ninc root a 4\n";
-
-const TWO_INCS_OUTPUT: &[u8] = b"# last\nenvoy.a:7|c\n# worker 1: 2 accepted, 0 dropped\n";
 
 const NO_EVENTS_OUTPUT: &[u8] = b"# last\n# worker 1: 0 accepted, 0 dropped\n";
 
@@ -306,20 +314,49 @@ fn words_that_are_no_command(rt: HostRuntime) -> Result<(), Fail> {
     Ok(())
 }
 
-// `replay -` with so many times the file `f1`.
-fn words_with_files(alloc: Global, files: u64) -> Result<String, Fail> {
-    let mut words = String::from_str(alloc, "replay -")?;
-    for _ in 0..files {
-        words.push_str(" f1")?;
+fn assert_other_row(rt: &impl Abort, alloc: Global, row: &[u8]) -> Result<(), Fail> {
+    let mut rest = row;
+    let words = String::from_utf8(part(&mut rest).to_vec(alloc)?).map_err(|_| "no text")?;
+    let file = part(&mut rest);
+    let status = digit_of(part(&mut rest));
+    let wanted = Wanted {
+        status,
+        reports: false,
+        out: part(&mut rest),
+        err: rest,
+    };
+    let played = play_over(alloc, words.as_str(), shelf_of(alloc, file, 999)?, 7, 999)?;
+    assert_played(rt, row, &played, wanted);
+    Ok(())
+}
+
+#[test]
+fn bins_and_checks(rt: HostRuntime) -> Result<(), Fail> {
+    for row in OTHER_ROWS.split(|b| *b == 2) {
+        assert_other_row(&rt, rt.alloc(), row)?;
+    }
+    Ok(())
+}
+
+// These words, and so many times the last ones.
+fn words_with(alloc: Global, first: &str, last: &str, times: u64) -> Result<String, Fail> {
+    let mut words = String::from_str(alloc, first)?;
+    for _ in 0..times {
+        words.push_str(last)?;
     }
     Ok(words)
 }
 
 #[test]
-fn as_many_files_as_are_allowed(rt: HostRuntime) -> Result<(), Fail> {
+fn as_many_words_as_are_allowed(rt: HostRuntime) -> Result<(), Fail> {
     let alloc = rt.alloc();
-    for (files, status) in [(32, 0), (33, 1)] {
-        let words = words_with_files(alloc, files)?;
+    for (first, last, times, status) in [
+        ("replay -", " f1", 32, 0),
+        ("replay -", " f1", 33, 1),
+        ("bins", " 1", 64, 0),
+        ("bins", " 1", 65, 1),
+    ] {
+        let words = words_with(alloc, first, last, times)?;
         let played = play_over(
             alloc,
             words.as_str(),
@@ -332,30 +369,53 @@ fn as_many_files_as_are_allowed(rt: HostRuntime) -> Result<(), Fail> {
     Ok(())
 }
 
-// With the push of that number failing, so many bytes are written.
+// With the push of that number failing, so many bytes of the output are written.
 fn assert_cut(
     rt: &impl Abort,
     alloc: Global,
+    words: &str,
+    output: &[u8],
     failing_push: u64,
-    status: u8,
-    told: &[u8],
 ) -> Result<(), Fail> {
     let shelf = shelf_of(alloc, TWO_INCS, 9)?;
-    let played = play_over(alloc, "replay - f1", shelf, 1, failing_push)?;
-    assert_eq!(rt; played.outcome.status, status, "{failing_push}");
+    let played = play_over(alloc, words, shelf, 1, failing_push)?;
+    let whole = failing_push == output.len() as u64;
+    assert_eq!(rt;
+        played.outcome.status,
+        if whole { 0 } else { 5 },
+        "{words} {failing_push}"
+    );
     assert_eq!(rt; played.out.bytes().len() as u64, failing_push);
-    assert!(rt; TWO_INCS_OUTPUT.starts_with(played.out.bytes()));
-    assert!(rt; played.err.bytes() == told, "{failing_push}");
+    assert!(rt; output.starts_with(played.out.bytes()));
+    let told = if whole { "" } else { "write failed\n" };
+    assert!(rt;
+        played.err.bytes() == told.as_bytes(),
+        "{words} {failing_push}"
+    );
     Ok(())
 }
 
+// Commands with their outputs.
+const WHOLE_OUTPUTS: [(&str, &str); 3] = [
+    (
+        "replay - f1",
+        "# last\nenvoy.a:7|c\n# worker 1: 2 accepted, 0 dropped\n",
+    ),
+    ("bins 0 7 10", "0 0 0\n7 70 0\n10 10 1\n"),
+    (
+        "check -",
+        "ok: 4 tag rules, 0 patterns, 0 bucket settings, 1 scopes\n",
+    ),
+];
+
 #[test]
 fn each_push_failing(rt: HostRuntime) -> Result<(), Fail> {
-    let alloc = rt.alloc();
-    for k in 0..53u64 {
-        assert_cut(&rt, alloc, k, 5, b"write failed\n")?;
+    for (words, output) in WHOLE_OUTPUTS {
+        for k in 0..output.len() as u64 + 1 {
+            assert_cut(&rt, rt.alloc(), words, output.as_bytes(), k)?;
+        }
     }
-    assert_cut(&rt, alloc, 53, 0, b"")
+    Ok(())
 }
 
 // The report on a file.

@@ -1,11 +1,5 @@
 use Rattle.envoy_stats.proofs.serve.Goals as goal
 
 pub returns-in-Ok-clause-called : goal.returns-in-Ok-clause-called
-returns-in-Ok-clause-called g c = rw (c.in-Ok.is) (
-  c.quiet_stats_with.result.report,
-  record {
-    usage_status = rw c.deref.ensures.value at c.quiet_stats_with.ensures.usage;
-    refused = rw c.deref.ensures.value at c.quiet_stats_with.ensures.refused;
-    replayed = rw c.deref.ensures.value at c.quiet_stats_with.ensures.replayed;
-  },
-)
+returns-in-Ok-clause-called g c =
+    rw (c.in-Ok.is) (c.quiet_stats_with.result.report, rw c.deref.ensures.value at c.quiet_stats_with.ensures)

@@ -3,7 +3,7 @@ use Rattle.boot_load.specs.declared.fault.LoadFault.TheVariants.{NoMemory}
 use Rattle.envoy_stats.specs.World.{world, sight}
 use Rattle.envoy_stats.proofs.MadeReady.{ready_alike, ready_small}
 use Rattle.envoy_stats.proofs.Replayed.{replays_of}
-use Rattle.envoy_stats.proofs.BootRefused.{refused_boot}
+use Rattle.envoy_stats.proofs.BootRefused.{replay_refused}
 use Rattle.envoy_stats.proofs.replay.replay.Goals as goal
 
 pub finish-requires : goal.finish-requires
@@ -25,5 +25,5 @@ returns-in-Err g c =
     let before = world c.args.maker.now c.args.shelf.now c.args.out.now c.args.err.now in
     let after = world c.load.new.maker c.load.new.shelf c.args.out.now c.refuse_boot.new.err in
     let has : c.in-Err.fault ≢ NoMemory = search rules in
-    refused_boot see before after c.args.boot.now (map string_bytes c.args.files.now) c.in-Err.fault c.refuse_boot.result c.in-Err.ensures.loads has refl
-    c.in-Err.ensures.usual c.refuse_boot.ensures
+    replay_refused see before after c.args.boot.now c.in-Err.fault c.in-Err.ensures.loads has refl c.in-Err.ensures.usual (map string_bytes c.args.files.now)
+    c.refuse_boot.result c.refuse_boot.ensures
