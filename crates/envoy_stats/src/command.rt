@@ -57,7 +57,7 @@ fn are_files(words: &[String]) -> bool
 
 // Whether the word begins as a number may: with no sign, and with no zero before other digits.
 fn begins_plainly(word: &str) -> bool
-    ensures { MatchBool result 
+    ensures { MatchBool result
         ((slice_index word.now 0 ≢ 43) × (slice_index word.now 0 ≡ 48 → length word.now ≡ 1))
         ((slice_index word.now 0 ≡ 43) ⊎ ((slice_index word.now 0 ≡ 48) × (1 < length word.now))) }
 {
