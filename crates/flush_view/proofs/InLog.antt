@@ -1,5 +1,5 @@
 -- The flushes of a ledger stand in its log.
-use Rattle.std.proofs.Common.{◌≡◌, ◌==◌, ℕ, suc, ◌<◌, List, [], ◌∷◌, length, map, take, slice_get, refl, ap, sym, ◌∙◌, subst}
+use Rattle.std.proofs.Common.{◌≡◌, ◌==◌, ℕ, suc, List, [], ◌∷◌, length, take, slice_get, refl, ap, sym, ◌∙◌, subst}
 use Rattle.std.specs.List.{AllByRecursion}
 use Rattle.stat_defs.specs.declared.history.Call.TheVariants as call
 use Rattle.stat_defs.specs.declared.history.Entry.{Entry}
@@ -9,7 +9,7 @@ use Rattle.stat_defs.specs.declared.reports.Report.{Report}
 use Rattle.book_state.specs.State.{NameRules}
 use Rattle.book_state.specs.Log.{replay, Legal}
 use Rattle.book_state.proofs.Lists.{get_within, map_some}
-use Rattle.ledger.specs.Flushes.{Fits, ids_not_gone, id_of_reading}
+use Rattle.ledger.specs.Flushes.{Fits, ids_not_gone}
 use Rattle.ledger.specs.Ledger.{RunPlan, HasHistory, Account}
 use Rattle.ledger.specs.Lists.{EachNumbered}
 use Rattle.ledger.specs.Segments.{segments_at}
