@@ -7,3 +7,4 @@ mod Cumulative
 mod Ends
 mod Shown
 mod Made
+mod InLog

@@ -1,5 +1,5 @@
 -- What holds of all views and outputs. This project's own.
-use Rattle.std.specs.Prelude.{◌≡◌, ℕ, ◌||◌, Bool, true, Option, Some, List, length, map, slice_get}
+use Rattle.std.specs.Prelude.{◌≡◌, ◌<◌, ℕ, ◌||◌, Bool, true, Option, Some, List, length, map, slice_get}
 use Rattle.std.specs.List.{list_all, flat_map, AllByRecursion}
 use Rattle.stat_defs.specs.declared.configs.Config.{Config}
 use Rattle.stat_defs.specs.declared.configs.ScopeSpec.{ScopeSpec}
@@ -8,7 +8,7 @@ use Rattle.stat_defs.specs.declared.events.Key.{Key}
 use Rattle.stat_defs.specs.declared.history.Call.TheVariants as call
 use Rattle.stat_defs.specs.declared.history.Entry.{Entry}
 use Rattle.stat_defs.specs.declared.history.Reply.TheVariants as reply
-use Rattle.stat_defs.specs.declared.ids.Kind.TheVariants.{Counter}
+use Rattle.stat_defs.specs.declared.ids.Kind.TheVariants.{Counter, Gauge}
 use Rattle.stat_defs.specs.declared.metrics.Metric.{Metric}
 use Rattle.stat_defs.specs.declared.reports.FlushRecord.{FlushRecord}
 use Rattle.stat_defs.specs.declared.reports.Part.{Part}
@@ -20,11 +20,11 @@ use Rattle.book_state.specs.Log.{replay, Legal}
 use Rattle.book_state.specs.State.{NameRules, Row, State, is_gone}
 use Rattle.book_state.specs.Step.{effect}
 use Rattle.ledger.specs.Work.{Work, Recording, recordings, units_of}
-use Rattle.ledger.specs.Flushes.{Fits}
+use Rattle.ledger.specs.Flushes.{Fits, ids_not_gone, id_of_reading}
 use Rattle.ledger.specs.Ledger.{RunPlan, HasHistory, Account, ReplayLedger, Direct}
 use Rattle.ledger.specs.OneReport.{without_ends, NoneFailed}
 use Rattle.flush_view.specs.ByName.{SortsByName}
-use Rattle.flush_view.specs.Views.{ViewRules, NumberedMetric, row_name, ends_in, last_state, metrics_shown, counter_row, parts_on, merged_parts, view, views}
+use Rattle.flush_view.specs.Views.{ViewRules, NumberedMetric, row_name, ends_in, state_before, last_state, metrics_shown, counter_row, parts_on, merged_parts, view, views}
 use Rattle.flush_view.specs.Symbols.{is_live_life}
 use Rattle.flush_view.specs.Output.{ViewText, output}
 
@@ -69,6 +69,18 @@ CumulativeOfAll = (plan : RunPlan) (workers : List Work) (report : Report) (id :
 abbrev pub EndsOfWorkers : Type 0
 EndsOfWorkers = (plan : RunPlan) (workers : List Work) (report : Report) → HasHistory plan workers report
     → ends_in report.log ≡ length workers
+
+-- a flush stands in the log, and has a reading of each gauge that was not gone before its sweep
+pub record IsInLog (rules : NameRules) (log : List Entry) (flush : FlushRecord) : Type 0 where
+  pub within : flush.at < length log
+  pub gauges : map id_of_reading flush.gauges ≡ ids_not_gone Gauge (state_before rules log flush)
+
+-- the log of a ledger is legal with as many workers as it has ends, and the flushes stand in it
+pub record FlushesInLog : Type 0 where
+  pub legal : (plan : RunPlan) (workers : List Work) (report : Report) → HasHistory plan workers report
+      → Legal plan.rules plan.scopes (ends_in report.log) report.log
+  pub flushes : (plan : RunPlan) (workers : List Work) (report : Report) → HasHistory plan workers report
+      → Account plan workers report → AllByRecursion (IsInLog plan.rules report.log) report.flushes
 
 -- with all flushes, the total of each counter that is shown is the units that all workers added to it
 abbrev pub TotalsOfUnits : Type 0

@@ -1,5 +1,5 @@
 //! Laws of views and outputs, which hold without any call. Each function does nothing.
-ghost use Rattle.flush_view.specs.Laws.{ViewOfEach, NoEndShown, OneOutput, IntervalOfValues, CumulativeOfAll, EndsOfWorkers, TotalsOfUnits, SumsRise, OneOrder, NumbersMade, NoneRetired};
+ghost use Rattle.flush_view.specs.Laws.{ViewOfEach, NoEndShown, OneOutput, IntervalOfValues, CumulativeOfAll, EndsOfWorkers, FlushesInLog, TotalsOfUnits, SumsRise, OneOrder, NumbersMade, NoneRetired};
 
 /// A law: the views of all flushes are those of each flush.
 pub fn view_of_each()
@@ -33,6 +33,12 @@ pub fn cumulative_of_all()
 /// the ends, replays the log with the workers that it has.
 pub fn ends_of_workers()
     ensures { EndsOfWorkers }
+{}
+
+/// A law: the log of a ledger is legal with as many workers as it has ends, each flush stands in it, and has
+/// a reading of each gauge that was not gone before its sweep.
+pub fn flushes_in_log()
+    ensures { FlushesInLog }
 {}
 
 /// A law: where the flushes account for all, the total of each counter's row in the last view is the units
