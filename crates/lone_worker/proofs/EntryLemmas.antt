@@ -1,7 +1,5 @@
 -- What calls of the worker add to the log, one after the other.
-use Rattle.std.proofs.Common.{◌≡◌, ◌≤◌, ◌⊎◌, ◌==◌, ◌&&◌, ℕ, Bool, true, false, Option, option_map, Some, None, List, [], ◌∷◌, ◌++◌, refl, ap, sym, ◌∙◌, subst, inl, inr, append_assoc, append-nil}
-use Rattle.std.specs.List.{list_all}
-use Rattle.std.specs.Option.{IsSomeAnd}
+use Rattle.std.proofs.Common.{◌≡◌, ℕ, Option, Some, None, List, [], ◌∷◌, ◌++◌, refl, ap, sym, ◌∙◌, subst, inl, inr, append_assoc, append-nil}
 use Rattle.stat_defs.specs.Books.{BookHistory}
 use Rattle.stat_defs.specs.declared.events.Event.{Event}
 use Rattle.stat_defs.specs.declared.events.Event.TheVariants as event
@@ -19,7 +17,7 @@ use Rattle.stat_defs.specs.declared.history.Reply.TheVariants as reply
 use Rattle.stat_defs.specs.declared.history.Verdict.{Verdict}
 use Rattle.stat_defs.specs.declared.history.Verdict.TheVariants as verdict
 use Rattle.book_state.specs.State.{State}
-use Rattle.book_state.specs.Follows.{Own, own, verdict_of, tag_of, held_verdict, key_in, MakesOne, SetsText, Finds, Makes, MakesAcked}
+use Rattle.book_state.specs.Follows.{Own, own, held_verdict, key_in, MakesOne, SetsText, Finds, Makes, MakesAcked}
 use Rattle.book_state.specs.Laws.{own_entry}
 use Rattle.book_state.proofs.Growing.{replayed}
 use Rattle.stat_book.specs.Calls.{rules_of, state_of, Logged, Answers}
@@ -119,6 +117,11 @@ acked_add a b c e v acked adds = elim acked [
   | inl none ↦ adds_map a c (Makes 1 (state_of a) e v) (MakesAcked 1 (state_of a) e v) (λ made makes. inl (none.0, makes))
       (subst (λ (x : BookHistory). Adds x (Makes 1 (state_of x) e v) c) none.1 adds)
   | inr logged ↦ adds_cons a b c (MakesAcked 1 (state_of a) e v) (Makes 1 (state_of b) e v) call.Ack (reply.Acked (state_of a).releases) logged
-      (λ made makes. inr (own_entry (rules_of a) (state_of a) (entry_of call.Ack (reply.Acked (state_of a).releases)), made, refl, refl,
-      subst (λ (s : State). Makes 1 s e v made) logged.step.after makes)) adds
+      (λ made makes. inr (
+        own_entry (rules_of a) (state_of a) (entry_of call.Ack (reply.Acked (state_of a).releases)),
+        made,
+        refl,
+        refl,
+        subst (λ (s : State). Makes 1 s e v made) logged.step.after makes,
+      )) adds
 ]

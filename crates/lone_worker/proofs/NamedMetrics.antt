@@ -1,14 +1,13 @@
 -- A verdict that is held names a metric of its key's kind that is not gone.
-use Rattle.std.proofs.Common.{◌≡◌, ℕ, zero, suc, Bool, true, false, cond, Option, option_map, Some, None, IfSome, find, All, List, [], ◌∷◌, slice_get, refl, ap, sym, ◌∙◌, subst}
+use Rattle.std.proofs.Common.{◌≡◌, ℕ, zero, suc, Bool, true, false, cond, Option, Some, None, IfSome, find, All, List, [], ◌∷◌, slice_get, refl, sym, subst}
 use Rattle.std.specs.Option.{option_map_or, IsSomeAnd}
 use Rattle.stat_defs.specs.Books.{BookHistory}
 use Rattle.stat_defs.specs.Keys.{Held, held_under, same_key}
-use Rattle.stat_defs.specs.declared.ids.MetricId.{MetricId}
 use Rattle.stat_defs.specs.declared.events.Event.{Event}
 use Rattle.stat_defs.specs.declared.events.Key.{Key}
 use Rattle.stat_defs.specs.declared.history.Verdict.{Verdict}
 use Rattle.stat_defs.specs.declared.history.Verdict.TheVariants as verdict
-use Rattle.book_state.specs.State.{State, Row, Seat, held_in, seat_of, is_gone}
+use Rattle.book_state.specs.State.{State, Row, Seat, held_in, is_gone}
 use Rattle.book_state.specs.Follows.{event_key, held_verdict}
 use Rattle.book_state.specs.Safe.{IsSafe, NamesSafe, IsThere}
 use Rattle.book_state.specs.SafeLaws.{NamesMetric, HoldsMetrics}
@@ -40,15 +39,15 @@ module _ (s : State) (safe : IsSafe s) (names : HoldsMetrics s) (key : Key) wher
   of_held : (h : Held) (v : Verdict) → v ≡ h.verdict → h.key ≡ key → NamesSafe s h.verdict → NamesMetric s h.key h.verdict → NamesLive s key v
   of_held h v same under there kind = told v (subst (λ (w : Verdict). NamesSafe s w) (sym same) there)
       (subst (λ (w : Verdict). NamesMetric s key w) (sym same) (subst (λ (k : Key). NamesMetric s k h.verdict) under kind)) where
-    told : (w : Verdict) → NamesSafe s w → NamesMetric s key w → NamesLive s key w
-    told (verdict.Accepted id) there kind = both_of (slice_get s.metrics id.0) there kind.2
-    told (verdict.Opened id) there kind = tt
-    told (verdict.Released id) there kind = tt
-    told verdict.LabelTaken there kind = tt
-    told verdict.NoScope there kind = tt
-    told verdict.Rejected there kind = tt
-    told verdict.OverLimit there kind = tt
-    told verdict.NoRoom there kind = tt
+        told : (w : Verdict) → NamesSafe s w → NamesMetric s key w → NamesLive s key w
+        told (verdict.Accepted id) there kind = both_of (slice_get s.metrics id.0) there kind.2
+        told (verdict.Opened id) there kind = tt
+        told (verdict.Released id) there kind = tt
+        told verdict.LabelTaken there kind = tt
+        told verdict.NoScope there kind = tt
+        told verdict.Rejected there kind = tt
+        told verdict.OverLimit there kind = tt
+        told verdict.NoRoom there kind = tt
 
   in_seat : (o : Option Seat) → slice_get s.seats 0 ≡ o → (h : Held) (v : Verdict) → v ≡ h.verdict
       → Found (λ (x : Held). same_key x.key key) (option_map_or (λ (row : Seat). row.held) o []) h → NamesLive s key v

@@ -1,5 +1,5 @@
 -- The entries of a worker's seat stay those of its events.
-use Rattle.std.proofs.Common.{◌≡◌, ◌≢◌, ◌≤◌, ℕ, suc, Option, None, Some, Bool, true, false, MatchBool, List, [], ◌∷◌, ◌++◌, All, refl, ap, sym, ◌∙◌, subst, arith}
+use Rattle.std.proofs.Common.{◌≡◌, ◌≢◌, ◌≤◌, ℕ, suc, Option, None, Some, Bool, true, false, MatchBool, List, [], ◌∷◌, ◌++◌, refl, ap, sym, ◌∙◌, subst, arith}
 use Rattle.std.proofs.lemmas.List.Elements.{All-cons, All-nil}
 use Rattle.std.specs.Option.{option_map_or, IsSomeAnd}
 use Rattle.stat_defs.specs.Books.{BookHistory}
@@ -22,7 +22,6 @@ use Rattle.stat_book.specs.Calls.{rules_of, state_of, new_book, openings_by, Log
 use Rattle.stat_book.proofs.CallerLemmas.{new_openings}
 use Rattle.lone_worker.specs.Seats.{IsSeated}
 use Rattle.lone_worker.specs.Entries.{Applies}
-use Rattle.lone_worker.specs.Worker.{WorkerHistory, IsFollowed}
 
 -- the entries of a book's seat 1 are those of the events, and an End where it has ended
 abbrev pub FollowedIn : BookHistory → List Event → List Verdict → Bool → Type 0
@@ -35,7 +34,7 @@ module _ (old new : BookHistory) (events : List Event) (verdicts : List Verdict)
       let more : List Entry = applies.more in
       let before : FollowsSoFar (rules_of old) 1 1 events verdicts old.log = subst (λ (t : Bool). FollowedIn old events verdicts t) works so_far in
       let makes : MakesAcked 1 (replay (rules_of old) 1 old.log) e v (own (rules_of old) 1 (replay (rules_of old) 1 old.log) more)
-          = subst (λ (n : ℕ). MakesAcked 1 (replay (rules_of old) n old.log) e v (own (rules_of old) 1 (replay (rules_of old) n old.log) more)) one applies.asked in
+      = subst (λ (n : ℕ). MakesAcked 1 (replay (rules_of old) n old.log) e v (own (rules_of old) 1 (replay (rules_of old) n old.log) more)) one applies.asked in
       subst (λ (t : Bool). FollowedIn new (events ++ e ∷ []) (verdicts ++ v ∷ []) t) (sym works)
       (subst (λ (b : BookHistory). FollowsSoFar (rules_of b) 1 1 (events ++ e ∷ []) (verdicts ++ v ∷ []) b.log) (sym applies.logged)
       (chain_event (rules_of old) 1 1 events verdicts old.log more e v before makes))

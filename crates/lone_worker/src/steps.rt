@@ -92,7 +92,10 @@ fn decide(seat: &mut Seat, alloc: Global, event: &Event) -> Result<Verdict, NoMe
             judge(seat, alloc, label, Kind::Counter, Mode::Uninit, name)
         }
         Event::Gauge {
-            label, name, mode, ..
+            label,
+            name,
+            mode,
+            ..
         } => judge(seat, alloc, label, Kind::Gauge, *mode, name),
         Event::Rec { label, name, .. } => {
             judge(seat, alloc, label, Kind::Histogram, Mode::Uninit, name)

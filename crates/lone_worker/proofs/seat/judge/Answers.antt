@@ -1,15 +1,10 @@
-use Rattle.std.proofs.Common.{◌≡◌, ℕ, None, Some, Option, option_map, refl, ap, sym, ◌∙◌, subst, inl, inr}
+use Rattle.std.proofs.Common.{◌≡◌, Some, Option, option_map, refl, ap, sym, ◌∙◌, subst, inl}
 use Rattle.stat_defs.specs.declared.events.Key.{Key}
-use Rattle.stat_defs.specs.declared.history.Call.TheVariants as call
-use Rattle.stat_defs.specs.declared.history.Verdict.{Verdict}
 use Rattle.stat_defs.specs.Keys.{Held, held_under}
 use Rattle.stat_defs.specs.Names.{IsLocalName}
-use Rattle.book_state.specs.State.{held_in}
 use Rattle.book_state.specs.Follows.{held_verdict, key_in}
-use Rattle.stat_book.specs.Calls.{state_of, Answers}
-use Rattle.lone_worker.specs.Entries.{Judges}
-use Rattle.lone_worker.specs.Seats.{IsHeldNow}
-use Rattle.lone_worker.proofs.KeptSeats.{kept_same, kept_then, if_ok}
+use Rattle.stat_book.specs.Calls.{state_of}
+use Rattle.lone_worker.proofs.KeptSeats.{kept_same}
 use Rattle.lone_worker.proofs.seat.judge.Goals as goal
 
 pub returns-in-Some-clause-keeps : goal.returns-in-Some-clause-keeps
@@ -21,7 +16,7 @@ returns-in-Some-clause-judged c =
     let key = key_in c.args.label.now c.args.kind c.args.mode c.args.name.now in
     let verdict = λ (o : Option Held). option_map (λ (h : Held). h.verdict) o in
     let is : held_verdict (state_of seat.book) 1 key ≡ Some c.in-Some.verdict =
-        ap verdict (sym (c.requires.sits.held key)) ∙ (ap (λ (k : Key). verdict (held_under k seat.cache.entries)) (sym c.set.ensures) ∙ (sym c.hit.ensures.verdict ∙ c.in-Some.is)) in
+    ap verdict (sym (c.requires.sits.held key)) ∙ (ap (λ (k : Key). verdict (held_under k seat.cache.entries)) (sym c.set.ensures) ∙ (sym c.hit.ensures.verdict ∙ c.in-Some.is)) in
     inl (is, refl)
 
 pub returns-in-Some-clause-held : goal.returns-in-Some-clause-held
