@@ -1,7 +1,5 @@
 -- What calls of the worker add to the log, one after the other.
-use Rattle.std.proofs.Common.{◌≡◌, ◌≤◌, ◌⊎◌, ◌==◌, ◌&&◌, ℕ, Bool, true, false, Option, option_map, Some, None, List, [], ◌∷◌, ◌++◌, refl, ap, sym, ◌∙◌, subst, inl, inr, append_assoc, append-nil}
-use Rattle.std.specs.List.{list_all}
-use Rattle.std.specs.Option.{IsSomeAnd}
+use Rattle.std.proofs.Common.{◌≡◌, ℕ, Option, Some, None, List, [], ◌∷◌, ◌++◌, refl, ap, sym, ◌∙◌, subst, inl, inr, append_assoc, append-nil}
 use Rattle.stat_defs.specs.Books.{BookHistory}
 use Rattle.stat_defs.specs.declared.events.Event.{Event}
 use Rattle.stat_defs.specs.declared.events.Event.TheVariants as event
@@ -19,7 +17,7 @@ use Rattle.stat_defs.specs.declared.history.Reply.TheVariants as reply
 use Rattle.stat_defs.specs.declared.history.Verdict.{Verdict}
 use Rattle.stat_defs.specs.declared.history.Verdict.TheVariants as verdict
 use Rattle.book_state.specs.State.{State}
-use Rattle.book_state.specs.Follows.{Own, own, verdict_of, tag_of, held_verdict, key_in, MakesOne, SetsText, Finds, Makes, MakesAcked}
+use Rattle.book_state.specs.Follows.{Own, own, held_verdict, key_in, MakesOne, SetsText, Finds, Makes, MakesAcked}
 use Rattle.book_state.specs.Laws.{own_entry}
 use Rattle.book_state.proofs.Growing.{replayed}
 use Rattle.stat_book.specs.Calls.{rules_of, state_of, Logged, Answers}

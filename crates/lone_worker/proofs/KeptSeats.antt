@@ -1,5 +1,5 @@
 -- What each call keeps, one call after the other.
-use Rattle.std.proofs.Common.{◌≡◌, ℕ, ◌+◌, ◌≤◌, false, List, Result, Ok, Err, IfOk, OnOk, OnErr, refl, ap, sym, ◌∙◌, subst, arith}
+use Rattle.std.proofs.Common.{◌≡◌, ℕ, false, List, Result, Ok, Err, IfOk, OnOk, OnErr, ap, sym, ◌∙◌, subst, arith}
 use Rattle.stat_defs.specs.Books.{BookHistory}
 use Rattle.stat_defs.specs.Keys.{Held}
 use Rattle.stat_defs.specs.declared.history.Call.{Call}

@@ -1,14 +1,13 @@
 -- A verdict that is held names a metric of its key's kind that is not gone.
-use Rattle.std.proofs.Common.{◌≡◌, ℕ, zero, suc, Bool, true, false, cond, Option, option_map, Some, None, IfSome, find, All, List, [], ◌∷◌, slice_get, refl, ap, sym, ◌∙◌, subst}
+use Rattle.std.proofs.Common.{◌≡◌, ℕ, zero, suc, Bool, true, false, cond, Option, Some, None, IfSome, find, All, List, [], ◌∷◌, slice_get, refl, sym, subst}
 use Rattle.std.specs.Option.{option_map_or, IsSomeAnd}
 use Rattle.stat_defs.specs.Books.{BookHistory}
 use Rattle.stat_defs.specs.Keys.{Held, held_under, same_key}
-use Rattle.stat_defs.specs.declared.ids.MetricId.{MetricId}
 use Rattle.stat_defs.specs.declared.events.Event.{Event}
 use Rattle.stat_defs.specs.declared.events.Key.{Key}
 use Rattle.stat_defs.specs.declared.history.Verdict.{Verdict}
 use Rattle.stat_defs.specs.declared.history.Verdict.TheVariants as verdict
-use Rattle.book_state.specs.State.{State, Row, Seat, held_in, seat_of, is_gone}
+use Rattle.book_state.specs.State.{State, Row, Seat, held_in, is_gone}
 use Rattle.book_state.specs.Follows.{event_key, held_verdict}
 use Rattle.book_state.specs.Safe.{IsSafe, NamesSafe, IsThere}
 use Rattle.book_state.specs.SafeLaws.{NamesMetric, HoldsMetrics}

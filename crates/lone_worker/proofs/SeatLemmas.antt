@@ -1,9 +1,8 @@
 -- The seat beside its book, after each call of the book.
-use Rattle.std.proofs.Common.{◌≡◌, ℕ, ◌+◌, ◌<◌, ◌≤◌, ◌==◌, ◌&&◌, Bool, true, false, cond, not, Option, option_map, Some, None, List, [], ◌∷◌, ◌++◌, filter, drop, All, refl, ap, sym, ◌∙◌, subst, arith}
+use Rattle.std.proofs.Common.{◌≡◌, ℕ, ◌≤◌, ◌==◌, ◌&&◌, Bool, true, false, cond, not, Option, option_map, Some, None, List, [], ◌∷◌, ◌++◌, filter, drop, All, refl, ap, sym, ◌∙◌, subst, arith}
 use Rattle.std.specs.Option.{option_map_or, IsSomeAnd}
 use Rattle.stat_defs.specs.Books.{BookHistory}
 use Rattle.stat_defs.specs.Keys.{Held, held_under, same_key, is_through}
-use Rattle.stat_defs.specs.declared.configs.Config.{Config}
 use Rattle.stat_defs.specs.declared.ids.ScopeId.{ScopeId}
 use Rattle.stat_defs.specs.declared.ids.MetricId.{MetricId}
 use Rattle.stat_defs.specs.declared.events.Key.{Key}
@@ -17,9 +16,9 @@ use Rattle.stat_defs.specs.declared.history.Verdict.TheVariants as verdict
 use Rattle.stat_defs.specs.declared.ids.Kind.TheVariants.{Text}
 use Rattle.book_state.specs.State.{State, Seat, seat_of, held_in}
 use Rattle.book_state.specs.Finding.{scope_of}
-use Rattle.book_state.specs.Step.{effect, is_live, Works}
-use Rattle.book_state.specs.Follows.{verdict_of, tag_of, held_verdict}
-use Rattle.book_state.specs.SeatLaws.{is_held, is_end, is_ack, unacknowledged}
+use Rattle.book_state.specs.Step.{is_live, Works}
+use Rattle.book_state.specs.Follows.{tag_of}
+use Rattle.book_state.specs.SeatLaws.{is_held}
 use Rattle.book_state.specs.Stored.{released_in}
 use Rattle.book_state.proofs.Lists.{count_push, true_false, map_some}
 use Rattle.book_state.proofs.Holding.{held_once, dead_scopes}
@@ -30,7 +29,7 @@ use Rattle.thread_cache.specs.SameHeld.{SameHeld}
 use Rattle.thread_cache.proofs.Agreeing.{last_held, held_left}
 use Rattle.stat_defs.proofs.KeyLemmas.{same_key-refl}
 use Rattle.stat_book.specs.Calls.{rules_of, state_of, IsLegal, Logged, Answers, is_opening, openings_by}
-use Rattle.stat_book.proofs.CallerLemmas.{state_after, other_seat_stays, openings_after}
+use Rattle.stat_book.proofs.CallerLemmas.{other_seat_stays}
 use Rattle.lone_worker.specs.Seats.{IsSeated, IsHeldNow, MaySet}
 
 abbrev IsWorking : Option Seat → Type 0

@@ -1,5 +1,5 @@
 -- The entries of a worker's seat stay those of its events.
-use Rattle.std.proofs.Common.{◌≡◌, ◌≢◌, ◌≤◌, ℕ, suc, Option, None, Some, Bool, true, false, MatchBool, List, [], ◌∷◌, ◌++◌, All, refl, ap, sym, ◌∙◌, subst, arith}
+use Rattle.std.proofs.Common.{◌≡◌, ◌≢◌, ◌≤◌, ℕ, suc, Option, None, Some, Bool, true, false, MatchBool, List, [], ◌∷◌, ◌++◌, refl, ap, sym, ◌∙◌, subst, arith}
 use Rattle.std.proofs.lemmas.List.Elements.{All-cons, All-nil}
 use Rattle.std.specs.Option.{option_map_or, IsSomeAnd}
 use Rattle.stat_defs.specs.Books.{BookHistory}
@@ -22,7 +22,6 @@ use Rattle.stat_book.specs.Calls.{rules_of, state_of, new_book, openings_by, Log
 use Rattle.stat_book.proofs.CallerLemmas.{new_openings}
 use Rattle.lone_worker.specs.Seats.{IsSeated}
 use Rattle.lone_worker.specs.Entries.{Applies}
-use Rattle.lone_worker.specs.Worker.{WorkerHistory, IsFollowed}
 
 -- the entries of a book's seat 1 are those of the events, and an End where it has ended
 abbrev pub FollowedIn : BookHistory → List Event → List Verdict → Bool → Type 0

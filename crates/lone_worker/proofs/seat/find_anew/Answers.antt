@@ -1,9 +1,8 @@
-use Rattle.std.proofs.Common.{◌≡◌, ℕ, None, Option, unwrap_or, refl, ap, sym, ◌∙◌, subst}
+use Rattle.std.proofs.Common.{ℕ, Option, unwrap_or, refl, ap, sym, ◌∙◌}
 use Rattle.stat_defs.specs.declared.history.Call.TheVariants as call
 use Rattle.stat_defs.specs.declared.events.Key.{Key}
 use Rattle.stat_defs.specs.Keys.{held_under}
-use Rattle.thread_cache.specs.Held.{CacheState, held_with, has_room}
-use Rattle.book_state.specs.Finding.{scope_of}
+use Rattle.thread_cache.specs.Held.{CacheState, held_with}
 use Rattle.book_state.proofs.SeatStays.{may_find}
 use Rattle.stat_book.specs.Calls.{state_of}
 use Rattle.lone_worker.proofs.SeatLemmas.{find_sits, find_held}

@@ -1,4 +1,4 @@
-use Rattle.std.proofs.Common.{◌≡◌, ℕ, true, false, Option, Some, option_map, unwrap_or, refl, ap, sym, ◌∙◌, subst, inl, inr}
+use Rattle.std.proofs.Common.{Option, option_map, unwrap_or, ap, sym, ◌∙◌, inl, inr}
 use Rattle.stat_defs.specs.declared.ids.ScopeId.{ScopeId}
 use Rattle.book_state.specs.SeatLaws.{is_held}
 use Rattle.book_state.proofs.Lists.{true_false}

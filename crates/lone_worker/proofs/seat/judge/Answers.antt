@@ -1,15 +1,10 @@
-use Rattle.std.proofs.Common.{◌≡◌, ℕ, None, Some, Option, option_map, refl, ap, sym, ◌∙◌, subst, inl, inr}
+use Rattle.std.proofs.Common.{◌≡◌, Some, Option, option_map, refl, ap, sym, ◌∙◌, subst, inl}
 use Rattle.stat_defs.specs.declared.events.Key.{Key}
-use Rattle.stat_defs.specs.declared.history.Call.TheVariants as call
-use Rattle.stat_defs.specs.declared.history.Verdict.{Verdict}
 use Rattle.stat_defs.specs.Keys.{Held, held_under}
 use Rattle.stat_defs.specs.Names.{IsLocalName}
-use Rattle.book_state.specs.State.{held_in}
 use Rattle.book_state.specs.Follows.{held_verdict, key_in}
-use Rattle.stat_book.specs.Calls.{state_of, Answers}
-use Rattle.lone_worker.specs.Entries.{Judges}
-use Rattle.lone_worker.specs.Seats.{IsHeldNow}
-use Rattle.lone_worker.proofs.KeptSeats.{kept_same, kept_then, if_ok}
+use Rattle.stat_book.specs.Calls.{state_of}
+use Rattle.lone_worker.proofs.KeptSeats.{kept_same}
 use Rattle.lone_worker.proofs.seat.judge.Goals as goal
 
 pub returns-in-Some-clause-keeps : goal.returns-in-Some-clause-keeps

@@ -1,5 +1,4 @@
-use Rattle.std.proofs.Common.{◌≡◌, ◌<◌, refl, arith}
-use Rattle.stat_defs.specs.declared.history.Verdict.{Verdict}
+use Rattle.std.proofs.Common.{arith}
 use Rattle.lone_worker.specs.Entries.{AddsEvent, Applies}
 use Rattle.lone_worker.specs.Seats.{Keeps}
 use Rattle.lone_worker.proofs.EntryLemmas.{acked_add}

@@ -1,9 +1,8 @@
-use Rattle.std.proofs.Common.{◌≡◌, ℕ, Result, OnErr, IfOk, refl, sym, subst}
+use Rattle.std.proofs.Common.{sym, subst}
 use Rattle.stat_defs.specs.Events.{IsLawfulEvent}
 use Rattle.stat_defs.specs.declared.events.Event.{Event}
 use Rattle.stat_defs.specs.declared.events.Event.TheVariants as event
 use Rattle.stat_defs.specs.declared.history.Call.TheVariants as call
-use Rattle.stat_defs.specs.declared.history.Verdict.{Verdict}
 use Rattle.stat_defs.specs.declared.ids.Kind.TheVariants as kind
 use Rattle.stat_defs.specs.declared.ids.Mode.TheVariants.{Uninit}
 use Rattle.book_state.specs.Follows.{key_in}

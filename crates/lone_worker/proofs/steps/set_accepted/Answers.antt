@@ -1,5 +1,4 @@
-use Rattle.std.proofs.Common.{◌≡◌, ℕ, List, OnOk, refl, ap, sym, ◌∙◌, subst}
-use Rattle.std.specs.Option.{option_map_or}
+use Rattle.std.proofs.Common.{◌≡◌, OnOk, refl, ap, sym, subst}
 use Rattle.stat_defs.specs.Books.{BookHistory}
 use Rattle.stat_defs.specs.declared.history.Call.TheVariants as call
 use Rattle.stat_defs.specs.declared.history.Reply.TheVariants as reply

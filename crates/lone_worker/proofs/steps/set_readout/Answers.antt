@@ -1,4 +1,4 @@
-use Rattle.std.proofs.Common.{◌≡◌, Option, option_map, List, refl, ap, sym, ◌∙◌, subst}
+use Rattle.std.proofs.Common.{option_map, List, refl, ap, ◌∙◌}
 use Rattle.stat_defs.specs.Keys.{Held, held_under}
 use Rattle.stat_defs.specs.declared.ids.Kind.TheVariants as kind
 use Rattle.stat_defs.specs.declared.ids.Mode.TheVariants.{Uninit}

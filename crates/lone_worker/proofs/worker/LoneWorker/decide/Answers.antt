@@ -1,10 +1,8 @@
-use Rattle.std.proofs.Common.{◌≡◌, ◌+◌, ◌<◌, ◌≤◌, List, [], ◌∷◌, ◌++◌, length, length-append, false, true, refl, ap, sym, ◌∙◌, subst, arith}
+use Rattle.std.proofs.Common.{List, [], ◌∷◌, ◌++◌, length, length-append, false, refl, ap, sym, ◌∙◌, subst, arith}
 use Rattle.stat_defs.specs.declared.events.Event.{Event}
 use Rattle.stat_defs.specs.declared.history.Verdict.{Verdict}
 use Rattle.book_state.proofs.Lists.{true_false}
-use Rattle.stat_book.specs.Calls.{state_of}
 use Rattle.lone_worker.specs.Worker.{WorkerHistory, Decides, IsCutShort}
-use Rattle.lone_worker.specs.WorkerKept.{shown}
 use Rattle.lone_worker.proofs.KeptSeats.{err_so}
 use Rattle.lone_worker.proofs.NamedMetrics.{names_own}
 use Rattle.lone_worker.proofs.WorkerLemmas.{FollowedIn, decided_follows}

@@ -1,10 +1,9 @@
-use Rattle.std.proofs.Common.{◌≡◌, ◌≤◌, true, false, refl, ap, sym, ◌∙◌, subst, arith}
+use Rattle.std.proofs.Common.{◌≡◌, true, refl, ap, sym, ◌∙◌, subst, arith}
 use Rattle.stat_defs.specs.Books.{BookHistory}
 use Rattle.stat_defs.specs.declared.history.Call.TheVariants as call
 use Rattle.stat_defs.specs.declared.history.Reply.TheVariants as reply
 use Rattle.book_state.proofs.Lists.{true_false}
-use Rattle.book_state.specs.Step.{Works}
-use Rattle.stat_book.specs.Calls.{state_of, Logged}
+use Rattle.stat_book.specs.Calls.{Logged}
 use Rattle.lone_worker.specs.Worker.{WorkerHistory}
 use Rattle.lone_worker.specs.WorkerKept.{shown, IsKept}
 use Rattle.lone_worker.proofs.SeatLemmas.{workers_stay, none_opened}

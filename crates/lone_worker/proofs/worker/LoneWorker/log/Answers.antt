@@ -1,6 +1,4 @@
-use Rattle.std.proofs.Common.{◌≡◌, true, List, length, refl, ap, sym, ◌∙◌, subst}
-use Rattle.stat_defs.specs.declared.history.Entry.{Entry}
-use Rattle.stat_defs.specs.Books.{BookHistory}
+use Rattle.std.proofs.Common.{◌≡◌, true, length, ap, sym, ◌∙◌, subst}
 use Rattle.book_state.specs.Safe.{SymbolsSafe}
 use Rattle.stat_book.specs.Calls.{rules_of, IsLegal}
 use Rattle.lone_worker.specs.Worker.{WorkerHistory, IsFollowed}

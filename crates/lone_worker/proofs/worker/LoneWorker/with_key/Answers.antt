@@ -1,9 +1,8 @@
-use Rattle.std.proofs.Common.{◌≡◌, ◌≤◌, ℕ, false, true, List, [], length, refl, ap, sym, ◌∙◌, subst, arith}
+use Rattle.std.proofs.Common.{false, true, List, [], length, ap, sym, ◌∙◌, subst, arith}
 use Rattle.stat_defs.specs.Books.{BookHistory}
 use Rattle.stat_defs.specs.declared.events.Event.{Event}
 use Rattle.stat_defs.specs.declared.history.Verdict.{Verdict}
 use Rattle.thread_cache.specs.Held.{CacheState}
-use Rattle.lone_worker.specs.Worker.{WorkerHistory}
 use Rattle.lone_worker.proofs.WorkerLemmas.{FollowedIn, first_sits, first_follows, none_opened_first}
 use Rattle.lone_worker.proofs.worker.LoneWorker.with_key.Goals as goal
 
