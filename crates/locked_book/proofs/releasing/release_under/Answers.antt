@@ -1,4 +1,4 @@
-use Rattle.std.proofs.Common.{◌∙◌, ap, subst}
+use Rattle.std.proofs.Common.{subst}
 use Rattle.book_state.specs.Step.{Works}
 use Rattle.stat_book.specs.Calls.{state_of}
 use Rattle.book_lock.specs.Seats.{seat_part, held_book}

@@ -1,4 +1,4 @@
-use Rattle.std.proofs.Common.{◌≡◌, ◌∙◌, ◌++◌, ℕ, ap, arith, sym, subst}
+use Rattle.std.proofs.Common.{◌∙◌, ◌++◌, ap, arith, sym, subst}
 use Rattle.std.specs.Option.{option_to_list}
 use Rattle.stat_book.specs.Calls.{new_book}
 use Rattle.stat_book.proofs.CallerLemmas.{new_works}
