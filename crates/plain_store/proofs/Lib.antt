@@ -1,0 +1,6 @@
+pub mod Numbers
+pub mod Listed
+pub mod CountersStay
+pub mod StoreLemmas
+pub mod FlushLemmas
+pub mod FinishLemmas

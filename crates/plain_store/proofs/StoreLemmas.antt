@@ -1,0 +1,170 @@
+-- The sums stay those of the work.
+use Rattle.std.proofs.Common.{◌≡◌, ℕ, ◌<◌, ◌^◌, ◌==◌, Bool, true, false, cond, Option, Some, None, IfSome, List, [], ◌∷◌, ◌++◌, length, slice_get, option_to_list, All, append-nil, refl, ap, sym, ◌∙◌, subst, arith}
+use Rattle.std.specs.List.{zip, cons_option}
+use Rattle.std.specs.Option.{IsSomeAnd}
+use Rattle.std.proofs.lemmas.Bool.Decides.{Decides-eqb}
+use Rattle.std.proofs.lemmas.List.Elements.{All-nil, All-push, filter_map-append}
+use Rattle.stat_defs.specs.Books.{BookHistory}
+use Rattle.stat_defs.specs.Events.{IsLawfulEvent}
+use Rattle.stat_defs.specs.Keys.{same_kind}
+use Rattle.stat_defs.specs.declared.ids.Kind.{Kind}
+use Rattle.stat_defs.specs.declared.ids.Kind.TheVariants.{Counter}
+use Rattle.stat_defs.specs.declared.events.Event.{Event}
+use Rattle.stat_defs.specs.declared.events.Event.TheVariants as event
+use Rattle.stat_defs.specs.declared.history.Verdict.{Verdict}
+use Rattle.stat_defs.specs.declared.history.Verdict.TheVariants as verdict
+use Rattle.merge_round.specs.Halves.{bins_by}
+use Rattle.merge_round.specs.Rounds.{ParentsState, parts_in}
+use Rattle.merge_round.proofs.ByValues.{bins_by-none, bins_by-more}
+use Rattle.book_state.specs.State.{State, Row, is_gone}
+use Rattle.book_state.specs.Follows.{MakesAcked}
+use Rattle.book_state.proofs.Lists.{true_false, within_some}
+use Rattle.stat_defs.specs.declared.configs.Config.{Config}
+use Rattle.stat_defs.specs.declared.events.Key.{Key}
+use Rattle.stat_book.specs.Calls.{rules_of, state_of, IsLegal}
+use Rattle.lone_worker.specs.Seats.{NamesLive, NamesOwn}
+use Rattle.lone_worker.specs.Worker.{WorkerHistory, Decides}
+use Rattle.ledger.specs.Work.{Work, units_in, units_of, recording_in, recordings}
+use Rattle.ledger.specs.Gauges.{gauge_word, move_in}
+use Rattle.ledger.specs.Segments.{left_over, TakesLess}
+use Rattle.ledger.specs.Flushes.{FitSoFar}
+use Rattle.ledger.specs.Laws.{word_after_any}
+use Rattle.ledger.proofs.WorkLists.{work_event}
+use Rattle.ledger.proofs.Sums.{units_event}
+use Rattle.ledger.proofs.Words.{word_event}
+use Rattle.ledger.proofs.Pieces.{left_event, less_event}
+use Rattle.ledger.proofs.FlushesFit.{all_event, all_entries}
+use Rattle.plain_store.specs.declared.sums.Sums.{Sums}
+use Rattle.plain_store.specs.Sums.{AreZero, IsMade, with_recording, SumsUp}
+use Rattle.plain_store.specs.Store.{StoreHistory, new_store, work_in}
+use Rattle.plain_store.specs.StoreKept.{is_counter_there, AreOfWork}
+use Rattle.plain_store.proofs.CountersStay.{counters_stay, there_of_row}
+
+-- an accepted increment is of a counter that is not gone
+no_units : (s : State) (e : Event) (v : Verdict) (id : ℕ) → NamesOwn s e v → is_counter_there s id ≡ false → units_in id (e, v) ≡ 0
+no_units s (event.Inc label name n) (verdict.Accepted given) id named none = by_id (given.0 == id) refl where
+  of_row : (o : Option Row) → slice_get s.metrics given.0 ≡ o → IsSomeAnd o (λ row. (row.metric.kind ≡ Counter) × (is_gone row.metric.life ≡ false)) → is_counter_there s given.0 ≡ true
+  of_row None is named = absurd named
+  of_row (Some row) is named = there_of_row s given.0 row is (ap (λ (k : Kind). same_kind k Counter) named.0) named.1
+
+  by_id : (t : Bool) → (given.0 == id) ≡ t → cond t n 0 ≡ 0
+  by_id true same = absurd (true_false (sym (subst (λ (k : ℕ). is_counter_there s k ≡ true) ((Decides-eqb given.0 id).0 same) (of_row (slice_get s.metrics given.0) refl named)) ∙ none))
+  by_id false same = refl
+no_units s (event.Inc label name n) (verdict.Opened i) id named none = refl
+no_units s (event.Inc label name n) (verdict.Released i) id named none = refl
+no_units s (event.Inc label name n) verdict.LabelTaken id named none = refl
+no_units s (event.Inc label name n) verdict.NoScope id named none = refl
+no_units s (event.Inc label name n) verdict.Rejected id named none = refl
+no_units s (event.Inc label name n) verdict.OverLimit id named none = refl
+no_units s (event.Inc label name n) verdict.NoRoom id named none = refl
+no_units s (event.Gauge label name mode op n) v id named none = refl
+no_units s (event.Rec label name n) v id named none = refl
+no_units s (event.SetText label name text) v id named none = refl
+no_units s (event.OpenScope label prefix) v id named none = refl
+no_units s (event.Release label) v id named none = refl
+
+-- what is recorded has 64 bits
+lawful_recording : (e : Event) (v : Verdict) → IsLawfulEvent e → IfSome (recording_in (e, v)) (λ r. r.1 < 2 ^ 64)
+lawful_recording (event.Rec label name n) (verdict.Accepted given) lawful = lawful.2
+lawful_recording (event.Rec label name n) (verdict.Opened i) lawful = tt
+lawful_recording (event.Rec label name n) (verdict.Released i) lawful = tt
+lawful_recording (event.Rec label name n) verdict.LabelTaken lawful = tt
+lawful_recording (event.Rec label name n) verdict.NoScope lawful = tt
+lawful_recording (event.Rec label name n) verdict.Rejected lawful = tt
+lawful_recording (event.Rec label name n) verdict.OverLimit lawful = tt
+lawful_recording (event.Rec label name n) verdict.NoRoom lawful = tt
+lawful_recording (event.Inc label name n) v lawful = tt
+lawful_recording (event.Gauge label name mode op n) v lawful = tt
+lawful_recording (event.SetText label name text) v lawful = tt
+lawful_recording (event.OpenScope label prefix) v lawful = tt
+lawful_recording (event.Release label) v lawful = tt
+
+with_small : (o : Option (ℕ × ℕ)) (xs : List (ℕ × ℕ)) → IfSome o (λ r. r.1 < 2 ^ 64) → All (λ (r : ℕ × ℕ). r.1 < 2 ^ 64) xs → All (λ (r : ℕ × ℕ). r.1 < 2 ^ 64) (xs ++ option_to_list o)
+with_small None xs this small = subst (All (λ (r : ℕ × ℕ). r.1 < 2 ^ 64)) (sym (append-nil xs)) small
+with_small (Some r) xs this small = All-push (λ (r : ℕ × ℕ). r.1 < 2 ^ 64) xs r small this
+
+one_recording : (work : Work) (told : Event × Verdict) → recordings (work ++ told ∷ []) ≡ recordings work ++ option_to_list (recording_in told)
+one_recording work told = filter_map-append recording_in work (told ∷ []) ∙ ap (λ (rs : List (ℕ × ℕ)). recordings work ++ rs) (only (recording_in told)) where
+  only : (o : Option (ℕ × ℕ)) → cons_option o [] ≡ option_to_list o
+  only None = refl
+  only (Some r) = refl
+
+recorded : (values : List (ℕ × ℕ)) (o : Option (ℕ × ℕ)) → with_recording (bins_by values) o ≡ bins_by (values ++ option_to_list o)
+recorded values None = ap bins_by (sym (append-nil values))
+recorded values (Some (id, v)) = bins_by-more values id v
+
+module _ (old : StoreHistory) (e : Event) (v : Verdict) (worker : WorkerHistory) (before after : Sums)
+    (decided : Decides old.worker e v worker) (each : length old.worker.verdicts ≡ length old.worker.events) (lawful : IsLawfulEvent e)
+    (legal : IsLegal worker.book) (named : NamesOwn (state_of worker.book) e v) (sums : SumsUp before (e, v) after)
+    (same_parents : after.parents ≡ before.parents) (was : AreOfWork old before) where
+  abbrev new : StoreHistory
+  new = record old { worker = worker }
+
+  work_is : work_in new ≡ work_in old ++ (e, v) ∷ []
+  work_is = ap (λ (w : WorkerHistory). zip w.events w.verdicts) decided.decided ∙ work_event old.worker.events old.worker.verdicts e v each
+
+  book_is : worker.book ≡ record old.worker.book { log = old.worker.book.log ++ decided.added.more }
+  book_is = decided.added.logged
+
+  pub applied_of_work : AreOfWork new after
+  applied_of_work = record {
+    worker = ap (λ (w : WorkerHistory). w.whole) decided.decided ∙ was.worker;
+    units = λ id. (
+        let grow = units_event id 0 (e, v) (work_in old ∷ []) (omega arith) in
+        let same = ap (λ (w : Work). units_of id (w ∷ [])) work_is in
+        let sum = sums.units id in let before = was.units id in
+        omega (arith, grow, same, sum, before));
+    none_elsewhere = λ id none. (
+        let sum = sums.units id in
+        let added = no_units (state_of worker.book) e v id named none in
+        let kept = was.none_elsewhere id (not_there id none) in
+        omega (arith, sum, added, kept));
+    words = λ id. sums.words id ∙ (ap (λ (w : ℕ). word_after_any w (move_in id (e, v))) (was.words id)
+        ∙ (sym (word_event id (work_in old) (e, v)) ∙ ap (gauge_word id) (sym work_is)));
+    bins = sums.bins ∙ (ap (λ bins. with_recording bins (recording_in (e, v))) was.bins
+        ∙ (recorded (left_over 1 (work_in old) old.flushes) (recording_in (e, v))
+        ∙ (ap bins_by (sym (left_event 1 (work_in old) (e, v) old.flushes was.takes_less)) ∙ ap (λ (w : Work). bins_by (left_over 1 w old.flushes)) (sym work_is))));
+    none_merged = ap (λ (p : ParentsState). parts_in p) same_parents ∙ was.none_merged;
+    values = subst (All (λ (r : ℕ × ℕ). r.1 < 2 ^ 64)) (sym (ap recordings work_is ∙ one_recording (work_in old) (e, v)))
+        (with_small (recording_in (e, v)) (recordings (work_in old)) (lawful_recording e v lawful) was.values);
+    takes_less = subst (λ (w : Work). TakesLess 1 w old.flushes) (sym work_is) (less_event 1 (work_in old) (e, v) old.flushes was.takes_less);
+    fit = subst (λ (b : BookHistory). FitSoFar (rules_of b) b.log (work_in new ∷ []) old.flushes) (sym book_is)
+        (subst (λ (w : Work). FitSoFar (rules_of old.worker.book) (old.worker.book.log ++ decided.added.more) (w ∷ []) old.flushes) (sym work_is)
+        (all_event (rules_of old.worker.book) (old.worker.book.log ++ decided.added.more) 0 (e, v) (work_in old ∷ []) old.flushes (was.takes_less, tt)
+        (all_entries (rules_of old.worker.book) old.worker.book.log decided.added.more (work_in old ∷ []) old.flushes was.fit)));
+  } where
+    not_there : (id : ℕ) → is_counter_there (state_of worker.book) id ≡ false → is_counter_there (state_of old.worker.book) id ≡ false
+    not_there id none = by_case (is_counter_there (state_of old.worker.book) id) refl where
+      by_case : (t : Bool) → is_counter_there (state_of old.worker.book) id ≡ t → t ≡ false
+      by_case true there = absurd (true_false (sym (counters_stay old.worker.book worker.book (MakesAcked 1 (state_of old.worker.book) e v) decided.added legal id there) ∙ none))
+      by_case false there = refl
+
+pub if_some : {X : Type 0} (o : Option X) (P Q : X → Type 0) → ((x : X) → P x → Q x) → IfSome o P → IfSome o Q
+if_some None P Q to is = is
+if_some (Some x) P Q to is = to x is
+
+-- a metric that is named was made
+pub made_live : (s : State) (made : ℕ) (key : Key) (v : Verdict) → made ≡ length s.metrics → NamesLive s key v → IsMade made v
+made_live s made key (verdict.Accepted id) are named =
+    let within = within_some s.metrics id.0 (λ row. (row.metric.kind ≡ key.kind) × (is_gone row.metric.life ≡ false)) named in omega (arith, within, are)
+made_live s made key (verdict.Opened i) are named = tt
+made_live s made key (verdict.Released i) are named = tt
+made_live s made key verdict.LabelTaken are named = tt
+made_live s made key verdict.NoScope are named = tt
+made_live s made key verdict.Rejected are named = tt
+made_live s made key verdict.OverLimit are named = tt
+made_live s made key verdict.NoRoom are named = tt
+
+-- before the first event
+pub first_of_work : (config : Config) (sums : Sums) → AreZero sums → AreOfWork (new_store config) sums
+first_of_work config sums nothing = record {
+  worker = refl;
+  units = λ id. (let none = nothing.deltas id in omega (arith, none));
+  none_elsewhere = λ id none. nothing.deltas id;
+  words = nothing.words;
+  bins = nothing.bins ∙ sym bins_by-none;
+  none_merged = nothing.merged;
+  values = All-nil (λ (r : ℕ × ℕ). r.1 < 2 ^ 64);
+  takes_less = omega arith;
+  fit = tt;
+}

@@ -1,0 +1,124 @@
+//! The record of a flush.
+ghost use Rattle.std.specs.Prelude.{◌≡◌, ◌≤◌, ◌<◌, ◌+◌, ◌==◌, ℕ, All, IfOk, OnOk, length, map, filter, if◌then◌else◌};
+ghost use Rattle.stat_defs.specs.declared.ids.Kind.TheVariants.{Counter, Gauge};
+ghost use Rattle.stat_book.specs.Calls.{state_of};
+ghost use Rattle.loglinear_bins.specs.declared.place.TheConstants.{MAX_COUNT};
+ghost use Rattle.merge_round.specs.Halves.{bins_in, no_bins};
+ghost use Rattle.merge_round.specs.Rounds.{parts_in, with_part, no_parts, ArePartsOf};
+ghost use Rattle.plain_store.specs.Sums.{number_at, is_of_kind, delta_of, reading_of, is_among, delta_in, Shows, IsEmptied};
+
+use crate::lists::of_kind;
+use crate::sums::{Sums, number_at};
+use lone_worker::LoneWorker;
+use stat_defs::{Delta, FlushRecord, Kind, List, MetricId, NoMemory, Part, Reading};
+use std::alloc::Global;
+
+/// The worker whose values the half has.
+const WORKER: u32 = 1;
+
+// A delta for each of these counters.
+fn deltas_of(alloc: Global, deltas: &[u64], ids: &[MetricId]) -> Result<Vec<Delta>, NoMemory>
+    ensures { IfOk result (λ shown. shown.items ≡ map (delta_of deltas.now) ids.now) }
+{
+    let mut shown = Vec::new(alloc);
+    for id in ids {
+        let n = number_at(deltas, *id);
+        shown.push(Delta { id: *id, n })?;
+    }
+    Ok(shown)
+}
+
+// A reading of each of these gauges.
+fn readings_of(alloc: Global, words: &[u64], ids: &[MetricId]) -> Result<Vec<Reading>, NoMemory>
+    ensures { IfOk result (λ shown. shown.items ≡ map (reading_of words.now) ids.now) }
+{
+    let mut shown = Vec::new(alloc);
+    for id in ids {
+        let word = number_at(words, *id);
+        shown.push(Reading { id: *id, word })?;
+    }
+    Ok(shown)
+}
+
+// A number becomes 0.
+fn set_zero(deltas: &mut Vec<u64>, id: MetricId)
+    ensures { (k : ℕ) → number_at deltas.new.items k ≡ (if id.0 == k then 0 else number_at deltas.old.items k) }
+{
+    let at = id.0 as usize;
+    if at < deltas.len() {
+        deltas[at] = 0;
+    }
+}
+
+// The counters that were shown begin anew from 0.
+fn empty(deltas: &mut Vec<u64>, shown: &[Delta])
+    ensures { (k : ℕ) → number_at deltas.new.items k ≡ (if is_among shown.now k then 0 else number_at deltas.old.items k) }
+{
+    for delta in shown {
+        set_zero(deltas, delta.id);
+    }
+}
+
+// Takes the half, and gives the parts.
+fn take_parts(alloc: Global, sums: &mut Sums) -> Result<Vec<Part>, NoMemory>
+    requires { sums.old.parents.count + sums.old.half.count ≤ MAX_COUNT }
+    ensures parts { IfOk result (λ parts. ArePartsOf (with_part (parts_in sums.old.parents) 1 (bins_in sums.old.half)) parts.items) }
+    ensures merged { OnOk result (parts_in sums.new.parents ≡ no_parts) }
+    ensures bins { OnOk result (bins_in sums.new.half ≡ no_bins) }
+    ensures values { sums.new.parents.count + sums.new.half.count ≡ sums.old.parents.count + sums.old.half.count }
+    ensures deltas { sums.new.deltas ≡ sums.old.deltas }
+    ensures words { sums.new.words ≡ sums.old.words }
+{
+    sums.parents.take_half(alloc, WORKER, &mut sums.half)?;
+    let parts = sums.parents.new_round(alloc)?;
+    Ok(parts)
+}
+
+// The record of a flush that shows these counters and gauges. What it shows of counters and histograms begins anew.
+fn take_record(
+    alloc: Global,
+    sums: &mut Sums,
+    at: u64,
+    counters: &[MetricId],
+    gauges: &[MetricId],
+) -> Result<FlushRecord, NoMemory>
+    requires { sums.old.parents.count + sums.old.half.count ≤ MAX_COUNT }
+    ensures shows { IfOk result (λ flush. Shows sums.old at counters.now gauges.now flush) }
+    ensures emptied { IfOk result (λ flush. IsEmptied sums.old flush sums.new) }
+    ensures deltas { (k : ℕ) → delta_in sums.new k ≤ delta_in sums.old k }
+    ensures values { sums.new.parents.count + sums.new.half.count ≡ sums.old.parents.count + sums.old.half.count }
+{
+    let deltas = deltas_of(alloc, &sums.deltas, counters)?;
+    let gauges = readings_of(alloc, &sums.words, gauges)?;
+    let parts = take_parts(alloc, sums)?;
+    empty(&mut sums.deltas, &deltas);
+    Ok(FlushRecord {
+        at,
+        deltas: List::of(deltas),
+        gauges: List::of(gauges),
+        parts: List::of(parts),
+    })
+}
+
+/// The record of a flush that shows the counters among the first of these metrics, and the gauges among the second.
+pub(crate) fn take_flush(
+    alloc: Global,
+    sums: &mut Sums,
+    worker: &LoneWorker,
+    at: u64,
+    counters: &[MetricId],
+    gauges: &[MetricId],
+) -> Result<FlushRecord, NoMemory>
+    requires counters { All (λ id. id.0 < length (state_of worker.now.book).metrics) counters.now }
+    requires gauges { All (λ id. id.0 < length (state_of worker.now.book).metrics) gauges.now }
+    requires few { sums.old.parents.count + sums.old.half.count ≤ MAX_COUNT }
+    ensures shows { let s = state_of worker.now.book in
+        IfOk result (λ flush. Shows sums.old at (filter (is_of_kind Counter s) counters.now) (filter (is_of_kind Gauge s) gauges.now) flush) }
+    ensures emptied { IfOk result (λ flush. IsEmptied sums.old flush sums.new) }
+    ensures deltas { (k : ℕ) → delta_in sums.new k ≤ delta_in sums.old k }
+    ensures values { sums.new.parents.count + sums.new.half.count ≡ sums.old.parents.count + sums.old.half.count }
+{
+    let counters = of_kind(alloc, worker, Kind::Counter, counters)?;
+    let gauges = of_kind(alloc, worker, Kind::Gauge, gauges)?;
+    take_record(alloc, sums, at, &counters, &gauges)
+}

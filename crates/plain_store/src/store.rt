@@ -1,0 +1,130 @@
+//! The store.
+ghost use Rattle.std.specs.Prelude.{◌≡◌, ◌<◌, length, IfOk, OnErr};
+ghost use Rattle.stat_defs.specs.Configs.{IsConfig};
+ghost use Rattle.stat_defs.specs.Events.{IsLawfulEvent};
+ghost use Rattle.lone_worker.specs.declared.worker.TheConstants.{MAX_EVENTS};
+ghost use Rattle.plain_store.specs.Store.{new_store, Applied, IsCutShort, Flushes, Finishes};
+
+use crate::account::sum_up;
+use crate::last::finish_parts;
+use crate::record::take_flush;
+use crate::sums::Sums;
+use ghost_list::GhostList;
+use lone_worker::LoneWorker;
+use name_map::HashKey;
+use stat_defs::{Config, Event, FlushRecord, LastFlush, List, NoMemory, Verdict};
+use std::alloc::Global;
+use std::marker::Model;
+use tag_rules::{Matcher, TagRules};
+
+/// A store with one worker. Contracts see it as its worker, with its events, their verdicts and the log, and the records of
+/// its flushes so far.
+#[derive(Drop)]
+pub struct PlainStore {
+    worker: LoneWorker,
+    sums: Sums,
+    flushes: GhostList<FlushRecord>,
+    whole: bool,
+}
+
+impl Model for PlainStore {
+    ghost use Rattle.plain_store.specs.Store.{StoreHistory};
+
+    ghost Value = { StoreHistory };
+
+    ghost use Rattle.plain_store.specs.StoreKept.{shown, IsKept};
+
+    ghost view = { shown };
+
+    ghost invariant = { IsKept };
+}
+
+impl PlainStore {
+    /// A store without events. The rules and the matcher are those that were built from the configuration. Its tables are
+    /// hashed under the fixed key.
+    pub fn new(
+        alloc: Global,
+        config: &Config,
+        rules: TagRules,
+        matcher: Matcher,
+    ) -> Result<PlainStore, NoMemory>
+        requires config { IsConfig config.now }
+        requires rules { rules ≡ config.now.tags }
+        requires matcher { matcher ≡ config.now.matcher }
+        ensures { IfOk result (λ store. store ≡ new_store config.now) }
+    {
+        PlainStore::with_key(alloc, HashKey::fixed(), config, rules, matcher)
+    }
+
+    /// The same, its tables hashed under this key.
+    pub fn with_key(
+        alloc: Global,
+        key: HashKey,
+        config: &Config,
+        rules: TagRules,
+        matcher: Matcher,
+    ) -> Result<PlainStore, NoMemory>
+        requires config { IsConfig config.now }
+        requires rules { rules ≡ config.now.tags }
+        requires matcher { matcher ≡ config.now.matcher }
+        ensures { IfOk result (λ store. store ≡ new_store config.now) }
+    {
+        let worker = LoneWorker::with_key(alloc, key, config, rules, matcher)?;
+        let sums = Sums::new(alloc)?;
+        Ok(PlainStore {
+            worker,
+            sums,
+            flushes: GhostList::new(),
+            whole: true,
+        })
+    }
+
+    /// Decides an event, and sums up what it adds where it is accepted. An event on a key that is held, which is no text,
+    /// takes one look-up, and no memory where its histogram has a value of this store already.
+    pub fn apply(&mut self, alloc: Global, event: &Event) -> Result<Verdict, NoMemory>
+        requires lawful { IsLawfulEvent event.now }
+        requires few { length self.old.worker.events < MAX_EVENTS }
+        ensures ok { IfOk result (λ verdict. Applied self.old event.now verdict self.new) }
+        ensures err { OnErr result (IsCutShort self.old self.new) }
+    {
+        let whole = self.whole;
+        self.whole = false;
+        let _log = self.worker.log();
+        let verdict = self.worker.decide(alloc, event)?;
+        let _longer_log = self.worker.log();
+        let made = self.worker.made();
+        sum_up(&mut self.sums, alloc, made, event, verdict)?;
+        self.whole = whole;
+        Ok(verdict)
+    }
+
+    /// A flush during the run. It sweeps, and shows every counter and gauge that was not gone before, and the values recorded
+    /// since the flush before. It takes time in the metrics that are not gone, and in the values.
+    pub fn flush(&mut self, alloc: Global) -> Result<FlushRecord, NoMemory>
+        ensures ok { IfOk result (λ flush. Flushes self.old flush self.new) }
+        ensures err { OnErr result (IsCutShort self.old self.new) }
+    {
+        let whole = self.whole;
+        self.whole = false;
+        let at = self.worker.log().len() as u64;
+        let swept = self.worker.sweep(alloc)?;
+        let list = swept.list.items();
+        let flush = take_flush(alloc, &mut self.sums, &self.worker, at, list, list)?;
+        self.flushes = self.flushes.and(&flush);
+        self.whole = whole;
+        Ok(flush)
+    }
+
+    /// The end: the seat's, and the last flush, which shows every counter ever made. It gives the log besides.
+    pub fn finish(self, alloc: Global) -> Result<LastFlush, NoMemory>
+        ensures { IfOk result (λ given. Finishes self given) }
+    {
+        let PlainStore {
+            worker,
+            sums,
+            flushes: _,
+            whole: _,
+        } = self;
+        finish_parts(alloc, worker, sums)
+    }
+}
