@@ -12,18 +12,20 @@ use std::hint::spin_loop;
 use std::sync::Wait;
 use std::thread::yield_now;
 
-/// Tries of one call of `enter` before it lets other threads run between its tries.
-const SPINS: u32 = 64;
+/// The most pauses of the processor between two tries of one call of `enter`.
+const MAX_PAUSES: u32 = 512;
 
-// Between two tries the processor pauses, and once the spins are used up other threads may run. Gives the
-// spins that are left.
-fn pause(spins: u32) -> u32 {
-    if spins == 0 {
+// Between two tries the processor pauses, each time twice as often, so that a seat that waits seldom disturbs the one that is
+// in. Past the most pauses other threads may run. Gives the pauses of the next time.
+fn pause(pauses: u32) -> u32 {
+    if MAX_PAUSES < pauses {
         yield_now();
-        return 0;
+        return pauses;
     }
-    spin_loop();
-    spins - 1
+    for _ in 0..pauses {
+        spin_loop();
+    }
+    pauses * 2
 }
 
 impl<B: Booked + Drop> BookLock<B> {
@@ -34,11 +36,11 @@ impl<B: Booked + Drop> BookLock<B> {
         ensures found { Finds (seat_part seat.old) (B.history (held_book result)) }
         ensures part { Entered (B.history (held_book result)).log (seat_part seat.old) (seat_part seat.new) }
     {
-        let mut spins = SPINS;
+        let mut pauses = 1;
         for _ in rt.forever() {
             match self.try_enter(seat) {
                 Try::Held(held) => return held,
-                Try::Busy(_) => spins = pause(spins),
+                Try::Busy(_) => pauses = pause(pauses),
             }
         }
         unreachable!()
