@@ -17,7 +17,7 @@ pub use laws::{
     own_calls_change_a_seat, own_entries_grow, seats_of_a_legal_log,
 };
 pub use limits::{MAX_HISTOGRAMS, MAX_METRICS, MAX_OPENINGS, MAX_TOKENS, MAX_WORKERS};
-pub use state::{BookState, numbers_of};
+pub use state::{BookState, StateParts, numbers_of};
 pub use tables::NameKey;
 pub use worked::{
     gone_in_the_last_sweep, retired_and_found_again, safe_and_not, shared_symbols, sweep_waits,

@@ -58,6 +58,13 @@ impl MetricTable {
         }
     }
 
+    /// Every metric that was made, in the order of their numbers.
+    pub fn into_metrics(self, alloc: Global) -> Result<Vec<Metric>, NoMemory>
+        ensures { IfOk result (λ metrics. metrics.items ≡ map metric_of self) }
+    {
+        Ok(self.rows.into_iter().map(|row| row.metric).collect(alloc)?)
+    }
+
     /// How many metrics were made.
     pub fn made(&self) -> u32
         ensures { result ≡ length self.now }

@@ -4,7 +4,7 @@ ghost use Rattle.std.specs.Option.{IsSomeAnd};
 ghost use Rattle.stat_defs.specs.Names.{IsLocalName, IsFullName};
 ghost use Rattle.stat_defs.specs.declared.history.Call.TheVariants as call;
 ghost use Rattle.stat_defs.specs.declared.history.Reply.TheVariants as reply;
-ghost use Rattle.book_state.specs.State.{live_scope, known, names_in, seat_of};
+ghost use Rattle.book_state.specs.State.{live_scope, known, names_in, seat_of, metrics_of};
 ghost use Rattle.book_state.specs.Finding.{scope_of, name_of, is_full, is_over_limit};
 ghost use Rattle.book_state.specs.Step.{overdue_in, Works};
 ghost use Rattle.book_state.specs.Follows.{tag_of};
@@ -51,6 +51,14 @@ impl Model for BookState {
     ghost invariant = { Kept };
 }
 
+/// What a state leaves that takes no further entry: the tag rules, and every metric that was made. A metric's number
+/// is its place.
+#[derive(Drop)]
+pub struct StateParts {
+    pub rules: TagRules,
+    pub metrics: Vec<Metric>,
+}
+
 impl BookState {
     /// The state before the first entry. Its tables are hashed under the fixed key.
     pub fn new(alloc: Global, rules: TagRules, workers: u32) -> Result<BookState, NoMemory>
@@ -95,6 +103,25 @@ impl BookState {
         ensures { result ≡ length self.now.state.scopes }
     {
         self.scopes.opened()
+    }
+
+    /// Gives up the tag rules and the metrics.
+    pub fn into_parts(self, alloc: Global) -> Result<StateParts, NoMemory>
+        ensures rules { IfOk result (λ parts. parts.rules ≡ self.tags) }
+        ensures metrics { IfOk result (λ parts. parts.metrics.items ≡ metrics_of self.state) }
+    {
+        let BookState {
+            rules,
+            scopes: _,
+            metrics,
+            released: _,
+            seats: _,
+            past: _,
+        } = self;
+        Ok(StateParts {
+            rules,
+            metrics: metrics.into_metrics(alloc)?,
+        })
     }
 
     /// How many metrics were made.

@@ -3,12 +3,14 @@
 #![tactic(auto)]
 
 mod laws;
+mod report_views;
 mod worked;
 
 pub use laws::{
     cumulative_of_all, ends_of_workers, flushes_in_log, interval_of_values, no_end_shown,
     none_retired, numbers_made, one_order, one_output, sums_rise, totals_of_units, view_of_each,
 };
+pub use report_views::{ReportViews, flush_view};
 pub use worked::{
     a_name_made_again, a_released_scope, a_retired_gauge, a_subtraction, gauge_moves,
     names_in_order, shared_symbols, texts_and_parts, two_increments, two_workers, values_and_texts,

@@ -7,7 +7,7 @@ use Rattle.stat_defs.specs.declared.reports.FileEnd.TheVariants.{Whole, BadLine,
 use Rattle.stat_defs.specs.declared.reports.WorkerEnd.{WorkerEnd}
 use Rattle.stats_io.specs.States.{SourceState, ShelfState}
 use Rattle.event_script.specs.Run.{IsRun}
-use Rattle.envoy_stats.specs.WorkerEnd.{HasCause}
+use Rattle.replay_report.specs.WorkerEnd.{HasCause}
 
 -- the events that were read of a file, and how it ended
 pub record FileRead : Type 0 where

@@ -1,0 +1,6 @@
+//! Files that are replayed one after another over a store on one thread.
+#![tactic(auto)]
+
+mod replaying;
+
+pub use replaying::{MAX_FILES, replay_files};
