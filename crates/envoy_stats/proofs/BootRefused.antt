@@ -5,9 +5,10 @@ use Rattle.boot_load.specs.Load.{Loads}
 use Rattle.boot_load.specs.BootLine.{boot_line}
 use Rattle.boot_load.specs.declared.fault.LoadFault.{LoadFault}
 use Rattle.boot_load.specs.declared.fault.LoadFault.TheVariants.{TooBig, Faulty, BadPattern, ReadFailed, NoMemory}
+use Rattle.report_text.specs.declared.options.OutputOptions.{OutputOptions}
 use Rattle.envoy_stats.specs.World.{World, Sight}
 use Rattle.envoy_stats.specs.Outcome.{IsSaid, IsBootFault, Checks, Replays, status_of_boot}
-use Rattle.envoy_stats.specs.Ready.{RefusesBoot}
+use Rattle.envoy_stats.specs.Replay.{RefusesBoot}
 use Rattle.envoy_stats.specs.declared.status.TheConstants.{NO_COMMAND}
 use Rattle.envoy_stats.specs.declared.outcome.Outcome.{Outcome}
 
@@ -37,12 +38,12 @@ module _ {K F S O E : Type 0} (see : Sight K F S O E) (before after : World K F 
     said = said;
   }
 
-  pub replay_refused : (names : List (List ℕ)) (outcome : Outcome) → RefusesBoot (see.err before.err) (see.err after.err) fault outcome
-      → Replays see before after boot names outcome.status outcome.report
-  replay_refused names outcome (inl is) =
-      subst (λ (o : Outcome). Replays see before after boot names o.status o.report) (sym is.0) (inl (is_boot_fault (status_of_boot fault) refl is.1))
-  replay_refused names outcome (inr is) =
-      subst (λ (o : Outcome). Replays see before after boot names o.status o.report) (sym is.0)
+  pub replay_refused : (options : OutputOptions) (names : List (List ℕ)) (outcome : Outcome) → RefusesBoot (see.err before.err) (see.err after.err) fault outcome
+      → Replays see before after options boot names outcome.status outcome.report
+  replay_refused options names outcome (inl is) =
+      subst (λ (o : Outcome). Replays see before after options boot names o.status o.report) (sym is.0) (inl (is_boot_fault (status_of_boot fault) refl is.1))
+  replay_refused options names outcome (inr is) =
+      subst (λ (o : Outcome). Replays see before after options boot names o.status o.report) (sym is.0)
       (inr (record { status_is = refl; written = inl unwritten; said = is.1 }))
 
   pub check_refused : (outcome : Outcome) → RefusesBoot (see.err before.err) (see.err after.err) fault outcome → Checks see before after boot outcome.status

@@ -2,6 +2,7 @@
 use Rattle.std.proofs.Common.{◌≡◌, ◌≢◌, ◌⊎◌, ℕ, Option, Some, None, List, refl, sym, ◌∙◌, subst, inl, inr, arith}
 use Rattle.stat_defs.specs.declared.reports.Report.{Report}
 use Rattle.stats_io.specs.States.{SinkState}
+use Rattle.report_text.specs.declared.options.OutputOptions.{OutputOptions}
 use Rattle.envoy_stats.specs.Command.{Replay, Check, Bins, command}
 use Rattle.envoy_stats.specs.BinLines.{bin_lines}
 use Rattle.envoy_stats.specs.World.{World, Sight}
@@ -36,20 +37,24 @@ module _ {K F S O E : Type 0} (see : Sight K F S O E) (before after : World K F 
     call_refused none is = record {
       usage_status = (λ one. none, λ no. refl);
       refused = λ no. (refl, is);
-      replayed = λ boot names says. absurd cc;
+      replayed = λ options boot names says. absurd cc;
       checked = λ boot says. absurd cc;
       binned = λ values says. absurd cc;
     }
 
-    pub call_replayed : (boot : List ℕ) (names : List (List ℕ)) (status : ℕ) (report : Option Report) → command words ≡ Some (Replay boot names)
-        → Replays see before after boot names status report → IsCall see before after words status report
-    call_replayed boot names status report says is = record {
-      usage_status = (λ one. absurd (replay_is_no_usage see before after boot names status report is one), λ no. absurd cc);
+    pub call_replayed : (options : OutputOptions) (boot : List ℕ) (names : List (List ℕ)) (status : ℕ) (report : Option Report)
+        → command words ≡ Some (Replay options boot names) → Replays see before after options boot names status report
+        → IsCall see before after words status report
+    call_replayed options boot names status report says is = record {
+      usage_status = (λ one. absurd (replay_is_no_usage see before after options boot names status report is one), λ no. absurd cc);
       refused = λ no. absurd cc;
-      replayed = λ b ns also.
+      replayed = λ o b ns also.
+          let asked : options ≡ o = cc in
           let one : boot ≡ b = cc in
           let all : names ≡ ns = cc in
-          subst (λ (l : List (List ℕ)). Replays see before after b l status report) all (subst (λ (l : List ℕ). Replays see before after l names status report) one is);
+          subst (λ (l : List (List ℕ)). Replays see before after o b l status report) all
+          (subst (λ (l : List ℕ). Replays see before after o l names status report) one
+          (subst (λ (x : OutputOptions). Replays see before after x boot names status report) asked is));
       checked = λ b also. absurd cc;
       binned = λ values also. absurd cc;
     }
@@ -59,7 +64,7 @@ module _ {K F S O E : Type 0} (see : Sight K F S O E) (before after : World K F 
     call_checked boot status report says none is = record {
       usage_status = (λ one. absurd (check_is_no_usage boot status is one), λ no. absurd cc);
       refused = λ no. absurd cc;
-      replayed = λ b ns also. absurd cc;
+      replayed = λ o b ns also. absurd cc;
       checked = λ b also. (none, let one : boot ≡ b = cc in subst (λ (l : List ℕ). Checks see before after l status) one is);
       binned = λ values also. absurd cc;
     }
@@ -69,7 +74,7 @@ module _ {K F S O E : Type 0} (see : Sight K F S O E) (before after : World K F 
     call_binned values status report says none is = record {
       usage_status = (λ one. absurd (bins_are_no_usage values status is one), λ no. absurd cc);
       refused = λ no. absurd cc;
-      replayed = λ b ns also. absurd cc;
+      replayed = λ o b ns also. absurd cc;
       checked = λ b also. absurd cc;
       binned = λ vs also. (none, let all : values ≡ vs = cc in subst (λ (l : List ℕ). IsBinned see before after l status) all is);
     }

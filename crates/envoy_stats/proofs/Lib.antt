@@ -1,12 +1,8 @@
-pub mod SoFar
-pub mod ReadToEnd
-pub mod FilesRead
-pub mod MadeReady
-pub mod Replayed
+pub mod FileEnds
 pub mod BootRefused
+pub mod Replayed
+pub mod HeldAlike
 pub mod Checked
 pub mod CommandWords
 pub mod ValueWords
 pub mod Calls
-pub mod WorkerLines
-pub mod SortedRows

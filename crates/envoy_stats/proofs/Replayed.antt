@@ -1,21 +1,27 @@
 -- What is written and said of files.
-use Rattle.std.proofs.Common.{◌≡◌, ◌≢◌, ◌≤◌, ◌<◌, ◌⊎◌, ℕ, cond, Option, None, Some, Ok, List, [], ◌++◌, map, codes, sym, ap, ◌∙◌, subst, inl, inr, arith}
+use Rattle.std.proofs.Common.{◌≡◌, ◌≢◌, ◌≤◌, ◌<◌, ◌⊎◌, ℕ, cond, Option, None, Some, Result, Ok, Err, List, [], ◌++◌, length, map, codes, refl, sym, ap, ◌∙◌, subst, inl, inr, arith}
 use Rattle.std.proofs.lemmas.Bool.{ne_eqb}
-use Rattle.std.proofs.lemmas.List.{append-nil}
+use Rattle.std.proofs.lemmas.List.{append-nil, length-map}
 use Rattle.std.proofs.KnownBytes.{Appends-trans}
 use Rattle.stat_defs.specs.Faults.{Rose}
+use Rattle.stat_defs.specs.declared.configs.Config.{Config}
 use Rattle.stat_defs.specs.declared.reports.Report.{Report}
 use Rattle.stats_io.specs.States.{SinkState}
+use Rattle.stats_io.specs.Push.{AppendsFront}
 use Rattle.boot_load.specs.Load.{Loads}
 use Rattle.boot_load.specs.declared.loading.Boot.{Boot}
-use Rattle.envoy_stats.specs.Output.{IsOutput, output_with}
+use Rattle.text_parts.specs.Answer.{IsTextAnswer}
+use Rattle.text_parts.specs.declared.fault.TextFault.{TextFault}
+use Rattle.text_parts.specs.declared.fault.TextFault.TheVariants.{WriteFault, NoMemory}
+use Rattle.report_text.specs.ReportText.{report_text}
+use Rattle.report_text.specs.declared.options.OutputOptions.{OutputOptions}
 use Rattle.envoy_stats.specs.FaultLines.{said_of, with_write_line}
 use Rattle.envoy_stats.specs.World.{World, Sight}
-use Rattle.envoy_stats.specs.Outcome.{IsSaid, IsWritten, IsRunOver, Replays, status_of_all}
-use Rattle.envoy_stats.specs.Ready.{IsReady, FinishesWith, output_of}
+use Rattle.envoy_stats.specs.Outcome.{IsSaid, IsWritten, IsRunOver, Replays, ends_of, status_of_all}
+use Rattle.envoy_stats.specs.Replay.{Records, EndsAs, EndsWith}
 use Rattle.envoy_stats.specs.declared.status.TheConstants.{NO_COMMAND, UNWRITTEN}
-use Rattle.envoy_stats.specs.declared.ready.Ready.{Ready}
-use Rattle.envoy_stats.proofs.MadeReady.{status_all_is_no_usage}
+use Rattle.envoy_stats.specs.declared.replay.Recorded.{Recorded}
+use Rattle.envoy_stats.proofs.FileEnds.{status_all_small, status_all_is_no_usage}
 use Rattle.envoy_stats.proofs.BootRefused.{boot_is_no_usage}
 
 -- a count that did not rise over two calls rose in neither
@@ -38,45 +44,58 @@ no_write_line lines status small =
     ap (λ b. lines ++ cond b (codes "write failed\n") []) (ne_eqb status UNWRITTEN (λ e. omega (arith, small, e)))
     ∙ append-nil lines
 
-module _ {K F S O E : Type 0} (see : Sight K F S O E) (before after : World K F O E) (boot : List ℕ) (names : List (List ℕ)) where
+-- how a text was written and how that was said come to how the replay ends
+pub ends_with : {O : Type 0} (sink : O → SinkState) (out_before out_after : O) (err_before err_after : SinkState) (text : List ℕ)
+    (report : Report) (written : Result (Unit {0}) TextFault) (status : ℕ) (told : Option Report)
+    → IsTextAnswer (sink out_before) (sink out_after) text written → EndsAs err_before err_after report written status told
+    → EndsWith sink out_before out_after err_before err_after text report status told
+ends_with sink ob oa eb ea text report (Ok done) status told is as =
+    subst (λ (o : Option Report). EndsWith sink ob oa eb ea text report status o) (sym as.0) (refl, inl (as.1, is), as.2)
+ends_with sink ob oa eb ea text report (Err WriteFault) status told is as =
+    subst (λ (o : Option Report). EndsWith sink ob oa eb ea text report status o) (sym as.0) (refl, inr (as.1, is), as.2)
+ends_with sink ob oa eb ea text report (Err NoMemory) status told is as =
+    subst (λ (o : Option Report). EndsWith sink ob oa eb ea text report status o) (sym as.0) (as.1, inr is.front, as.2)
+
+module _ {K F S O E : Type 0} (see : Sight K F S O E) (before after : World K F O E) (options : OutputOptions) (boot : List ℕ)
+    (names : List (List ℕ)) where
   -- no replay has the status of words that are no command
-  pub replay_is_no_usage : (status : ℕ) (report : Option Report) → Replays see before after boot names status report → status ≢ NO_COMMAND
+  pub replay_is_no_usage : (status : ℕ) (report : Option Report) → Replays see before after options boot names status report → status ≢ NO_COMMAND
   replay_is_no_usage status None (inl fault) e = boot_is_no_usage fault.fault (sym fault.status_is ∙ e)
   replay_is_no_usage status None (inr up) e = absurd (omega (arith, up.status_is, e))
   replay_is_no_usage status (Some report) is e = by is.written
     where
-      by : IsWritten (see.out before.out) (see.out after.out) is.output (status_of_all (map (λ file. file.end.end) is.files)) status → ⊥
-      by (inl whole) = status_all_is_no_usage (map (λ file. file.end.end) is.files) (sym whole.0 ∙ e)
+      by : IsWritten (see.out before.out) (see.out after.out) (report_text options is.loaded.config report) (status_of_all (ends_of report)) status → ⊥
+      by (inl whole) = status_all_is_no_usage (ends_of report) (sym whole.0 ∙ e)
       by (inr cut) = absurd (omega (arith, cut.0, e))
 
   module _ (between : F) (loaded : Boot)
       (load : Loads see.source (see.holds before.shelf boot) boot (see.shelf before.shelf) (see.shelf between) (see.maker before.maker) (see.maker after.maker) (Ok loaded))
-      (ready : Ready) (is : IsReady see.shelf see.source (see.holds before.shelf) names between after.shelf loaded.config ready) where
-    is_output : IsOutput loaded.config is.files (output_of ready)
-    is_output = record {
-      view = ready.view;
-      shows = is.shows;
-      bytes_are = λ i. output_with (is.prefix_is i) ready.view (is.lines_are i);
-    }
+      (recorded : Recorded) (is : Records see.shelf see.source (see.holds before.shelf) loaded.config names between after.shelf recorded) where
+    run_over : IsRunOver see before after options boot names loaded recorded.report
+    run_over = record { between = between; boot_loaded = load; replayed = is.replayed }
 
-    run_over : IsRunOver see before after boot names loaded is.files
-    run_over = record { between = between; boot_loaded = load; files_read = is.are_files }
+    -- the text is that of the configuration that was loaded
+    text_of_loaded : report_text options recorded.config recorded.report ≡ report_text options loaded.config recorded.report
+    text_of_loaded = ap (λ (c : Config). report_text options c recorded.report) is.config_is
 
     pub replays_of : (status : ℕ) (report : Option Report)
-        → FinishesWith (see.out before.out) (see.out after.out) (see.err before.err) (see.err after.err) ready status report
-        → Replays see before after boot names status report
-    replays_of status None done = inr (record {
-      status_is = done.0;
-      written = inr (record { loaded = loaded; files = is.files; run = run_over; output = output_of ready; output_is = is_output; front = done.1 });
-      said = done.2;
+        → EndsWith see.out before.out after.out (see.err before.err) (see.err after.err) (report_text options recorded.config recorded.report) recorded.report status report
+        → Replays see before after options boot names status report
+    replays_of status None (is_status, (inl none, said)) = inr (record { status_is = is_status; written = inl none; said = said })
+    replays_of status None (is_status, (inr front, said)) = inr (record {
+      status_is = is_status;
+      written = inr (record {
+        loaded = loaded;
+        report = recorded.report;
+        run = run_over;
+        front = subst (AppendsFront (see.out before.out).written (see.out after.out).written) text_of_loaded front;
+      });
+      said = said;
     })
     replays_of status (Some report) done = record {
       loaded = loaded;
-      files = is.files;
-      run = run_over;
-      report_is = done.0 ∙ is.report_is;
-      output = output_of ready;
-      output_is = is_output;
-      written = subst (λ (n : ℕ). IsWritten (see.out before.out) (see.out after.out) (output_of ready) n status) is.status_is done.1;
-      said = subst (λ (text : List ℕ). IsSaid (see.err before.err) (see.err after.err) text) (ap (λ lines. with_write_line lines status) is.faults_are) done.2;
+      run = subst (IsRunOver see before after options boot names loaded) (sym done.0) run_over;
+      written = rw done.0 (subst (λ (text : List ℕ). IsWritten (see.out before.out) (see.out after.out) text (status_of_all (ends_of recorded.report)) status)
+          text_of_loaded done.1);
+      said = rw done.0 done.2;
     }

@@ -1,16 +1,22 @@
 -- The commands, and the words that say them. This project's own.
 use Rattle.std.specs.Prelude.{◌≤◌, ◌^◌, ◌-◌, ◌==◌, ◌||◌, ◌&&◌, ℕ, Bool, false, not, if◌then◌else◌, nat_le, Option, None, Some, is_some, List, [], ◌∷◌, length, map, codes, string_bytes}
 use Rattle.std.specs.Str.{bytes_eq}
+use Rattle.std.specs.Option.{unwrap_or}
 use Rattle.std.specs.List.{list_all, filter_map}
 use Rattle.event_script.specs.EventIn.{read_number}
+use Rattle.report_text.specs.declared.options.Format.{Format}
+use Rattle.report_text.specs.declared.options.Format.TheVariants.{Statsd, Prom, Admin}
+use Rattle.report_text.specs.declared.options.OutputOptions.{OutputOptions}
+use Rattle.envoy_stats.specs.declared.command.Front.{Front as SpokenFront}
 use Rattle.envoy_stats.specs.declared.command.Command.{Command as Spoken}
 use Rattle.envoy_stats.specs.declared.command.Command.TheVariants as spoken
-use Rattle.envoy_stats.specs.declared.command.TheConstants.{MAX_FILES, MAX_VALUES}
+use Rattle.envoy_stats.specs.declared.command.TheConstants.{MAX_VALUES}
+use Rattle.replay_report.specs.declared.replaying.TheConstants.{MAX_FILES}
 
 -- a command, with what its words name
 pub data Command : Type 0 where
-  -- applies these files under that bootstrap
-  Replay : (boot : List ℕ) (files : List (List ℕ)) → Command
+  -- applies these files under that bootstrap, and writes what the options ask for
+  Replay : (options : OutputOptions) (boot : List ℕ) (files : List (List ℕ)) → Command
   -- loads that bootstrap
   Check : (boot : List ℕ) → Command
   -- tells the bins of these values
@@ -39,10 +45,58 @@ are_files words = are_some is_file_word MAX_FILES words
 abbrev pub are_values : List (List ℕ) → Bool
 are_values words = are_some (λ word. is_some (value_in word)) MAX_VALUES words
 
--- `replay BOOT FILE..`, with 1 to 32 files
+-- the format that a word names
+abbrev pub format_in : List ℕ → Option Format
+format_in word =
+    if bytes_eq word (codes "statsd") then Some Statsd
+    else (if bytes_eq word (codes "prom") then Some Prom
+    else (if bytes_eq word (codes "admin") then Some Admin
+    else None))
+
+-- the options that words in front have said so far, and the words behind them
+pub record Front : Type 0 where
+  pub symbols : Bool
+  pub format : Option Format
+  pub rest : List (List ℕ)
+
+-- `--symbols`, where it comes next and was not said before
+abbrev pub past_symbols : Front → Front
+past_symbols front = past front.rest
+  where
+    past : List (List ℕ) → Front
+    past [] = front
+    past (word ∷ words) =
+        if not front.symbols && bytes_eq word (codes "--symbols")
+        then record front { symbols = true; rest = words } else front
+
+-- `--format F`, where it comes next and was not said before
+abbrev pub past_format : Front → Front
+past_format front = past front.rest
+  where
+    past : List (List ℕ) → Front
+    past (word ∷ name ∷ words) =
+        if not (is_some front.format) && (bytes_eq word (codes "--format") && is_some (format_in name))
+        then record front { format = format_in name; rest = words } else front
+    past words = front
+
+-- the two options, in either order and each at most once
+abbrev pub options_in : List (List ℕ) → Front
+options_in words =
+    past_symbols (past_format (past_symbols (record { symbols = false; format = None; rest = words })))
+
+-- what was asked for: StatsD lines where no format was said
+abbrev pub asked_in : Front → OutputOptions
+asked_in front = record { format = unwrap_or front.format Statsd; symbols = front.symbols }
+
+-- `BOOT FILE..`, with 1 to 32 files
+abbrev pub over_files : OutputOptions → List (List ℕ) → Option Command
+over_files options [] = None
+over_files options (boot ∷ files) =
+    if is_boot_word boot && are_files files then Some (Replay options boot files) else None
+
+-- `replay [--symbols] [--format F] BOOT FILE..`
 abbrev pub behind_replay : List (List ℕ) → Option Command
-behind_replay [] = None
-behind_replay (boot ∷ files) = if is_boot_word boot && are_files files then Some (Replay boot files) else None
+behind_replay words = over_files (asked_in (options_in words)) (options_in words).rest
 
 -- `check BOOT`
 abbrev pub behind_check : List (List ℕ) → Option Command
@@ -65,6 +119,11 @@ command (word ∷ words) =
 
 -- what contracts see of a command that was read
 abbrev pub spoken_as : Spoken → Command
-spoken_as (spoken.Replay boot files) = Replay boot.now (map string_bytes files.now)
+spoken_as (spoken.Replay options boot files) = Replay options boot.now (map string_bytes files.now)
 spoken_as (spoken.Check boot) = Check boot.now
 spoken_as (spoken.Bins values) = Bins (filter_map value_in (map string_bytes values.now))
+
+-- what contracts see of options that were read
+abbrev pub front_as : SpokenFront → Front
+front_as front =
+    record { symbols = front.symbols; format = front.format; rest = map string_bytes front.rest.now }

@@ -1,12 +1,7 @@
-pub mod Command
 pub mod World
-pub mod WorkerEnd
-pub mod FileRead
-pub mod Report
-pub mod Output
+pub mod FaultLines
 pub mod BinLines
 pub mod LoadedLine
-pub mod FaultLines
-pub mod FileRun
+pub mod Command
 pub mod Outcome
-pub mod Ready
+pub mod Replay

@@ -15,12 +15,12 @@ use Rattle.boot_load.specs.declared.fault.LoadFault.{LoadFault}
 use Rattle.boot_load.specs.declared.fault.LoadFault.TheVariants as unloaded
 use Rattle.boot_load.specs.Load.{Loads}
 use Rattle.boot_load.specs.BootLine.{boot_line}
+use Rattle.replay_report.specs.ReplayReport.{IsReplayOf}
+use Rattle.report_text.specs.ReportText.{report_text}
+use Rattle.report_text.specs.declared.options.OutputOptions.{OutputOptions}
 use Rattle.envoy_stats.specs.declared.status.TheConstants.{DONE, NO_COMMAND, BAD_BOOT, BAD_FILE, UNREADABLE, UNWRITTEN, NO_MEMORY}
 use Rattle.envoy_stats.specs.Command.{Command, Replay, Check, Bins, command}
 use Rattle.envoy_stats.specs.World.{World, Sight}
-use Rattle.envoy_stats.specs.FileRead.{FileRead, AreFiles}
-use Rattle.envoy_stats.specs.Report.{counting_rules, report_of}
-use Rattle.envoy_stats.specs.Output.{IsOutput}
 use Rattle.envoy_stats.specs.BinLines.{bin_lines}
 use Rattle.envoy_stats.specs.LoadedLine.{loaded_line}
 use Rattle.envoy_stats.specs.FaultLines.{usage, out_of_memory, write_line, said_of}
@@ -47,6 +47,10 @@ status_of_boot (unloaded.Faulty fault) = BAD_BOOT
 status_of_boot (unloaded.BadPattern path) = BAD_BOOT
 status_of_boot unloaded.ReadFailed = UNREADABLE
 status_of_boot unloaded.NoMemory = NO_MEMORY
+
+-- how the files of a report ended
+abbrev pub ends_of : Report → List FileEnd
+ends_of report = map (λ end. end.end) report.ends
 
 -- where the sink's count did not rise, the text was written to it
 abbrev pub IsSaid : SinkState → SinkState → List ℕ → Type 0
@@ -109,35 +113,31 @@ module _ {K F S O E : Type 0} (see : Sight K F S O E) (before after : World K F 
     Checks status = IsChecked status
         ⊎ (IsBootFault status ⊎ IsUnstarted before.out after.out (see.err before.err) (see.err after.err) status)
 
-  module _ (boot : List ℕ) (names : List (List ℕ)) where
-    -- the bootstrap was loaded, with all its patterns, and then these files were read
-    pub record IsRunOver (loaded : Boot) (files : List FileRead) : Type 0 where
+  module _ (options : OutputOptions) (boot : List ℕ) (names : List (List ℕ)) where
+    -- the bootstrap was loaded with all its patterns, and then these files were replayed, of which this is the report
+    pub record IsRunOver (loaded : Boot) (report : Report) : Type 0 where
       pub between : F
       pub boot_loaded : Loads see.source (see.holds before.shelf boot) boot (see.shelf before.shelf) (see.shelf between)
           (see.maker before.maker) (see.maker after.maker) (Ok loaded)
-      pub files_read : AreFiles see.shelf see.source (see.holds before.shelf) names between after.shelf files
+      pub replayed : IsReplayOf see.shelf see.source (see.holds before.shelf) loaded.config names between after.shelf report
 
-    -- the report is that of the files that were read, and their output was written
+    -- the text of that report was written
     pub record IsReplayed (status : ℕ) (report : Report) : Type 0 where
       pub loaded : Boot
-      pub files : List FileRead
-      pub run : IsRunOver loaded files
-      pub report_is : report ≡ report_of (counting_rules loaded.config) files
-      pub output : List ℕ
-      pub output_is : IsOutput loaded.config files output
-      pub written : IsWritten (see.out before.out) (see.out after.out) output (status_of_all (map (λ file. file.end.end) files)) status
-      pub said : IsSaid (see.err before.err) (see.err after.err) (said_of (map (λ file. file.end.end) files) status)
+      pub run : IsRunOver loaded report
+      pub written : IsWritten (see.out before.out) (see.out after.out) (report_text options loaded.config report)
+          (status_of_all (ends_of report)) status
+      pub said : IsSaid (see.err before.err) (see.err after.err) (said_of (ends_of report) status)
 
-    -- a front was written of the output of files that were read
+    -- a front of the text of such a report was written
     pub record IsCutShort : Type 0 where
       pub loaded : Boot
-      pub files : List FileRead
-      pub run : IsRunOver loaded files
-      pub output : List ℕ
-      pub output_is : IsOutput loaded.config files output
-      pub front : AppendsFront (see.out before.out).written (see.out after.out).written output
+      pub report : Report
+      pub run : IsRunOver loaded report
+      pub front : AppendsFront (see.out before.out).written (see.out after.out).written
+          (report_text options loaded.config report)
 
-    -- memory was wanting: nothing was written, or a front of such an output
+    -- memory was wanting: nothing was written, or a front of such a text
     pub record IsGivenUp (status : ℕ) : Type 0 where
       pub status_is : status ≡ NO_MEMORY
       pub written : (after.out ≡ before.out) ⊎ IsCutShort
@@ -159,8 +159,8 @@ module _ {K F S O E : Type 0} (see : Sight K F S O E) (before after : World K F 
   pub record IsCall (words : List (List ℕ)) (status : ℕ) (report : Option Report) : Type 0 where
     pub usage_status : (status ≡ NO_COMMAND) ↔ (command words ≡ None)
     pub refused : command words ≡ None → (report ≡ None) × IsRefused
-    pub replayed : (boot : List ℕ) → (names : List (List ℕ)) → command words ≡ Some (Replay boot names)
-        → Replays boot names status report
+    pub replayed : (options : OutputOptions) (boot : List ℕ) (names : List (List ℕ))
+        → command words ≡ Some (Replay options boot names) → Replays options boot names status report
     pub checked : (boot : List ℕ) → command words ≡ Some (Check boot) → (report ≡ None) × Checks boot status
     pub binned : (values : List ℕ) → command words ≡ Some (Bins values) → (report ≡ None) × IsBinned values status
 

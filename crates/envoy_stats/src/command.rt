@@ -2,10 +2,10 @@
 ghost use Rattle.std.specs.Prelude.{◌≡◌, ◌≢◌, ◌<◌, ◌⊎◌, is_some, length, map, option_map, slice_index, string_bytes};
 ghost use Rattle.std.specs.Bool.{MatchBool};
 ghost use Rattle.std.specs.List.{list_all};
-ghost use Rattle.envoy_stats.specs.Command.{is_file_word, is_boot_word, value_in, are_files, are_values, behind_replay, behind_check, behind_bins, command, spoken_as};
+ghost use Rattle.envoy_stats.specs.Command.{is_file_word, is_boot_word, value_in, are_files, are_values, format_in, front_as, past_symbols, past_format, options_in, over_files, behind_replay, behind_check, behind_bins, command, spoken_as};
 
-/// So many files at most are replayed in one call.
-pub const MAX_FILES: usize = 32;
+use replay_report::MAX_FILES;
+use report_text::{Format, OutputOptions};
 
 /// So many values at most have their bins told in one call.
 pub const MAX_VALUES: usize = 64;
@@ -13,12 +13,24 @@ pub const MAX_VALUES: usize = 64;
 /// A command with what its words name.
 #[derive(Clone, Copy)]
 pub enum Command<'a> {
-    /// `replay BOOT FILE..`
-    Replay { boot: &'a str, files: &'a [String] },
+    /// `replay [--symbols] [--format F] BOOT FILE..`
+    Replay {
+        options: OutputOptions,
+        boot: &'a str,
+        files: &'a [String],
+    },
     /// `check BOOT`
     Check { boot: &'a str },
     /// `bins V..`, of which each word says a value.
     Bins { values: &'a [String] },
+}
+
+/// The options that words in front have said, and the words behind them.
+#[derive(Clone, Copy)]
+pub struct Front<'a> {
+    symbols: bool,
+    format: Option<Format>,
+    rest: &'a [String],
 }
 
 // Whether the word is a file name.
@@ -98,8 +110,68 @@ fn are_values(words: &[String]) -> bool
     are_value_words(words)
 }
 
-fn replay_of(words: &[String]) -> Option<Command<'_>>
-    ensures { option_map spoken_as result ≡ behind_replay (map string_bytes words.now) }
+// The format that the word names.
+fn format_in(word: &str) -> Option<Format>
+    ensures { result ≡ format_in word.now }
+{
+    match word {
+        "statsd" => Some(Format::Statsd),
+        "prom" => Some(Format::Prom),
+        "admin" => Some(Format::Admin),
+        _ => None,
+    }
+}
+
+// Past `--symbols`, where it comes next and was not said before.
+fn past_symbols(front: Front<'_>) -> Front<'_>
+    ensures { front_as result ≡ past_symbols (front_as front) }
+{
+    let [word, rest @ ..] = front.rest else {
+        return front;
+    };
+    if front.symbols || word.as_str() != "--symbols" {
+        return front;
+    }
+    Front {
+        symbols: true,
+        format: front.format,
+        rest,
+    }
+}
+
+// Past `--format F`, where it comes next and was not said before.
+fn past_format(front: Front<'_>) -> Front<'_>
+    ensures { front_as result ≡ past_format (front_as front) }
+{
+    let [word, name, rest @ ..] = front.rest else {
+        return front;
+    };
+    if front.format.is_some() || word.as_str() != "--format" {
+        return front;
+    }
+    let Some(format) = format_in(name.as_str()) else {
+        return front;
+    };
+    Front {
+        symbols: front.symbols,
+        format: Some(format),
+        rest,
+    }
+}
+
+// The options that stand in front of the words.
+fn options_in(words: &[String]) -> Front<'_>
+    ensures { front_as result ≡ options_in (map string_bytes words.now) }
+{
+    past_symbols(past_format(past_symbols(Front {
+        symbols: false,
+        format: None,
+        rest: words,
+    })))
+}
+
+fn over_files(options: OutputOptions, words: &[String]) -> Option<Command<'_>>
+    ensures { option_map spoken_as result ≡ over_files options (map string_bytes words.now) }
 {
     let [boot, files @ ..] = words else {
         return None;
@@ -108,9 +180,21 @@ fn replay_of(words: &[String]) -> Option<Command<'_>>
         return None;
     }
     Some(Command::Replay {
+        options,
         boot: boot.as_str(),
         files,
     })
+}
+
+fn replay_of(words: &[String]) -> Option<Command<'_>>
+    ensures { option_map spoken_as result ≡ behind_replay (map string_bytes words.now) }
+{
+    let front = options_in(words);
+    let options = OutputOptions {
+        format: front.format.unwrap_or(Format::Statsd),
+        symbols: front.symbols,
+    };
+    over_files(options, front.rest)
 }
 
 fn check_of(words: &[String]) -> Option<Command<'_>>

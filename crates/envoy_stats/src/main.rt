@@ -1,5 +1,5 @@
-//! The statistics store as a program: `replay BOOT FILE..` applies event files and writes one flush, `check BOOT` tries a
-//! bootstrap, and `bins V..` tells the bins of values.
+//! The statistics store as a program: `replay` applies event files and writes one flush, `check` tries a bootstrap, and
+//! `bins` tells the bins of values.
 #![tactic(auto)]
 
 ghost use Rattle.std.specs.Prelude.{◌≡◌, ◌≢◌, Option, IfOk, IfErr, map, string_bytes};
@@ -10,20 +10,14 @@ ghost use Rattle.envoy_stats.specs.Outcome.{IsCall, IsUnreadable};
 mod bins;
 mod check;
 mod command;
-mod laws;
 mod outcome;
 mod quiet;
-mod reading;
-mod ready;
 mod replay;
-mod reporting;
 mod status;
 mod telling;
 #[cfg(test)]
 mod tests;
-mod writing;
 
-pub use laws::each_unopened_file_has_its_fault;
 use name_map::HashKey;
 pub use outcome::Outcome;
 pub use quiet::{quiet_stats, quiet_stats_with};

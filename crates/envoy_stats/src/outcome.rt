@@ -3,7 +3,7 @@ ghost use Rattle.std.specs.Prelude.{◌≡◌, ◌≢◌, None};
 ghost use Rattle.boot_load.specs.declared.fault.LoadFault.TheVariants as unloaded;
 ghost use Rattle.envoy_stats.specs.FaultLines.{out_of_memory};
 ghost use Rattle.envoy_stats.specs.Outcome.{IsSaid, IsPrinted, status_of_boot};
-ghost use Rattle.envoy_stats.specs.Ready.{RefusesBoot};
+ghost use Rattle.envoy_stats.specs.Replay.{RefusesBoot};
 ghost use Rattle.envoy_stats.specs.declared.status.TheConstants as statuses;
 
 use crate::status;

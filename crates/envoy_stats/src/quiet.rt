@@ -29,21 +29,23 @@ fn refuse_words<E: Sink>(err: &mut E) -> Outcome
     }
 }
 
-/// The commands that start no thread. `replay BOOT FILE..` loads a bootstrap, applies the events of 1 to 32 files one after
-/// another, and writes one flush. `check BOOT` loads a bootstrap with all its patterns and writes a line on it. `bins V..` writes
-/// the bin of each of 1 to 64 values.
+/// The commands that start no thread. `replay [--symbols] [--format F] BOOT FILE..` loads a bootstrap, applies the
+/// events of 1 to 32 files one after another to one store, and writes its one flush in the format that is asked for:
+/// `statsd`, which is usual, `prom` or `admin`. `check BOOT` loads a bootstrap with all its patterns and writes a line
+/// on it. `bins V..` writes the bin of each of 1 to 64 values.
 ///
 /// - Status 0: every file was read to its end, or the command has none, and all was written.
 /// - Status 1: the words are no command. Nothing was opened or written.
 /// - Status 2: the bootstrap was read, or is `-`, and is at fault, or one of its patterns was refused. Nothing was written.
-/// - Status 3: the first file that was not read whole has a line of no meaning or past a limit. What stands before is applied.
-/// - Status 4: that file could not be opened or read on; the whole lines before that are applied. Or the bootstrap could not be
-///   read, and nothing was written.
+/// - Status 3: the first file that was not read whole has a line of no meaning or past a limit. What stands before is
+///   applied.
+/// - Status 4: that file could not be opened or read on; the whole lines before that are applied. Or the bootstrap
+///   could not be read, and nothing was written.
 /// - Status 5: a push on `out` failed. A front of the output was written.
 /// - Status 6: memory was wanting.
 ///
-/// `err` is told each of these but 0, in a line, and every file that was not read whole has its line. A fault of `err` changes
-/// nothing else. Names are looked up under the key, which only speed depends on.
+/// `err` is told each of these but 0, in a line, and every file that was not read whole has its line. A fault of `err`
+/// changes nothing else. Names are looked up under the key, which only speed depends on.
 pub fn quiet_stats_with<K: PatternMaker, F: Shelf, O: Sink, E: Sink>(
     alloc: Global,
     key: HashKey,
@@ -62,9 +64,11 @@ pub fn quiet_stats_with<K: PatternMaker, F: Shelf, O: Sink, E: Sink>(
         return refuse_words(err);
     };
     match command {
-        Command::Replay { boot, files } => {
-            replay(alloc, key, boot, files, maker, shelf, out, err)
-        }
+        Command::Replay {
+            options,
+            boot,
+            files,
+        } => replay(alloc, key, options, boot, files, maker, shelf, out, err),
         Command::Check { boot } => check(alloc, boot, maker, shelf, out, err),
         Command::Bins { values } => bins(alloc, values, out, err),
     }

@@ -1,4 +1,8 @@
 //! The statuses of a call.
+ghost use Rattle.std.specs.Prelude.{◌≡◌, map};
+ghost use Rattle.envoy_stats.specs.Outcome.{status_of, status_of_all};
+
+use stat_defs::{FileEnd, WorkerEnd};
 
 /// Every file was read to its end, and all was written.
 pub const DONE: u8 = 0;
@@ -20,3 +24,28 @@ pub const UNWRITTEN: u8 = 5;
 
 /// Memory was wanting.
 pub const NO_MEMORY: u8 = 6;
+
+fn status_of(end: FileEnd) -> u8
+    ensures { result ≡ status_of end }
+{
+    match end {
+        FileEnd::Whole => DONE,
+        FileEnd::BadLine(_) | FileEnd::LineTooLong(_) | FileEnd::TooBig | FileEnd::TooMany => {
+            BAD_FILE
+        }
+        FileEnd::ReadFault | FileEnd::NotOpened => UNREADABLE,
+    }
+}
+
+/// The status of the first file that was not read whole.
+pub fn status_of_all(ends: &[WorkerEnd]) -> u8
+    ensures { result ≡ status_of_all (map (λ end. end.end) ends.now) }
+{
+    for end in ends {
+        let status = status_of(end.end);
+        if status != DONE {
+            return status;
+        }
+    }
+    DONE
+}

@@ -1,6 +1,6 @@
 use Rattle.std.proofs.Common.{rules, arith, string_bytes}
 use Rattle.envoy_stats.specs.Command.{is_file_word}
-use Rattle.envoy_stats.specs.declared.command.TheConstants.{MAX_FILES}
+use Rattle.replay_report.specs.declared.replaying.TheConstants.{MAX_FILES}
 use Rattle.envoy_stats.proofs.CommandWords.{are_some_of}
 use Rattle.envoy_stats.proofs.command.are_files.Goals as goal
 

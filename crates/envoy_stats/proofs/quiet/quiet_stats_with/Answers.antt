@@ -5,7 +5,7 @@ use Rattle.envoy_stats.specs.Command.{Replay, Check, Bins, command, value_in, sp
 use Rattle.envoy_stats.specs.World.{world, sight}
 use Rattle.envoy_stats.specs.Outcome.{IsCall}
 use Rattle.envoy_stats.specs.declared.command.Command.{Command}
-use Rattle.envoy_stats.specs.declared.command.TheConstants.{MAX_FILES}
+use Rattle.replay_report.specs.declared.replaying.TheConstants.{MAX_FILES}
 use Rattle.envoy_stats.specs.declared.outcome.Outcome.{Outcome}
 use Rattle.envoy_stats.proofs.CommandWords.{few_files}
 use Rattle.envoy_stats.proofs.Calls.{call_refused, call_replayed, call_checked, call_binned}
@@ -15,7 +15,7 @@ pub replay-requires : goal.replay-requires
 replay-requires g c =
     let says = sym c.in-Some.ensures ∙ ap (λ (x : Command). Some (spoken_as x)) c.in-Replay.is in
     let few : length c.in-Replay.files.now ≤ MAX_FILES =
-    omega (arith, few_files (map string_bytes c.args.words.now) c.in-Replay.boot.now (map string_bytes c.in-Replay.files.now) says, length-map c.in-Replay.files.now string_bytes) in
+    omega (arith, few_files (map string_bytes c.args.words.now) c.in-Replay.options c.in-Replay.boot.now (map string_bytes c.in-Replay.files.now) says, length-map c.in-Replay.files.now string_bytes) in
     search rules
 
 pub returns-in-Replay : goal.returns-in-Replay
@@ -24,7 +24,7 @@ returns-in-Replay g c =
     let before = world c.args.maker.now c.args.shelf.now c.args.out.now c.args.err.now in
     let after = world c.replay.new.maker c.replay.new.shelf c.replay.new.out c.replay.new.err in
     let says = sym c.in-Some.ensures ∙ ap (λ (x : Command). Some (spoken_as x)) c.in-Replay.is in
-    call_replayed see before after (map string_bytes c.args.words.now) c.in-Replay.boot.now (map string_bytes c.in-Replay.files.now)
+    call_replayed see before after (map string_bytes c.args.words.now) c.in-Replay.options c.in-Replay.boot.now (map string_bytes c.in-Replay.files.now)
     c.replay.result.status c.replay.result.report says c.replay.ensures
 
 pub returns-in-Check : goal.returns-in-Check
