@@ -8,3 +8,11 @@ mod Ends
 mod Shown
 mod Made
 mod InLog
+mod FileEvents
+mod Recorded
+mod Countings
+mod CountersMade
+mod LawfulParts
+mod BinsShown
+mod Showable
+mod RowsBins
