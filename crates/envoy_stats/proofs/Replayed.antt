@@ -5,6 +5,7 @@ use Rattle.std.proofs.lemmas.List.{append-nil, length-map}
 use Rattle.std.proofs.KnownBytes.{Appends-trans}
 use Rattle.stat_defs.specs.Faults.{Rose}
 use Rattle.stat_defs.specs.declared.configs.Config.{Config}
+use Rattle.stat_defs.specs.declared.reports.FileEnd.{FileEnd}
 use Rattle.stat_defs.specs.declared.reports.Report.{Report}
 use Rattle.stats_io.specs.States.{SinkState}
 use Rattle.stats_io.specs.Push.{AppendsFront}
@@ -15,7 +16,7 @@ use Rattle.text_parts.specs.declared.fault.TextFault.{TextFault}
 use Rattle.text_parts.specs.declared.fault.TextFault.TheVariants.{WriteFault, NoMemory}
 use Rattle.report_text.specs.ReportText.{report_text}
 use Rattle.report_text.specs.declared.options.OutputOptions.{OutputOptions}
-use Rattle.envoy_stats.specs.FaultLines.{said_of, with_write_line}
+use Rattle.envoy_stats.specs.FaultLines.{fault_lines, said_of, with_write_line}
 use Rattle.envoy_stats.specs.World.{World, Sight}
 use Rattle.envoy_stats.specs.Outcome.{IsSaid, IsWritten, IsRunOver, Replays, ends_of, status_of_all}
 use Rattle.envoy_stats.specs.Replay.{Records, EndsAs, EndsWith}
@@ -44,17 +45,44 @@ no_write_line lines status small =
     ap (λ b. lines ++ cond b (codes "write failed\n") []) (ne_eqb status UNWRITTEN (λ e. omega (arith, small, e)))
     ∙ append-nil lines
 
+-- what is said where the output was written
+pub said_whole : (before after : SinkState) (ends : List FileEnd) (text : List ℕ) → text ≡ fault_lines 1 ends
+    → IsSaid before after text → IsSaid before after (said_of ends (status_of_all ends))
+said_whole before after ends text is said =
+    subst (IsSaid before after) (is ∙ sym (no_write_line (fault_lines 1 ends) (status_of_all ends) (status_all_small ends))) said
+
+-- and where a push failed
+pub said_cut : (x y z : SinkState) (ends : List FileEnd) (text : List ℕ) → text ≡ fault_lines 1 ends → x.faults ≤ y.faults → y.faults ≤ z.faults
+    → IsSaid x y text → IsSaid y z (codes "write failed\n") → IsSaid x z (said_of ends UNWRITTEN)
+said_cut x y z ends text is first second said more =
+    subst (λ (t : List ℕ). IsSaid x z (t ++ codes "write failed\n")) is (said_both x y z text (codes "write failed\n") first second said more)
+
+-- how a replay whose text was written ends, and one whose text was cut off
+pub ended_whole : (x y : SinkState) (report : Report) (done : Unit {0}) (written : Result (Unit {0}) TextFault) (text : List ℕ) (status : ℕ)
+    → written ≡ Ok done → text ≡ fault_lines 1 (ends_of report) → status ≡ status_of_all (ends_of report) → IsSaid x y text
+    → EndsAs x y report written status (Some report)
+ended_whole x y report done written text status is lines same said =
+    subst (λ (w : Result (Unit {0}) TextFault). EndsAs x y report w status (Some report)) (sym is)
+    (refl, same, subst (λ (n : ℕ). IsSaid x y (said_of (ends_of report) n)) (sym same) (said_whole x y (ends_of report) text lines said))
+
+pub ended_cut : (x y z : SinkState) (report : Report) (written : Result (Unit {0}) TextFault) (text : List ℕ)
+    → written ≡ Err WriteFault → text ≡ fault_lines 1 (ends_of report) → x.faults ≤ y.faults → y.faults ≤ z.faults
+    → IsSaid x y text → IsSaid y z (codes "write failed\n") → EndsAs x z report written UNWRITTEN (Some report)
+ended_cut x y z report written text is lines first second said more =
+    subst (λ (w : Result (Unit {0}) TextFault). EndsAs x z report w UNWRITTEN (Some report)) (sym is)
+    (refl, refl, said_cut x y z (ends_of report) text lines first second said more)
+
 -- how a text was written and how that was said come to how the replay ends
 pub ends_with : {O : Type 0} (sink : O → SinkState) (out_before out_after : O) (err_before err_after : SinkState) (text : List ℕ)
     (report : Report) (written : Result (Unit {0}) TextFault) (status : ℕ) (told : Option Report)
     → IsTextAnswer (sink out_before) (sink out_after) text written → EndsAs err_before err_after report written status told
     → EndsWith sink out_before out_after err_before err_after text report status told
-ends_with sink ob oa eb ea text report (Ok done) status told is as =
-    subst (λ (o : Option Report). EndsWith sink ob oa eb ea text report status o) (sym as.0) (refl, inl (as.1, is), as.2)
-ends_with sink ob oa eb ea text report (Err WriteFault) status told is as =
-    subst (λ (o : Option Report). EndsWith sink ob oa eb ea text report status o) (sym as.0) (refl, inr (as.1, is), as.2)
-ends_with sink ob oa eb ea text report (Err NoMemory) status told is as =
-    subst (λ (o : Option Report). EndsWith sink ob oa eb ea text report status o) (sym as.0) (as.1, inr is.front, as.2)
+ends_with sink ob oa eb ea text report (Ok done) status told is how =
+    subst (λ (o : Option Report). EndsWith sink ob oa eb ea text report status o) (sym how.0) (refl, inl (how.1, is), how.2)
+ends_with sink ob oa eb ea text report (Err WriteFault) status told is how =
+    subst (λ (o : Option Report). EndsWith sink ob oa eb ea text report status o) (sym how.0) (refl, inr (how.1, is), how.2)
+ends_with sink ob oa eb ea text report (Err NoMemory) status told is how =
+    subst (λ (o : Option Report). EndsWith sink ob oa eb ea text report status o) (sym how.0) (how.1, inr is.front, how.2)
 
 module _ {K F S O E : Type 0} (see : Sight K F S O E) (before after : World K F O E) (options : OutputOptions) (boot : List ℕ)
     (names : List (List ℕ)) where
@@ -81,8 +109,8 @@ module _ {K F S O E : Type 0} (see : Sight K F S O E) (before after : World K F 
     pub replays_of : (status : ℕ) (report : Option Report)
         → EndsWith see.out before.out after.out (see.err before.err) (see.err after.err) (report_text options recorded.config recorded.report) recorded.report status report
         → Replays see before after options boot names status report
-    replays_of status None (is_status, (inl none, said)) = inr (record { status_is = is_status; written = inl none; said = said })
-    replays_of status None (is_status, (inr front, said)) = inr (record {
+    replays_of status None (is_status, inl none, said) = inr (record { status_is = is_status; written = inl none; said = said })
+    replays_of status None (is_status, inr front, said) = inr (record {
       status_is = is_status;
       written = inr (record {
         loaded = loaded;

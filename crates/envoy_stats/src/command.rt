@@ -20,9 +20,13 @@ pub enum Command<'a> {
         files: &'a [String],
     },
     /// `check BOOT`
-    Check { boot: &'a str },
+    Check {
+        boot: &'a str,
+    },
     /// `bins V..`, of which each word says a value.
-    Bins { values: &'a [String] },
+    Bins {
+        values: &'a [String],
+    },
 }
 
 /// The options that words in front have said, and the words behind them.
@@ -124,7 +128,7 @@ fn format_in(word: &str) -> Option<Format>
 
 // Past `--symbols`, where it comes next and was not said before.
 fn past_symbols(front: Front<'_>) -> Front<'_>
-    ensures { front_as result ≡ past_symbols (front_as front) }
+    ensures { front_as result ≡ past_symbols (front_as front.entry) }
 {
     let [word, rest @ ..] = front.rest else {
         return front;
@@ -141,7 +145,7 @@ fn past_symbols(front: Front<'_>) -> Front<'_>
 
 // Past `--format F`, where it comes next and was not said before.
 fn past_format(front: Front<'_>) -> Front<'_>
-    ensures { front_as result ≡ past_format (front_as front) }
+    ensures { front_as result ≡ past_format (front_as front.entry) }
 {
     let [word, name, rest @ ..] = front.rest else {
         return front;

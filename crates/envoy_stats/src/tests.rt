@@ -260,9 +260,11 @@ fn a_hundred_values(alloc: Global) -> Result<Vec<u8>, Fail> {
     Ok(bytes)
 }
 
-const QUANTILES: &str = "# last\nh: P0(1,1) P25(26,26) P50(51,51) P75(76,76) P90(91,91) P95(96,96) P99(100,100) P99.5(110,110) P99.9(110,110) P100(110,110)\n# worker 1: 100 accepted, 0 dropped\n";
+const QUANTILES: &str =
+    "# last\nh: P0(1,1) P25(26,26) P50(51,51) P75(76,76) P90(91,91) P95(96,96) P99(100,100) P99.5(110,110) P99.9(110,110) P100(110,110)\n# worker 1: 100 accepted, 0 dropped\n";
 
-const BUCKETS: &str = "# last\n# TYPE envoy_h histogram\nenvoy_h_bucket{le=\"0.5\"} 0\nenvoy_h_bucket{le=\"1\"} 1\nenvoy_h_bucket{le=\"5\"} 5\nenvoy_h_bucket{le=\"10\"} 10\nenvoy_h_bucket{le=\"25\"} 25\nenvoy_h_bucket{le=\"50\"} 50\nenvoy_h_bucket{le=\"100\"} 99\nenvoy_h_bucket{le=\"250\"} 100\nenvoy_h_bucket{le=\"500\"} 100\nenvoy_h_bucket{le=\"1000\"} 100\nenvoy_h_bucket{le=\"2500\"} 100\nenvoy_h_bucket{le=\"5000\"} 100\nenvoy_h_bucket{le=\"10000\"} 100\nenvoy_h_bucket{le=\"30000\"} 100\nenvoy_h_bucket{le=\"60000\"} 100\nenvoy_h_bucket{le=\"300000\"} 100\nenvoy_h_bucket{le=\"600000\"} 100\nenvoy_h_bucket{le=\"1800000\"} 100\nenvoy_h_bucket{le=\"3600000\"} 100\nenvoy_h_bucket{le=\"+Inf\"} 100\nenvoy_h_sum{} 5100.45\nenvoy_h_count{} 100\n# worker 1: 100 accepted, 0 dropped\n";
+const BUCKETS: &str =
+    "# last\n# TYPE envoy_h histogram\nenvoy_h_bucket{le=\"0.5\"} 0\nenvoy_h_bucket{le=\"1\"} 1\nenvoy_h_bucket{le=\"5\"} 5\nenvoy_h_bucket{le=\"10\"} 10\nenvoy_h_bucket{le=\"25\"} 25\nenvoy_h_bucket{le=\"50\"} 50\nenvoy_h_bucket{le=\"100\"} 99\nenvoy_h_bucket{le=\"250\"} 100\nenvoy_h_bucket{le=\"500\"} 100\nenvoy_h_bucket{le=\"1000\"} 100\nenvoy_h_bucket{le=\"2500\"} 100\nenvoy_h_bucket{le=\"5000\"} 100\nenvoy_h_bucket{le=\"10000\"} 100\nenvoy_h_bucket{le=\"30000\"} 100\nenvoy_h_bucket{le=\"60000\"} 100\nenvoy_h_bucket{le=\"300000\"} 100\nenvoy_h_bucket{le=\"600000\"} 100\nenvoy_h_bucket{le=\"1800000\"} 100\nenvoy_h_bucket{le=\"3600000\"} 100\nenvoy_h_bucket{le=\"+Inf\"} 100\nenvoy_h_sum{} 5100.45\nenvoy_h_count{} 100\n# worker 1: 100 accepted, 0 dropped\n";
 
 #[test]
 fn quantiles_and_buckets(rt: HostRuntime) -> Result<(), Fail> {

@@ -14,5 +14,5 @@ mod Countings
 mod CountersMade
 mod LawfulParts
 mod BinsShown
-mod Showable
+pub mod Showable
 mod RowsBins
