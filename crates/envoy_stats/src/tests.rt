@@ -8,8 +8,8 @@ use std::process::Abort;
 use std::test::Fail;
 use tag_rules::RegexMaker;
 
-// Commands and what comes of them: rows parted by the byte 2, in each the words, the files `f1` and on, parted by the
-// byte 3, the number of the pull that fails in each, the status and the two outputs, parted by the byte 1.
+// Commands and what comes of them: rows parted by the byte 2, in each the words, the files `f1` and on, up to three, parted
+// by the byte 3, the number of the pull that fails in each, the status and the two outputs, parted by the byte 1.
 const ROWS: &[u8] = b"\
 replay - f1\x01\x019\x010\x01# last\n# worker 1: 0 accepted, 0 dropped\n\x01\x02\
 replay - f1\x01inc root a 0\n\x019\x010\x01# last\n# worker 1: 1 accepted, 0 dropped\n\x01\x02\
@@ -32,7 +32,7 @@ check -\x01\x019\x010\x01ok: 4 tag rules, 0 patterns, 0 bucket settings, 1 scope
 check f1\x01{\"stats_config\":{\"stats_tags\":[{\"tag_name\":\"region\",\"fixed_value\":\"eu-1\"}],\"stats_matcher\":{\"exclusion_list\":{\"patterns\":[{\"prefix\":\"cluster.api.internal.\"},{\"safe_regex\":{\"regex\":\".*\\\\.debug\"}}]}},\"histogram_bucket_settings\":[{\"match\":{\"suffix\":\"_ms\"},\"buckets\":[10,50,100,1000]}]},\"stats_run\":{\"scopes\":[{\"label\":\"web\",\"prefix\":\"http.web.\"},{\"label\":\"api\",\"prefix\":\"cluster.api\"}]}}\x019\x010\x01ok: 5 tag rules, 2 patterns, 1 bucket settings, 3 scopes\n\x01\x02\
 check f1\x01{\"stats_config\":{\"histogram_bucket_settings\":[{\"match\":{\"safe_regex\":{\"regex\":\"[\"}},\"buckets\":[1]}]}}\x019\x012\x01\x01boot: bad pattern at stats_config.histogram_bucket_settings[0].match.safe_regex.regex\n\x02\
 check f1\x01[\x019\x012\x01\x01boot: not json\n\x02\
-check f2\x01\x019\x014\x01\x01boot: read failed\n\x02\
+check f9\x01\x019\x014\x01\x01boot: read failed\n\x02\
 replay --format admin - f1\x01inc root a 0\n\x019\x010\x01# last\na: 0\n# worker 1: 1 accepted, 0 dropped\n\x01\x02\
 replay --format prom - f1\x01open c cluster.c\ninc c upstream_rq_2xx 3\n\x019\x010\x01# last\n# TYPE envoy_cluster_upstream_rq_xx counter\nenvoy_cluster_upstream_rq_xx{envoy_response_code_class=\"2\",envoy_cluster_name=\"c\"} 3\n# worker 1: 2 accepted, 0 dropped\n\x01\x02\
 replay --format prom - f1\x01inc root cluster.foo_cluster.upstream_rq_timeout 1\n\x019\x010\x01# last\n# TYPE envoy_cluster_upstream_rq_timeout counter\nenvoy_cluster_upstream_rq_timeout{envoy_cluster_name=\"foo_cluster\"} 1\n# worker 1: 1 accepted, 0 dropped\n\x01\x02\
@@ -214,14 +214,16 @@ fn digit_of(text: &[u8]) -> u8 {
     }
 }
 
-// A shelf with the files `f1` and on, which are parted by the byte 3.
+// A shelf with the files `f1`, `f2` and `f3`, which are parted by the byte 3 and empty where there are fewer.
 fn shelf_with(alloc: Global, bytes: &[u8], failing_pull: u64) -> Result<MemShelf, Fail> {
-    let mut files = Vec::new(alloc);
-    for part in bytes.split(|b| *b == 3) {
-        let name = format!(in alloc; "f{}", files.len().saturating_add(1))?;
-        files.push(file_of(alloc, name.as_str(), part, failing_pull)?)?;
-    }
-    Ok(MemShelf::new(files, Vec::new(alloc)))
+    let mut parts = bytes.split(|b| *b == 3);
+    let first = parts.next().unwrap_or(b"");
+    let second = parts.next().unwrap_or(b"");
+    let third = parts.next().unwrap_or(b"");
+    let first = file_of(alloc, "f1", first, failing_pull)?;
+    let second = file_of(alloc, "f2", second, failing_pull)?;
+    let third = file_of(alloc, "f3", third, failing_pull)?;
+    Ok(MemShelf::new(vec![in alloc; first, second, third]?, Vec::new(alloc)))
 }
 
 fn assert_row(rt: &impl Abort, alloc: Global, row: &[u8]) -> Result<(), Fail> {
