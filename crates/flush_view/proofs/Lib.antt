@@ -8,3 +8,10 @@ mod Ends
 mod Shown
 mod Made
 mod InLog
+mod Replayed
+mod FullNames
+mod SameBins
+mod ByNumber
+mod Picked
+mod Following
+mod Viewing
