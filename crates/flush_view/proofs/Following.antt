@@ -112,12 +112,12 @@ lawful_at [] k flush at lawful = absurd (not_some flush at)
 lawful_at (first ∷ flushes) zero flush at lawful = subst HasLawfulParts (some_same first flush at) lawful.0
 lawful_at (first ∷ flushes) (suc k) flush at lawful = lawful_at flushes k flush at lawful.1
 
-no_bins_at : (n id : ℕ) → get_or (replicate n None) id None ≡ None {T = List BinCount}
+pub no_bins_at : (n id : ℕ) → ◌≡◌ {A = Option (List BinCount)} (get_or (replicate n None) id None) None
 no_bins_at zero id = refl
 no_bins_at (suc n) zero = refl
 no_bins_at (suc n) (suc id) = no_bins_at n id
 
-no_sum_at : (n id : ℕ) → ◌≡◌ {A = ℕ} (get_or (replicate n 0) id 0) 0
+pub no_sum_at : (n id : ℕ) → ◌≡◌ {A = ℕ} (get_or (replicate n 0) id 0) 0
 no_sum_at zero id = refl
 no_sum_at (suc n) zero = refl
 no_sum_at (suc n) (suc id) = no_sum_at n id

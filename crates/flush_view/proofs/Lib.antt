@@ -15,3 +15,4 @@ mod ByNumber
 mod Picked
 mod Following
 mod Viewing
+mod Ready

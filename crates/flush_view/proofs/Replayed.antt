@@ -68,7 +68,7 @@ parted zero n log = whole n log where
   whole (suc n) [] = refl
   whole (suc n) (e ∷ log) = ap (λ (l : List Entry). e ∷ l) (whole n log)
 parted (suc from) n [] = none n where
-  none : (n : ℕ) → take n [] ++ drop n [] ≡ []
+  none : (n : ℕ) → ◌≡◌ {A = List Entry} (take n [] ++ drop n []) []
   none zero = refl
   none (suc n) = refl
 parted (suc from) n (e ∷ log) = ap (λ (l : List Entry). e ∷ l) (parted from n log)
@@ -82,11 +82,13 @@ next_between v log from n next =
 
 joined : (from n : ℕ) (log : List Entry) → take from log ++ take n (drop from log) ≡ take (from + n) log
 joined zero n log = ap (λ (k : ℕ). take k log) (sym (zero-add n))
-joined (suc from) n [] = none n where
-  none : (n : ℕ) → take n [] ≡ take (suc from + n) []
+joined (suc from) n [] = none n ∙ sym (none (suc from + n)) where
+  none : (m : ℕ) → ◌≡◌ {A = List Entry} (take m []) []
   none zero = refl
-  none (suc n) = refl
-joined (suc from) n (e ∷ log) = ap (λ (l : List Entry). e ∷ l) (joined from n log) ∙ ap (λ (k : ℕ). take k (e ∷ log)) (omega arith)
+  none (suc m) = refl
+joined (suc from) n (e ∷ log) =
+    let same : suc (from + n) ≡ suc from + n = omega arith in
+    ap (λ (l : List Entry). e ∷ l) (joined from n log) ∙ ap (λ (k : ℕ). take k (e ∷ log)) same
 
 pub applied_between : (v : StateView) (log : List Entry) (from n : ℕ)
     → fold after_entry (fold after_entry v (take from log)) (take n (drop from log)) ≡ fold after_entry v (take (from + n) log)
