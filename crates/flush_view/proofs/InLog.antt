@@ -18,7 +18,7 @@ use Rattle.flush_view.specs.Laws.{IsInLog}
 use Rattle.flush_view.specs.Views.{ends_in}
 use Rattle.flush_view.proofs.Ends.{ends_of_workers}
 
-one_each : (k w : ℕ) (workers : List Work) (flushes : List FlushRecord) → length (segments_at k w workers flushes) ≡ length workers
+pub one_each : (k w : ℕ) (workers : List Work) (flushes : List FlushRecord) → length (segments_at k w workers flushes) ≡ length workers
 one_each k w [] flushes = refl
 one_each k w (work ∷ workers) flushes = ap suc (one_each k (suc w) workers flushes)
 

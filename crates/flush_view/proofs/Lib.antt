@@ -16,3 +16,11 @@ mod Picked
 mod Following
 mod Viewing
 mod Ready
+mod FileEvents
+mod Recorded
+mod Countings
+mod CountersMade
+mod LawfulParts
+mod BinsShown
+mod Showable
+mod RowsBins

@@ -1,6 +1,7 @@
 -- What holds of all views and outputs. This project's own.
 use Rattle.std.specs.Prelude.{◌≡◌, ◌<◌, ℕ, ◌||◌, Bool, true, Option, Some, List, length, map, slice_get}
 use Rattle.std.specs.List.{list_all, flat_map, AllByRecursion}
+use Rattle.stat_defs.specs.declared.bins.Bound.{Bound}
 use Rattle.stat_defs.specs.declared.configs.Config.{Config}
 use Rattle.stat_defs.specs.declared.configs.ScopeSpec.{ScopeSpec}
 use Rattle.stat_defs.specs.declared.events.Event.{Event}
@@ -24,7 +25,7 @@ use Rattle.ledger.specs.Flushes.{Fits, ids_not_gone, id_of_reading}
 use Rattle.ledger.specs.Ledger.{RunPlan, HasHistory, Account, ReplayLedger, Direct}
 use Rattle.ledger.specs.OneReport.{without_ends, NoneFailed}
 use Rattle.flush_view.specs.ByName.{SortsByName}
-use Rattle.flush_view.specs.Views.{ViewRules, NumberedMetric, row_name, ends_in, state_before, last_state, metrics_shown, counter_row, parts_on, merged_parts, view, views}
+use Rattle.flush_view.specs.Views.{ViewRules, NumberedMetric, row_name, ends_in, state_before, last_state, metrics_shown, counter_row, histogram_row, parts_on, merged_parts, view, views}
 use Rattle.flush_view.specs.Symbols.{is_live_life}
 use Rattle.flush_view.specs.Output.{ViewText, output}
 
@@ -90,6 +91,13 @@ TotalsOfUnits = (plan : RunPlan) (workers : List Work) (report : Report) (flush 
     → AllByRecursion (λ numbered.
     (counter_row flush report.flushes numbered).total ≡ units_of numbered.0 workers)
     (metrics_shown Counter passes (last_state plan.rules report.log))
+
+-- and the cumulative bins of each histogram that is shown are those of all values that the workers recorded in it
+abbrev pub LastBinsOfAll : Type 0
+LastBinsOfAll = (plan : RunPlan) (workers : List Work) (report : Report) (flush : FlushRecord)
+    (bounds : List ℕ → List Bound) (numbered : NumberedMetric) → Account plan workers report
+    → AreBinsOf (histogram_row bounds flush report.flushes numbered).cumulative
+    (flat_map (λ work. values_on numbered.0 (recordings work)) workers)
 
 -- a sum of lawful parts is lawful, rises and has no empty bin, also where a part does not rise or has some
 abbrev pub SumsRise : Type 0

@@ -1,20 +1,22 @@
 -- What is asked of a report whose flushes are shown, and what callers see of views that are given one after another.
 -- This project's own.
-use Rattle.std.specs.Prelude.{◌≡◌, ◌≤◌, ◌<◌, ◌^◌, ℕ, suc, Bool, true, nat_lt, if◌then◌else◌, Option, List, length, map, sum_by}
-use Rattle.std.specs.List.{flat_map, AllByRecursion}
+use Rattle.std.specs.Prelude.{◌≤◌, ◌<◌, ◌^◌, ℕ, suc, Bool, true, nat_lt, if◌then◌else◌, Option, List, length, map, sum_by}
+use Rattle.std.specs.List.{flat_map, All, AllByRecursion}
 use Rattle.std.specs.List.Sorted.{IsNonDecreasing}
+use Rattle.stat_defs.specs.declared.bins.BinCount.{BinCount}
 use Rattle.stat_defs.specs.declared.configs.Config.{Config}
 use Rattle.stat_defs.specs.declared.reports.FlushRecord.{FlushRecord}
 use Rattle.stat_defs.specs.declared.reports.Report.{Report}
 use Rattle.stat_defs.specs.declared.views.FlushView.{FlushView}
+use Rattle.stat_defs.specs.declared.views.HistRow.{HistRow}
 use Rattle.loglinear_bins.specs.declared.place.TheConstants.{MAX_COUNT}
-use Rattle.loglinear_bins.specs.Counts.{AreLawful, total}
+use Rattle.loglinear_bins.specs.Counts.{AreLawful, IsBinList, total}
 use Rattle.book_state.specs.declared.limits.TheConstants.{MAX_WORKERS}
 use Rattle.book_state.specs.Log.{Legal}
 use Rattle.ledger.specs.Flushes.{flushed}
 use Rattle.ledger.specs.Ledger.{RunLedger, ReplayLedger, plan_of}
 use Rattle.stat_defs.specs.declared.events.Event.{Event}
-use Rattle.flush_view.specs.Views.{view_rules, ends_in, parts_on, view}
+use Rattle.flush_view.specs.Views.{view_rules, ends_in, parts_on, view, IsView}
 
 -- how many values of a histogram these flushes took
 abbrev pub values_taken : ℕ → List FlushRecord → ℕ
@@ -41,6 +43,21 @@ pub record LedgersShow : Type 0 where
   pub replay : (config : Config) (contents : List (Option (List ℕ))) (events : List (List Event)) (report : Report)
       → length contents ≤ MAX_WORKERS
       → ReplayLedger contents events (plan_of config) report → IsShowable config report
+
+-- rising bins, none of them empty, of no more values than are counted
+pub record AreBinsShown (bins : List BinCount) : Type 0 where
+  pub list : IsBinList bins
+  pub limit : total bins ≤ MAX_COUNT
+
+-- the values since the flush before, and all values so far
+pub record HasBinsShown (row : HistRow) : Type 0 where
+  pub interval : AreBinsShown row.interval
+  pub cumulative : AreBinsShown row.cumulative
+
+-- so are the bins of each row of histograms in each view of a report that can be shown
+abbrev pub ViewsHaveBins : Type 0
+ViewsHaveBins = (config : Config) (report : Report) (k : ℕ) (shown : FlushView)
+    → IsShowable config report → IsView config report k shown → All HasBinsShown shown.histograms
 
 -- the configuration and the report, how many views were given, and whether no call was cut short by want of memory
 pub record ViewHistory : Type 0 where

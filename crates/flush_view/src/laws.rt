@@ -1,5 +1,6 @@
 //! Laws of views and outputs, which hold without any call. Each function does nothing.
-ghost use Rattle.flush_view.specs.Laws.{ViewOfEach, NoEndShown, OneOutput, IntervalOfValues, CumulativeOfAll, EndsOfWorkers, FlushesInLog, TotalsOfUnits, SumsRise, OneOrder, NumbersMade, NoneRetired};
+ghost use Rattle.flush_view.specs.Laws.{ViewOfEach, NoEndShown, OneOutput, IntervalOfValues, CumulativeOfAll, EndsOfWorkers, FlushesInLog, TotalsOfUnits, LastBinsOfAll, SumsRise, OneOrder, NumbersMade, NoneRetired};
+ghost use Rattle.flush_view.specs.Showing.{LedgersShow, ViewsHaveBins};
 
 /// A law: the views of all flushes are those of each flush.
 pub fn view_of_each()
@@ -47,6 +48,12 @@ pub fn totals_of_units()
     ensures { TotalsOfUnits }
 {}
 
+/// A law: where the flushes account for all, the cumulative bins of each histogram's row in the last view are
+/// those of all values that were recorded in that histogram.
+pub fn last_bins_of_all()
+    ensures { LastBinsOfAll }
+{}
+
 /// A law: the bins of a histogram's row are lawful, rise and are not empty, as the texts want them.
 pub fn sums_rise()
     ensures { SumsRise }
@@ -67,4 +74,15 @@ pub fn numbers_made()
 /// A law: after a sweep behind the ends of all workers a metric is live or gone.
 pub fn none_retired()
     ensures { NoneRetired }
+{}
+
+/// A law: the report of a run or of a replay can be shown, where there are no more files than workers may be.
+pub fn ledgers_show()
+    ensures { LedgersShow }
+{}
+
+/// A law: in each view of a report that can be shown the bins of histograms rise, none of them is empty, and they
+/// have no more values than are counted, as the texts ask.
+pub fn views_have_bins()
+    ensures { ViewsHaveBins }
 {}

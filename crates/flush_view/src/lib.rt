@@ -15,8 +15,9 @@ mod taken;
 mod worked;
 
 pub use laws::{
-    cumulative_of_all, ends_of_workers, flushes_in_log, interval_of_values, no_end_shown,
-    none_retired, numbers_made, one_order, one_output, sums_rise, totals_of_units, view_of_each,
+    cumulative_of_all, ends_of_workers, flushes_in_log, interval_of_values, last_bins_of_all,
+    ledgers_show, no_end_shown, none_retired, numbers_made, one_order, one_output, sums_rise,
+    totals_of_units, view_of_each, views_have_bins,
 };
 pub use report_views::{ReportViews, flush_view};
 pub use worked::{

@@ -1,2 +1,4 @@
+pub mod Following
 pub mod Gathering
+pub mod Lines
 pub mod Rising
