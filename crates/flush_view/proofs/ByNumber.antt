@@ -1,7 +1,7 @@
 -- What sums and histograms by number come to.
-use Rattle.std.proofs.Common.{◌≡◌, ◌≢◌, ℕ, zero, suc, ◌+◌, ◌-◌, ◌^◌, ◌<◌, ◌≤◌, ◌==◌, ◌||◌, min, cond, Bool, true, false, Option, Some, None, List, [], ◌∷◌, ◌++◌, map, fold, filter, length, get_or, set, replicate, refl, ap, sym, ◌∙◌, subst, arith, inl, inr}
+use Rattle.std.proofs.Common.{◌≡◌, ℕ, ◌+◌, ◌-◌, ◌^◌, ◌<◌, ◌≤◌, ◌==◌, ◌||◌, min, cond, Bool, true, false, Some, None, List, [], ◌∷◌, map, fold, filter, length, get_or, set, refl, ap, sym, ◌∙◌, subst, arith, inl, inr}
 use Rattle.std.specs.Prelude.{sum_by, is_some}
-use Rattle.std.specs.List.{list_any, flat_map, AllByRecursion}
+use Rattle.std.specs.List.{list_any, AllByRecursion}
 use Rattle.std.proofs.lemmas.Bool.Decides.{eqb_tells, leb_tells}
 use Rattle.std.proofs.lemmas.List.{length-set, get_or-set_same, get_or-set_other, set_past}
 use Rattle.std.proofs.lemmas.List.Sums.{sum_by-cons}
@@ -17,7 +17,7 @@ use Rattle.ledger.specs.Flushes.{delta_on}
 use Rattle.ledger.specs.Readings.{word_on}
 use Rattle.ledger.proofs.Lists.{number_same}
 use Rattle.flush_view.specs.Views.{is_part_on}
-use Rattle.flush_view.specs.Sums.{with_deltas, with_readings, with_part, with_parts, HasRoomFor, HasRoomForAll}
+use Rattle.flush_view.specs.Sums.{with_deltas, with_readings, with_part, with_parts, HasRoomForAll}
 use Rattle.flush_view.proofs.SameBins.{merged_rises}
 
 module _ {X : Type 0} (top : ℕ) (id_of n_of : X → ℕ) where
@@ -87,14 +87,12 @@ bins_with slots part id within = elim (eqb_tells part.id.0 id) [
   | inl h ↦
       let now : get_or (with_part slots part) id None ≡ Some (merged (bins_at slots id) part.bins) =
       ap (λ (i : ℕ). get_or (set slots i (Some (merged (bins_at slots i) part.bins))) id None) h.1
-      ∙ get_or-set_same slots id (Some (merged (bins_at slots id) part.bins)) None within in
-      (
+      ∙ get_or-set_same slots id (Some (merged (bins_at slots id) part.bins)) None within in (
         ap held now ∙ ap (λ b. cond b (merged (bins_at slots id) part.bins) (bins_at slots id)) (sym h.0),
         ap is_some now ∙ ap (λ b. b || is_warm_at slots id) (sym h.0),
       )
   | inr h ↦
-      let stays = get_or-set_other slots part.id.0 id (Some (merged (bins_at slots part.id.0) part.bins)) None (λ e. h.1 (sym e)) in
-      (
+      let stays = get_or-set_other slots part.id.0 id (Some (merged (bins_at slots part.id.0) part.bins)) None (λ e. h.1 (sym e)) in (
         ap held stays ∙ ap (λ b. cond b (merged (bins_at slots id) part.bins) (bins_at slots id)) (sym h.0),
         ap is_some stays ∙ ap (λ b. b || is_warm_at slots id) (sym h.0),
       )
@@ -184,8 +182,7 @@ room_for_all slots [] lawful roomy = tt
 room_for_all slots (part ∷ parts) lawful roomy =
     let few = roomy.few part.id.0 in
     let whole = values_cons part.id.0 part parts in
-    let head : cond (part.id.0 == part.id.0) (total part.bins) 0 ≡ total part.bins = ap (λ b. cond b (total part.bins) 0) (number_same part.id.0 part.id.0 refl) in
-    (
+    let head : cond (part.id.0 == part.id.0) (total part.bins) 0 ≡ total part.bins = ap (λ b. cond b (total part.bins) 0) (number_same part.id.0 part.id.0 refl) in (
       record { lawful = lawful.0; rising = roomy.rising part.id.0; few = omega (arith, few, whole, head) },
       room_for_all (with_part slots part) parts lawful.1 (one_fewer slots part parts lawful.0 roomy),
     )

@@ -1,5 +1,5 @@
 -- What is kept when one flush more is followed, and the view that it makes.
-use Rattle.std.proofs.Common.{◌≡◌, ℕ, zero, suc, ◌+◌, ◌-◌, ◌^◌, ◌<◌, ◌≤◌, ◌||◌, ◌&&◌, min, nat_lt, Bool, true, false, Option, Some, None, List, [], ◌∷◌, ◌++◌, map, fold, filter, take, drop, length, get_or, replicate, slice_get, append-nil, append_assoc, zero-add, cond, ltb, lit≤, refl, ap, sym, ◌∙◌, subst, arith, inl, inr, ◌⊎◌, ℤ, pos, negsuc}
+use Rattle.std.proofs.Common.{◌≡◌, ℕ, zero, suc, ◌+◌, ◌-◌, ◌^◌, ◌<◌, ◌≤◌, ◌||◌, min, Bool, true, false, Option, Some, None, List, [], ◌∷◌, ◌++◌, filter, take, drop, length, get_or, replicate, slice_get, append-nil, append_assoc, zero-add, cond, ltb, lit≤, refl, ap, sym, ◌∙◌, subst, arith, inl, inr, ◌⊎◌, ℤ, pos, negsuc}
 use Rattle.std.specs.Prelude.{sum_by, is_some}
 use Rattle.std.specs.Int.{w64, cast_signed}
 use Rattle.std.specs.List.{flat_map, list_any, AllByRecursion}
@@ -23,7 +23,7 @@ use Rattle.flush_view.specs.Kept.{metrics_made}
 use Rattle.flush_view.specs.Showing.{IsShowable, HasLawfulParts, values_taken}
 use Rattle.flush_view.specs.Sums.{with_deltas, with_readings, with_parts, HasRoomForAll}
 use Rattle.flush_view.specs.Views.{parts_on, merged_parts, is_part_on}
-use Rattle.flush_view.proofs.ByNumber.{behind, values_in, IsRoomy, room_for_all, parts_at, warm_at, deltas_at, readings_at, length-with_deltas, length-with_parts}
+use Rattle.flush_view.proofs.ByNumber.{behind, values_in, IsRoomy, room_for_all, parts_at, warm_at, deltas_at, readings_at}
 use Rattle.flush_view.proofs.Rising.{sums_rise}
 use Rattle.flush_view.proofs.SameBins.{none_rise}
 
@@ -235,12 +235,11 @@ module _ (config : Config) (report : Report) (can : IsShowable config report) (k
       × (is_warm_at (with_parts (replicate count None) flush.parts) id ≡ list_any (is_part_on id) flush.parts)
   intervals_alone count id within =
       let long = length-replicate {A = Option (List BinCount)} count None in
-      let inside : id < length (replicate count None) = omega (arith, within, long) in
-      (
+      let inside : id < length (replicate count None) = omega (arith, within, long) in (
         parts_at (replicate count None) flush.parts id inside
-        ∙ ap (λ (slot : Option (List BinCount)). behind (held slot) (parts_on id flush)) (no_bins_at count id),
+            ∙ ap (λ (slot : Option (List BinCount)). behind (held slot) (parts_on id flush)) (no_bins_at count id),
         warm_at (replicate count None) flush.parts id inside
-        ∙ ap (λ (slot : Option (List BinCount)). is_some slot || list_any (is_part_on id) flush.parts) (no_bins_at count id),
+            ∙ ap (λ (slot : Option (List BinCount)). is_some slot || list_any (is_part_on id) flush.parts) (no_bins_at count id),
       )
 
 -- the words of the flush, as signed numbers

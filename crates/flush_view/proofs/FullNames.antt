@@ -1,9 +1,8 @@
 -- Every metric that a lawful log makes has a full name.
-use Rattle.std.proofs.Common.{◌≡◌, ℕ, zero, suc, true, Option, Some, None, List, [], ◌∷◌, ◌++◌, cond, Bool, fold, map, filter, slice_get, ◌+◌, ◌==◌, not, false, refl, sym, subst, arith, IsUtf8}
+use Rattle.std.proofs.Common.{◌≡◌, ℕ, zero, suc, true, List, [], ◌∷◌, ◌++◌, cond, Bool, fold, map, filter, slice_get, ◌+◌, ◌==◌, not, false, refl, sym, subst, arith, IsUtf8}
 use Rattle.std.specs.Option.{option_map_or}
 use Rattle.std.specs.List.{AllByRecursion}
 use Rattle.stat_defs.specs.Names.{IsScopePrefix, IsFullName}
-use Rattle.stat_defs.specs.declared.events.Key.{Key}
 use Rattle.stat_defs.specs.declared.history.Call.{Call}
 use Rattle.stat_defs.specs.declared.history.Call.TheVariants as call
 use Rattle.stat_defs.specs.declared.history.Entry.{Entry}
@@ -13,9 +12,9 @@ use Rattle.stat_defs.specs.declared.metrics.Life.TheVariants.{Gone}
 use Rattle.stat_defs.specs.declared.metrics.Metric.{Metric}
 use Rattle.tag_rules.proofs.Readable.{name_is_text}
 use Rattle.book_state.specs.State.{NameRules, Row, Scope, Seat, State, metrics_of, bears}
-use Rattle.book_state.specs.Finding.{scope_of, name_of}
+use Rattle.book_state.specs.Finding.{scope_of}
 use Rattle.book_state.specs.Step.{effect, change_at, on_seat, closed, left_to, released, found, made, overdue, swept}
-use Rattle.book_state.specs.Stored.{StateView, IsLawfulCall, IsNext, after_entry, drawing}
+use Rattle.book_state.specs.Stored.{StateView, IsLawfulCall, after_entry, drawing}
 use Rattle.book_state.proofs.Naming.{full_is_full}
 use Rattle.flush_view.specs.Replaying.{AreNext}
 
@@ -79,8 +78,11 @@ effect_named rules seat (call.Release label) (reply.Released id) s lawful named 
 )
 effect_named rules seat (call.Release label) _ s lawful named = named
 effect_named rules seat (call.Find key) (reply.Made id numbers) s lawful named =
-    on_seat_named _ seat _ (named.0, pushed HasName s.metrics (made rules s key numbers) named.1
-    (full_is_full (option_map_or (λ scope. scope.prefix) (slice_get s.scopes (scope_of s key)) []) key.name (prefix_in s.scopes (scope_of s key) named.0) lawful))
+    on_seat_named _ seat _ (
+      named.0,
+      pushed HasName s.metrics (made rules s key numbers) named.1
+          (full_is_full (option_map_or (λ scope. scope.prefix) (slice_get s.scopes (scope_of s key)) []) key.name (prefix_in s.scopes (scope_of s key) named.0) lawful),
+    )
 effect_named rules seat (call.Find key) (reply.Found id) s lawful named =
     on_seat_named _ seat _ (named.0, changed HasName (found (scope_of s key) key.mode) (λ row has. has) id.0 s.metrics named.1)
 effect_named rules seat (call.Find key) reply.Rejected s lawful named = on_seat_named _ seat s named

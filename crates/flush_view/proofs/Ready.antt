@@ -1,8 +1,8 @@
 -- What holds where all is ready for a view.
-use Rattle.std.proofs.Common.{◌≡◌, ℕ, zero, suc, ◌+◌, ◌-◌, ◌<◌, ◌≤◌, nat_lt, true, Option, Some, None, List, [], ◌∷◌, cond, fold, map, take, drop, length, replicate, slice_get, slice_range, get_or, refl, ap, sym, ◌∙◌, subst, arith, IsUtf8}
+use Rattle.std.proofs.Common.{◌≡◌, ℕ, suc, ◌+◌, ◌-◌, ◌≤◌, Option, Some, None, List, fold, take, length, slice_get, slice_range, get_or, refl, ap, sym, ◌∙◌, subst, arith, IsUtf8}
 use Rattle.std.specs.Prelude.{option_map}
-use Rattle.std.specs.List.{enumerate_from, flat_map, AllByRecursion}
-use Rattle.std.proofs.lemmas.List.{length-map, length-replicate}
+use Rattle.std.specs.List.{AllByRecursion}
+use Rattle.std.proofs.lemmas.List.{length-replicate}
 use Rattle.stat_defs.specs.declared.bins.BinCount.{BinCount}
 use Rattle.stat_defs.specs.declared.configs.Config.{Config}
 use Rattle.stat_defs.specs.declared.configs.TagSpec.{TagSpec}
@@ -10,7 +10,6 @@ use Rattle.stat_defs.specs.declared.history.Entry.{Entry}
 use Rattle.stat_defs.specs.declared.metrics.Metric.{Metric}
 use Rattle.stat_defs.specs.declared.reports.FlushRecord.{FlushRecord}
 use Rattle.stat_defs.specs.declared.reports.Report.{Report}
-use Rattle.stat_defs.specs.declared.views.FlushView.{FlushView}
 use Rattle.merge_round.specs.Slots.{Slots, held, bins_at}
 use Rattle.book_state.specs.Log.{replay}
 use Rattle.book_state.specs.State.{State, metrics_of}

@@ -1,9 +1,9 @@
 -- Two lists of bins with the same counts are one list, so a merge of what was merged is a merge.
-use Rattle.std.proofs.Common.{◌≡◌, ℕ, zero, suc, ◌+◌, ◌<◌, ◌≤◌, ◌&&◌, Bool, true, false, cond, List, [], ◌∷◌, map, nat_lt, refl, ap, sym, ◌∙◌, subst, arith, inl, inr}
-use Rattle.std.specs.List.{list_all, AllByRecursion}
+use Rattle.std.proofs.Common.{◌≡◌, ℕ, suc, ◌+◌, ◌<◌, ◌≤◌, true, cond, List, [], ◌∷◌, map, nat_lt, refl, ap, sym, ◌∙◌, subst, arith, inl, inr}
+use Rattle.std.specs.List.{list_all}
 use Rattle.std.specs.List.Sorted.{IsStrictlyIncreasing}
 use Rattle.std.proofs.lemmas.Bool.{cases_Bool}
-use Rattle.std.proofs.lemmas.Bool.Decides.{eqb_tells, leb_tells, Decides-ltb}
+use Rattle.std.proofs.lemmas.Bool.Decides.{leb_tells, Decides-ltb}
 use Rattle.std.proofs.lemmas.List.Sums.{sum_by-cons}
 use Rattle.stat_defs.specs.declared.bins.Bin.{Bin}
 use Rattle.stat_defs.specs.declared.bins.BinCount.{BinCount}
@@ -15,7 +15,7 @@ use Rattle.loglinear_bins.proofs.Adding.{count_of-merged}
 use Rattle.loglinear_bins.proofs.Order.{low_tenths-bin_at}
 use Rattle.loglinear_bins.proofs.Places.{is_same-refl, is_same-true, bin_at-place_of}
 use Rattle.loglinear_bins.proofs.Restored.{merged-IsBinList}
-use Rattle.book_state.proofs.Lists.{both, true_false}
+use Rattle.book_state.proofs.Lists.{both}
 use Rattle.ledger.proofs.Lists.{cons_same}
 use Rattle.flush_view.proofs.Rising.{sums_rise}
 
@@ -32,10 +32,13 @@ rise_from low c [] first lawful some rising =
 rise_from low c (d ∷ ds) first lawful some rising =
     let is = both (is_lawful c.bin) (list_all (λ b. is_lawful b.bin) (d ∷ ds)) lawful in
     let has = both (nat_lt 0 c.count) (list_all (λ b. nat_lt 0 b.count) (d ∷ ds)) some in
-    let next = rising 0 (omega arith) in
-    (first, (Decides-ltb 0 c.count).0 has.0, is.0,
+    let next = rising 0 (omega arith) in (
+      first,
+      (Decides-ltb 0 c.count).0 has.0,
+      is.0,
       rise_from (low_tenths c.bin + 1) d ds (omega (arith, next)) is.1 has.1
-      (λ k short. let more : suc k + 1 ≡ suc (k + 1) = omega arith in rw more at (rising (suc k) (omega (arith, short)))))
+          (λ k short. let more : suc k + 1 ≡ suc (k + 1) = omega arith in rw more at (rising (suc k) (omega (arith, short)))),
+    )
 
 rise : (cs : List BinCount) → IsBinList cs → RisesFrom 0 cs
 rise [] is = tt

@@ -1,7 +1,6 @@
 -- The view that is made of what is kept is the view of the flush, and what is kept goes on with it.
-use Rattle.std.proofs.Common.{◌≡◌, ℕ, zero, suc, ◌+◌, ◌-◌, ◌<◌, ◌≤◌, ◌||◌, ◌&&◌, min, nat_lt, Bool, true, false, Option, Some, None, List, [], ◌∷◌, map, fold, take, drop, length, get_or, replicate, slice_get, slice_range, cond, refl, ap, sym, ◌∙◌, subst, arith, inl, inr, IsUtf8}
-use Rattle.std.specs.Int.{w64, cast_signed}
-use Rattle.std.specs.List.{enumerate_from, flat_map, AllByRecursion}
+use Rattle.std.proofs.Common.{◌≡◌, ℕ, zero, suc, ◌+◌, ◌-◌, ◌<◌, ◌≤◌, ◌||◌, ◌&&◌, min, nat_lt, Bool, true, false, Some, None, List, [], ◌∷◌, map, fold, take, length, get_or, replicate, slice_get, slice_range, cond, refl, ap, sym, ◌∙◌, arith, inl, inr}
+use Rattle.std.specs.List.{flat_map, AllByRecursion}
 use Rattle.std.proofs.lemmas.Bool.Decides.{leb_tells}
 use Rattle.std.proofs.lemmas.List.{length-map, take_all}
 use Rattle.std.proofs.lemmas.List.FromFn.{length-enumerate_from}
@@ -21,7 +20,7 @@ use Rattle.ledger.specs.Flushes.{flushed}
 use Rattle.flush_view.specs.ByName.{comes_before, put_by_name, by_name}
 use Rattle.flush_view.specs.declared.progress.Progress.{Progress}
 use Rattle.flush_view.specs.Kept.{HasFollowed, Follows, place_of, metrics_made, last_book, ordered_metrics, kept_of}
-use Rattle.flush_view.specs.Replaying.{AreNext, first_state, state_after}
+use Rattle.flush_view.specs.Replaying.{first_state}
 use Rattle.flush_view.specs.Rows.{view_kept, picked, shows_counter, shows_histogram, counter_at, gauge_at, histogram_at}
 use Rattle.flush_view.specs.Showing.{IsShowable}
 use Rattle.flush_view.specs.Sums.{with_deltas, with_readings, with_parts}
@@ -144,8 +143,7 @@ module _ (config : Config) (report : Report) (can : IsShowable config report) (k
         ≡ map (counter_row flush so_far) (metrics_shown Counter (has_counter_row before flush) last)
     counters_same = rows_same Counter _ _ _ _ (λ numbered below.
         let delta = units_alone config report can k flush at count numbered.0 below in
-        let total = total_at numbered.0 (omega (arith, below, counts)) in
-        (
+        let total = total_at numbered.0 (omega (arith, below, counts)) in (
           λ i. record { name = numbered.1.name; tagged = numbered.1.tagged; delta = delta i; total = total i },
           ap (λ n. has_not_gone before numbered.0 || nat_lt 0 n) delta,
         ))
@@ -164,8 +162,7 @@ module _ (config : Config) (report : Report) (can : IsShowable config report) (k
         ≡ map (histogram_row bounds flush so_far) (metrics_shown Histogram (has_histogram_row before flush) last)
     histograms_same = rows_same Histogram _ _ _ _ (λ numbered below.
         let alone = intervals_alone config report can k flush at count numbered.0 below in
-        let all = all_at numbered.0 (omega (arith, below, counts)) in
-        (
+        let all = all_at numbered.0 (omega (arith, below, counts)) in (
           λ i. record {
             name = numbered.1.name;
             tagged = numbered.1.tagged;

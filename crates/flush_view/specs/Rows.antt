@@ -9,7 +9,6 @@ use Rattle.stat_defs.specs.declared.views.CounterRow.{CounterRow}
 use Rattle.stat_defs.specs.declared.views.FlushView.{FlushView}
 use Rattle.stat_defs.specs.declared.views.GaugeRow.{GaugeRow}
 use Rattle.stat_defs.specs.declared.views.HistRow.{HistRow}
-use Rattle.stat_defs.specs.declared.views.TextRow.{TextRow}
 use Rattle.stat_defs.specs.Keys.{same_kind}
 use Rattle.merge_round.specs.Slots.{Slots, bins_at, is_warm_at}
 use Rattle.book_state.specs.State.{State}

@@ -41,10 +41,7 @@ fn numbered(alloc: Global, metrics: Vec<Metric>) -> Result<Vec<NumberedMetric>, 
 }
 
 /// Metrics with their numbers, by full name, and those of one name by number.
-pub(crate) fn in_order(
-    alloc: Global,
-    metrics: Vec<Metric>,
-) -> Result<Vec<NumberedMetric>, NoMemory>
+pub(crate) fn in_order(alloc: Global, metrics: Vec<Metric>) -> Result<Vec<NumberedMetric>, NoMemory>
     ensures { IfOk result (λ named. named.items ≡ by_name row_name (enumerate_from 0 metrics.items)) }
 {
     let mut numbered = numbered(alloc, metrics)?;
@@ -89,10 +86,7 @@ fn add_live<'a>(
     Ok(())
 }
 
-fn live_by_kind(
-    alloc: Global,
-    metrics: &[NumberedMetric],
-) -> Result<Vec<&Metric>, AllocError>
+fn live_by_kind(alloc: Global, metrics: &[NumberedMetric]) -> Result<Vec<&Metric>, AllocError>
     ensures { IfOk result (λ rows. map (λ metric. metric.now) rows.items ≡ flat_map (live_in metrics.now) kinds) }
 {
     let mut rows = Vec::new(alloc);

@@ -12,7 +12,9 @@ use crate::replaying::has_not_gone;
 use crate::sums::{has_bins_at, pairs_at, sum_at};
 use book_state::BookState;
 use loglinear_bins::Bins;
-use stat_defs::{Bound, CounterRow, GaugeRow, HistRow, Kind, List, MetricId, NoMemory, TextRow, Txt};
+use stat_defs::{
+    Bound, CounterRow, GaugeRow, HistRow, Kind, List, MetricId, NoMemory, TextRow, Txt,
+};
 use std::alloc::Global;
 use tag_rules::Buckets;
 
@@ -74,11 +76,7 @@ fn shows_left(book: &BookState, shown: Kind, numbered: &NumberedMetric) -> bool
     has_not_gone(book, numbered.0)
 }
 
-fn gauge_row(
-    alloc: Global,
-    words: &[u64],
-    numbered: &NumberedMetric,
-) -> Result<GaugeRow, NoMemory>
+fn gauge_row(alloc: Global, words: &[u64], numbered: &NumberedMetric) -> Result<GaugeRow, NoMemory>
     ensures { IfOk result (λ row. row ≡ gauge_at words.now numbered.now) }
 {
     Ok(GaugeRow {
@@ -147,11 +145,7 @@ pub(crate) fn text_rows(
     Ok(List::of(rows))
 }
 
-fn shows_histogram(
-    book: &BookState,
-    intervals: &[Option<Bins>],
-    numbered: &NumberedMetric,
-) -> bool
+fn shows_histogram(book: &BookState, intervals: &[Option<Bins>], numbered: &NumberedMetric) -> bool
     ensures { result ≡ (same_kind numbered.now.1.kind kind.Histogram
         && shows_histogram book.now.state intervals.now numbered.now.0) }
 {

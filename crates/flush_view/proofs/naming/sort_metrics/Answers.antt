@@ -19,7 +19,7 @@ pub returns : goal.returns
 returns c =
     let order = ranks_by nat_list_cmp_total name_at in
     ap (map metric_at)
-    (sorted_by_name name_at _ _
+    (sorted_by_name name_at c.args.metrics.now.items c.sort_by.new.self.items
     (c.in_ok-sort_by.ensures.sorted before order (answers_always _ _ _ (λ f a r g h. search rules)))
     (c.sort_by.ensures.stable before order (answers_always _ _ _ (λ f a r g h. search rules))))
     ∙ map-by_name metric_at (λ metric. metric.name) c.args.metrics.now.items

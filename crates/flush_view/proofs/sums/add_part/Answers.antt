@@ -1,4 +1,4 @@
-use Rattle.std.proofs.Common.{◌≡◌, ◌∙◌, Some, None, ap, sym, set, rules}
+use Rattle.std.proofs.Common.{◌∙◌, Some, None, ap, set, rules}
 use Rattle.std.proofs.lemmas.List.{set-set, get_or_default}
 use Rattle.loglinear_bins.specs.Counts.{merged}
 use Rattle.merge_round.specs.Slots.{held, bins_at}

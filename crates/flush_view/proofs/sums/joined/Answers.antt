@@ -1,5 +1,5 @@
-use Rattle.std.proofs.Common.{◌≡◌, ◌∙◌, [], ap, sym, arith}
-use Rattle.loglinear_bins.specs.Counts.{IsBinList, merged, total}
+use Rattle.std.proofs.Common.{◌∙◌, [], ap, sym, arith}
+use Rattle.loglinear_bins.specs.Counts.{merged, total}
 use Rattle.loglinear_bins.proofs.Adding.{total-merged}
 use Rattle.merge_round.specs.Slots.{held}
 use Rattle.flush_view.proofs.SameBins.{merged_once}

@@ -1,11 +1,10 @@
-use Rattle.std.proofs.Common.{◌≡◌, ◌∙◌, ℕ, List, All, map, length, ap, sym, subst, rules}
+use Rattle.std.proofs.Common.{◌≡◌, ◌∙◌, List, All, length, ap, subst, rules}
 use Rattle.std.specs.List.{enumerate_from}
 use Rattle.std.proofs.lemmas.List.{length-map}
 use Rattle.std.proofs.lemmas.List.Elements.{recursion_from_All}
-use Rattle.stat_defs.specs.declared.configs.TagSpec.{TagSpec}
 use Rattle.stat_defs.specs.declared.history.Entry.{Entry}
 use Rattle.stat_defs.specs.declared.metrics.Metric.{Metric}
-use Rattle.book_state.specs.State.{State, metrics_of}
+use Rattle.book_state.specs.State.{metrics_of}
 use Rattle.book_state.specs.Stored.{IsLawfulCall}
 use Rattle.flush_view.specs.ByName.{by_name}
 use Rattle.flush_view.specs.Kept.{last_book}

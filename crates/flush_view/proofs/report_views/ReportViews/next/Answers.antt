@@ -1,4 +1,4 @@
-use Rattle.std.proofs.Common.{◌≡◌, ◌∙◌, ℕ, List, All, Option, Some, length, slice_get, ap, sym, subst, IsUtf8, true}
+use Rattle.std.proofs.Common.{◌∙◌, List, All, Some, length, slice_get, ap, sym, subst, IsUtf8}
 use Rattle.std.proofs.lemmas.List.Elements.{All-from_recursion}
 use Rattle.stat_defs.specs.declared.configs.BucketSpec.{BucketSpec}
 use Rattle.stat_defs.specs.declared.reports.FlushRecord.{FlushRecord}
