@@ -340,7 +340,7 @@ fn a_name_that_is_made_again(rt: HostRuntime) -> Result<(), Fail> {
     put_live_names(alloc, &mut text, &views)?;
     let shown = "\
 view\nt.u 1 1\ng -5\nh 70x1 / 70x1, 19 bounds\nxr\n\
-view\nt.u 2 3\nt.u 3 3\ng 5\nh / 70x1, 19 bounds\nxr\n\
+view\nt.u 2 3\nt.u 3 3\ng 5\nh / 70x1, 19 bounds\nyr\n\
 view\nt.u 1 4\ng 5\nh 20x4 / 20x4 70x1, 19 bounds\nyr\n\
 none\ng\nh\nr\nt.u\n";
     assert_eq!(rt; text.as_slice(), shown.as_bytes());
@@ -359,7 +359,7 @@ fn one_flush_of_three(rt: HostRuntime) -> Result<(), Fail> {
     let second = flush_view(alloc, &config, rules, &buckets, &report, 1)?;
     let mut text = Vec::new(alloc);
     put_view(alloc, &mut text, &Some(second))?;
-    let shown = b"view\nt.u 2 3\nt.u 3 3\ng 5\nh / 70x1, 19 bounds\nxr\n";
+    let shown = b"view\nt.u 2 3\nt.u 3 3\ng 5\nh / 70x1, 19 bounds\nyr\n";
     assert_eq!(rt; text.as_slice(), shown.as_slice());
     Ok(())
 }
