@@ -1,6 +1,7 @@
 //! Files that are replayed one after another over a store on one thread.
 #![tactic(auto)]
 
+mod reading;
 mod replaying;
 
 pub use replaying::{MAX_FILES, replay_files};
