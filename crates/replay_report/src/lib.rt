@@ -3,5 +3,7 @@
 
 mod reading;
 mod replaying;
+#[cfg(test)]
+mod tests;
 
 pub use replaying::{MAX_FILES, replay_files};
