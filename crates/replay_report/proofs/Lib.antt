@@ -1,0 +1,6 @@
+pub mod AppliedEvents
+pub mod OneThread
+pub mod FilesReported
+pub mod SoFar
+pub mod ReadToEnd
+pub mod FilesRead

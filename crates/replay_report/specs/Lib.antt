@@ -1,3 +1,5 @@
 pub mod WorkerEnd
 pub mod FileRead
+pub mod Applying
+pub mod FileRun
 pub mod ReplayReport

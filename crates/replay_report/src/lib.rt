@@ -1,6 +1,9 @@
 //! Files that are replayed one after another over a store on one thread.
 #![tactic(auto)]
 
+mod reading;
 mod replaying;
+#[cfg(test)]
+mod tests;
 
 pub use replaying::{MAX_FILES, replay_files};

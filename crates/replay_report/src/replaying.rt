@@ -2,16 +2,36 @@
 ghost use Rattle.std.specs.Prelude.{◌≡◌, ◌≤◌, length, map, string_bytes, IfOk};
 ghost use Rattle.stat_defs.specs.Configs.{IsConfig};
 ghost use Rattle.replay_report.specs.declared.replaying.TheConstants as limits;
+ghost use Rattle.replay_report.specs.FileRun.{report_with};
 ghost use Rattle.replay_report.specs.ReplayReport.{IsReplayOf};
 
+use crate::reading::{Runs, read_files};
 use name_map::HashKey;
-use stat_defs::{Config, NoMemory, Report};
+use plain_store::PlainStore;
+use stat_defs::{Config, LastFlush, List, NoMemory, Report};
 use stats_io::Shelf;
 use std::alloc::Global;
 use tag_rules::{Matcher, TagRules};
 
 /// So many files at most are replayed in one call.
 pub const MAX_FILES: usize = 32;
+
+// The report of files that were read, whose store gave this last flush: no other flush, and no readings.
+fn report_of(alloc: Global, runs: Runs, given: LastFlush) -> Result<Report, NoMemory>
+    ensures { IfOk result (λ report. report ≡ report_with runs.verdicts.items runs.ends.items given) }
+{
+    let Runs { verdicts, ends } = runs;
+    let LastFlush { last, log } = given;
+    let mut flushes = Vec::new(alloc);
+    flushes.push(last)?;
+    Ok(Report {
+        verdicts: List::of(verdicts),
+        flushes: List::of(flushes),
+        log,
+        reads: List::of(Vec::new(alloc)),
+        ends: List::of(ends),
+    })
+}
 
 /// Opens the files of a shelf one after another, reads each to its end and applies its events to one store. The report
 /// has the store's one flush. A file that cannot be opened has no events. Rules and matcher are those that were built
@@ -32,5 +52,8 @@ pub fn replay_files<F: Shelf>(
     ensures { IfOk result (IsReplayOf F.state F.S.state (F.holds shelf.old) config.now (map string_bytes names.now)
         shelf.old shelf.new) }
 {
-    Err(NoMemory)
+    let mut store = PlainStore::with_key(alloc, key, config, rules, matcher)?;
+    let runs = read_files(alloc, shelf, names, &mut store)?;
+    let given = store.finish(alloc)?;
+    report_of(alloc, runs, given)
 }

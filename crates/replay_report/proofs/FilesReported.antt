@@ -1,0 +1,147 @@
+-- Files that were read and applied have the report of their events.
+use Rattle.std.proofs.Common.{◌≡◌, ℕ, suc, Option, Result, Ok, Err, IfOk, List, [], ◌∷◌, map, length, refl, ap, sym, ◌∙◌, subst}
+use Rattle.std.specs.List.{zip, flat_map, AllZip, AllByRecursion}
+use Rattle.std.proofs.lemmas.List.{length-map}
+use Rattle.std.proofs.lemmas.List.Folds.{flat_map-map}
+use Rattle.stat_defs.specs.declared.configs.Config.{Config}
+use Rattle.stat_defs.specs.declared.events.Event.{Event}
+use Rattle.stat_defs.specs.declared.history.Verdict.{Verdict}
+use Rattle.stat_defs.specs.declared.reports.FileEnd.{FileEnd}
+use Rattle.stat_defs.specs.declared.reports.FileEnd.TheVariants.{Whole, BadLine, LineTooLong, TooBig, TooMany, ReadFault, NotOpened}
+use Rattle.stat_defs.specs.declared.reports.LastFlush.{LastFlush}
+use Rattle.stat_defs.specs.declared.memory.NoMemory.{NoMemory}
+use Rattle.stat_defs.specs.declared.reports.Report.{Report}
+use Rattle.stat_defs.specs.declared.reports.WorkerEnd.{WorkerEnd}
+use Rattle.stats_io.specs.States.{SourceState, ShelfState}
+use Rattle.event_script.specs.Run.{IsRun}
+use Rattle.ledger.specs.Work.{Work, events_in, verdicts_in, work_of, together}
+use Rattle.ledger.specs.Ledger.{TakenAtFault, AreRead, ReplayLedger, IsReportOf, last_flush_alone, plan_of}
+use Rattle.ledger.proofs.WorkLists.{lengths, events_back, verdicts_back}
+use Rattle.plain_store.specs.Store.{StoreHistory, new_store, Finishes}
+use Rattle.replay_report.specs.WorkerEnd.{HasCause}
+use Rattle.replay_report.specs.FileRead.{FileRead, AreFiles, all_events}
+use Rattle.replay_report.specs.Applying.{with_applied, AreApplied}
+use Rattle.replay_report.specs.FileRun.{all_verdicts, report_with, AreRuns}
+use Rattle.replay_report.specs.ReplayReport.{IsReplayOf}
+use Rattle.replay_report.specs.declared.reading.Runs.{Runs}
+use Rattle.replay_report.proofs.OneThread.{history, swept, account, shown}
+
+abbrev events_of : List FileRead → List (List Event)
+events_of files = map (λ file. file.events) files
+
+abbrev ends_of : List FileRead → List WorkerEnd
+ends_of files = map (λ file. file.end) files
+
+-- the events of work, and its verdicts, are the work
+zipped : (work : Work) → work ≡ zip (events_in work) (verdicts_in work)
+zipped [] = refl
+zipped (told ∷ work) = ap (λ (l : Work). told ∷ l) (zipped work)
+
+-- the files one after another are the work of one worker
+pub as_together : (files : List FileRead) (verdicts : List (List Verdict)) → lengths verdicts ≡ lengths (events_of files)
+    → together (events_of files) verdicts ≡ zip (all_events files) (all_verdicts verdicts) ∷ []
+as_together files verdicts each =
+    let work : Work = flat_map work_of (zip (events_of files) verdicts) in
+    let events : events_in work ≡ all_events files =
+    events_back (events_of files) verdicts each ∙ flat_map-map (λ (es : List Event). es) (λ (file : FileRead). file.events) files in
+    ap (λ (w : Work). w ∷ []) (zipped work ∙ ap (λ (es : List Event). zip es (verdicts_in work)) events
+    ∙ ap (λ (vs : List Verdict). zip (all_events files) vs) (verdicts_back (events_of files) verdicts each))
+
+module _ {F S : Type 0} (shelf : F → ShelfState) (source : S → SourceState) (holds : List ℕ → Option (List ℕ)) where
+  -- bytes are counted at a read fault alone
+  taken_of : (name : List ℕ) (before after : ShelfState) (worker : WorkerEnd) (end : FileEnd)
+      → HasCause source (holds name) name before after worker end → TakenAtFault end worker.taken
+  taken_of name before after worker Whole cause = cause.taken
+  taken_of name before after worker (BadLine n) cause = cause.taken
+  taken_of name before after worker (LineTooLong n) cause = cause.taken
+  taken_of name before after worker TooBig cause = cause.taken
+  taken_of name before after worker TooMany cause = cause.taken
+  taken_of name before after worker ReadFault cause = tt
+  taken_of name before after worker NotOpened cause = cause.taken
+
+  as_many_files : (names : List (List ℕ)) (before after : F) (files : List FileRead)
+      → AreFiles shelf source holds names before after files → length files ≡ length names
+  as_many_files [] before after [] are = refl
+  as_many_files [] before after (f ∷ fs) are = absurd are
+  as_many_files (n ∷ ns) before after [] are = absurd are
+  as_many_files (n ∷ ns) before after (f ∷ fs) are = ap suc (as_many_files ns are.0 after fs are.1.1)
+
+  runs_of : (names : List (List ℕ)) (before after : F) (files : List FileRead)
+      → AreFiles shelf source holds names before after files
+      → AllZip (λ content file. IsRun content file.0.end file.0.taken file.1) (map holds names)
+      (zip (ends_of files) (events_of files))
+  runs_of [] before after [] are = tt
+  runs_of [] before after (f ∷ fs) are = absurd are
+  runs_of (n ∷ ns) before after [] are = absurd are
+  runs_of (n ∷ ns) before after (f ∷ fs) are = (are.1.0.run, runs_of ns are.0 after fs are.1.1)
+
+  counted_of : (names : List (List ℕ)) (before after : F) (files : List FileRead)
+      → AreFiles shelf source holds names before after files
+      → AllByRecursion (λ end. TakenAtFault end.end end.taken) (ends_of files)
+  counted_of [] before after [] are = tt
+  counted_of [] before after (f ∷ fs) are = absurd are
+  counted_of (n ∷ ns) before after [] are = absurd are
+  counted_of (n ∷ ns) before after (f ∷ fs) are = (
+    taken_of n (shelf before) (shelf are.0) f.end f.end.end are.1.0.cause,
+    counted_of ns are.0 after fs are.1.1,
+  )
+
+  module _ (names : List (List ℕ)) (before after : F) (files : List FileRead) (verdicts : List (List Verdict))
+      (are : AreFiles shelf source holds names before after files) (each : lengths verdicts ≡ lengths (events_of files))
+    where
+      read : (given : LastFlush) → AreRead (map holds names) (events_of files) (report_with verdicts (ends_of files) given)
+      read given =
+          let contents : length files ≡ length (map holds names) =
+          as_many_files names before after files are ∙ sym (length-map names holds) in
+          record {
+            an_end_each = length-map files (λ (file : FileRead). file.end) ∙ contents;
+            verdicts_each = sym (length-map verdicts (λ (vs : List Verdict). length vs)) ∙ ap (λ (l : List ℕ). length l) each
+                ∙ length-map (events_of files) (λ (es : List Event). length es)
+                ∙ length-map files (λ (file : FileRead). file.events) ∙ contents;
+            a_verdict_each = each;
+            read = runs_of names before after files are;
+            counted = counted_of names before after files are;
+          }
+
+      -- the report of a store that all events of the files were applied to
+      pub is_ledger : (config : Config) (store : StoreHistory) (given : LastFlush)
+          → AreApplied (new_store config) (all_events files) (all_verdicts verdicts) store → Finishes store given
+          → ReplayLedger (map holds names) (events_of files) (plan_of config) (report_with verdicts (ends_of files) given)
+      is_ledger config store given applied finishes =
+          let events : List Event = all_events files in
+          let told : List Verdict = all_verdicts verdicts in
+          let at_end : Finishes (with_applied (new_store config) events told applied.entries) given =
+          subst (λ (s : StoreHistory). Finishes s given) applied.applied finishes in
+          subst (λ (workers : List Work). IsReportOf (map holds names) (events_of files) (last_flush_alone (plan_of config)) workers (report_with verdicts (ends_of files) given))
+          (sym (as_together files verdicts each)) (record {
+            read = read given;
+            history = history config events told applied.entries given at_end verdicts (ends_of files) applied.a_verdict_each;
+            swept = swept config events told applied.entries given at_end verdicts (ends_of files) applied.mine;
+            account = account config events told applied.entries given at_end verdicts (ends_of files);
+            shown = shown config events told applied.entries given at_end verdicts (ends_of files);
+          })
+
+  -- so the files that were read and applied have it
+  is_replay : (names : List (List ℕ)) (before after : F) (config : Config) (store : StoreHistory) (runs : Runs)
+      (given : LastFlush) → AreRuns shelf source holds names before after (new_store config) store runs → Finishes store given
+      → IsReplayOf shelf source holds config names before after (report_with runs.verdicts.items runs.ends.items given)
+  is_replay names before after config store runs given are finishes =
+      let verdicts : List (List Verdict) = runs.verdicts.items in
+      subst (λ (ends : List WorkerEnd). IsReplayOf shelf source holds config names before after (report_with verdicts ends given))
+      (sym are.ends_are) (record {
+        files = are.files;
+        are_files = are.are_files;
+        ends = refl;
+        ledger = is_ledger names before after are.files verdicts are.are_files are.a_verdict_each config store given
+            are.are_applied finishes;
+      })
+
+  pub reported : (names : List (List ℕ)) (before after : F) (config : Config) (store : StoreHistory) (runs : Runs)
+      (given : LastFlush) → AreRuns shelf source holds names before after (new_store config) store runs
+      → Finishes store given → (answer : Result Report NoMemory)
+      → IfOk answer (λ report. report ≡ report_with runs.verdicts.items runs.ends.items given)
+      → IfOk answer (IsReplayOf shelf source holds config names before after)
+  reported names before after config store runs given are finishes (Ok report) is =
+      subst (λ (r : Report). IsReplayOf shelf source holds config names before after r) (sym is)
+      (is_replay names before after config store runs given are finishes)
+  reported names before after config store runs given are finishes (Err fault) is = tt

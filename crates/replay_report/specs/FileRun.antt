@@ -1,0 +1,79 @@
+-- What came of files that were read and applied. This project's own.
+use Rattle.std.specs.Prelude.{◌≡◌, ◌≤◌, ◌*◌, ℕ, Option, List, [], ◌∷◌, length, map}
+use Rattle.std.specs.List.{flat_map}
+use Rattle.std.specs.Io.KnownBytes.{Consumes}
+use Rattle.stat_defs.specs.Faults.{Rose}
+use Rattle.stat_defs.specs.declared.events.Event.{Event}
+use Rattle.stat_defs.specs.declared.history.Verdict.{Verdict}
+use Rattle.stat_defs.specs.declared.reports.FileEnd.{FileEnd}
+use Rattle.stat_defs.specs.declared.reports.FileEnd.TheVariants.{Whole, BadLine, LineTooLong, TooBig, TooMany, ReadFault, NotOpened}
+use Rattle.stat_defs.specs.declared.reports.LastFlush.{LastFlush}
+use Rattle.stat_defs.specs.declared.reports.Report.{Report}
+use Rattle.stat_defs.specs.declared.reports.WorkerEnd.{WorkerEnd}
+use Rattle.stats_io.specs.States.{SourceState, ShelfState}
+use Rattle.event_script.specs.Run.{IsRun}
+use Rattle.event_script.specs.declared.limits.TheConstants.{MAX_EVENTS}
+use Rattle.plain_store.specs.Store.{StoreHistory}
+use Rattle.replay_report.specs.Applying.{AreApplied}
+use Rattle.replay_report.specs.FileRead.{FileRead, IsFile, AreFiles, all_events}
+use Rattle.replay_report.specs.declared.reading.FileRun.{FileRun}
+use Rattle.replay_report.specs.declared.reading.Runs.{Runs}
+
+-- the bytes that were taken are told where the source failed
+abbrev pub taken_at : FileEnd → ℕ → ℕ
+taken_at Whole taken = 0
+taken_at (BadLine n) taken = 0
+taken_at (LineTooLong n) taken = 0
+taken_at TooBig taken = 0
+taken_at TooMany taken = 0
+taken_at ReadFault taken = taken
+taken_at NotOpened taken = 0
+
+-- the verdicts of all files, one file after another
+abbrev pub all_verdicts : List (List Verdict) → List Verdict
+all_verdicts verdicts = flat_map (λ of_file. of_file) verdicts
+
+-- these verdicts and ends, the one flush and the log, and no readings
+abbrev pub report_with : List (List Verdict) → List WorkerEnd → LastFlush → Report
+report_with verdicts ends given = record {
+  verdicts = verdicts;
+  flushes = given.last ∷ [];
+  log = given.log;
+  reads = [];
+  ends = ends;
+}
+
+-- a source was read to its end, and its events were applied
+pub record IsSourceRun {S : Type 0} (state : S → SourceState) (source : S) (earlier later : StoreHistory) (run : FileRun)
+    : Type 0 where
+  pub events : List Event
+  pub is_run : IsRun (state source).left run.end.end run.end.taken events
+  pub are_applied : AreApplied earlier events run.verdicts.items later
+  pub few : length events ≤ MAX_EVENTS
+  pub opened : run.end.end ≡ NotOpened → ⊥
+  pub last : S
+  pub origin : (state last).origin ≡ (state source).origin
+  pub given : List ℕ
+  pub consumed : Consumes (state source).left (state last).left given
+  pub taken : run.end.taken ≡ taken_at run.end.end (length given)
+  pub count_before : run.end.faults_before ≡ (state source).faults
+  pub count_after : run.end.faults_after ≡ (state last).faults
+  pub rose : run.end.end ≡ ReadFault → Rose run.end.faults_before run.end.faults_after
+
+module _ {F S : Type 0} (shelf : F → ShelfState) (source : S → SourceState) (holds : List ℕ → Option (List ℕ)) where
+  -- a file of a shelf was read to its end, and its events were applied
+  pub record IsFileRun (name : List ℕ) (before after : F) (earlier later : StoreHistory) (run : FileRun) : Type 0 where
+    pub events : List Event
+    pub file : IsFile shelf source holds name before after (record { events = events; end = run.end })
+    pub are_applied : AreApplied earlier events run.verdicts.items later
+    pub few : length events ≤ MAX_EVENTS
+
+  -- files of a shelf were read one after another, and their events were applied
+  pub record AreRuns (names : List (List ℕ)) (before after : F) (earlier later : StoreHistory) (runs : Runs)
+      : Type 0 where
+    pub files : List FileRead
+    pub are_files : AreFiles shelf source holds names before after files
+    pub are_applied : AreApplied earlier (all_events files) (all_verdicts runs.verdicts.items) later
+    pub a_verdict_each : map length runs.verdicts.items ≡ map length (map (λ file. file.events) files)
+    pub ends_are : runs.ends.items ≡ map (λ file. file.end) files
+    pub few : length (all_events files) ≤ length names * MAX_EVENTS

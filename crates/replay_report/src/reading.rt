@@ -1,0 +1,162 @@
+//! Files that are read and applied, one after another.
+ghost use Rattle.std.specs.Prelude.{◌≡◌, ◌≤◌, ◌<◌, ◌+◌, ◌*◌, ◌++◌, ◌∷◌, [], ℕ, List, Ok, IfOk, OnOk, MatchResult, length, map, string_bytes};
+ghost use Rattle.stat_defs.specs.Events.{IsLawfulEvent};
+ghost use Rattle.event_script.specs.Answer.{TellsEnd};
+ghost use Rattle.event_script.specs.declared.limits.TheConstants as file;
+ghost use Rattle.lone_worker.specs.declared.worker.TheConstants as worker;
+ghost use Rattle.replay_report.specs.Applying.{IsToldBehind};
+ghost use Rattle.replay_report.specs.FileRun.{taken_at, IsSourceRun, IsFileRun, AreRuns};
+
+use event_script::{Lines, Step};
+use plain_store::PlainStore;
+use stat_defs::{Event, FileEnd, List, NoMemory, Verdict, WorkerEnd};
+use stats_io::{OpenFault, Shelf, Source};
+use std::alloc::Global;
+
+/// What came of a file: its events' verdicts, and its end.
+#[derive(Drop)]
+pub(crate) struct FileRun {
+    pub(crate) verdicts: Vec<Verdict>,
+    pub(crate) end: WorkerEnd,
+}
+
+/// What came of files: the verdicts of each, and the end of each.
+#[derive(Drop)]
+pub(crate) struct Runs {
+    pub(crate) verdicts: Vec<List<Verdict>>,
+    pub(crate) ends: Vec<WorkerEnd>,
+}
+
+// The event of a step, or the end of the file.
+fn event_or_end(step: Step) -> Result<Event, FileEnd>
+    ensures { MatchResult result (λ event. step ≡ Step.Event event) (λ end. TellsEnd (Ok step) end) }
+{
+    match step {
+        Step::Event(event) => Ok(event),
+        Step::End => Err(FileEnd::Whole),
+        Step::BadLine(number) => Err(FileEnd::BadLine(number)),
+        Step::LineTooLong(number) => Err(FileEnd::LineTooLong(number)),
+        Step::TooBig => Err(FileEnd::TooBig),
+        Step::TooMany => Err(FileEnd::TooMany),
+        Step::ReadFault => Err(FileEnd::ReadFault),
+    }
+}
+
+// The bytes that were taken, where the source failed.
+fn taken_at(end: FileEnd, taken: u64) -> u64
+    ensures { result ≡ taken_at end taken }
+{
+    match end {
+        FileEnd::ReadFault => taken,
+        _ => 0,
+    }
+}
+
+// Applies an event, whose verdict comes behind the earlier ones.
+fn apply_event(
+    alloc: Global,
+    store: &mut PlainStore,
+    event: Event,
+    verdicts: &mut Vec<Verdict>,
+) -> Result<(), NoMemory>
+    requires lawful { IsLawfulEvent event }
+    requires few { length store.old.worker.events < worker.MAX_EVENTS }
+    ensures { OnOk result (IsToldBehind store.old event verdicts.old.items store.new verdicts.new.items) }
+{
+    let verdict = store.apply(alloc, &event)?;
+    verdicts.push(verdict)?;
+    Ok(())
+}
+
+// Reads a source to its end and applies its events.
+fn read_source<S: Source + Drop>(
+    alloc: Global,
+    source: S,
+    store: &mut PlainStore,
+) -> Result<FileRun, NoMemory>
+    requires { length store.old.worker.events + file.MAX_EVENTS ≤ worker.MAX_EVENTS }
+    ensures { IfOk result (λ run. IsSourceRun S.state source store.old store.new run) }
+{
+    let faults_before = source.fault_count();
+    let mut verdicts = Vec::new(alloc);
+    let mut lines = Lines::new(alloc, source)?;
+    loop {
+        let step = lines.next(alloc)?;
+        match event_or_end(step) {
+            Ok(event) => apply_event(alloc, store, event, &mut verdicts)?,
+            Err(end) => {
+                let taken = taken_at(end, lines.taken());
+                let source = lines.into_source();
+                let end = WorkerEnd {
+                    end,
+                    taken,
+                    faults_before,
+                    faults_after: source.fault_count(),
+                };
+                return Ok(FileRun { verdicts, end });
+            }
+        }
+    }
+}
+
+// Opens a file of a shelf, reads it to its end and applies its events.
+fn read_file<F: Shelf>(
+    alloc: Global,
+    shelf: &mut F,
+    name: &str,
+    store: &mut PlainStore,
+) -> Result<FileRun, NoMemory>
+    requires { length store.old.worker.events + file.MAX_EVENTS ≤ worker.MAX_EVENTS }
+    ensures read { IfOk result (λ run. IsFileRun F.state F.S.state (F.holds shelf.old) name.now shelf.old shelf.new
+        store.old store.new run) }
+    ensures contents { (other : List ℕ) → F.holds shelf.new other ≡ F.holds shelf.old other }
+{
+    let faults_before = shelf.fault_count();
+    match shelf.open(alloc, name) {
+        Ok(source) => read_source(alloc, source, store),
+        Err(OpenFault::Failed) => Ok(FileRun {
+            verdicts: Vec::new(alloc),
+            end: WorkerEnd {
+                end: FileEnd::NotOpened,
+                taken: 0,
+                faults_before,
+                faults_after: shelf.fault_count(),
+            },
+        }),
+        Err(OpenFault::NoMemory) => Err(NoMemory),
+    }
+}
+
+// Adds what came of one file more.
+fn push_run(runs: &mut Runs, run: FileRun) -> Result<(), NoMemory>
+    ensures verdicts { OnOk result (runs.new.verdicts.items ≡ runs.old.verdicts.items ++ run.verdicts.items ∷ []) }
+    ensures ends { OnOk result (runs.new.ends.items ≡ runs.old.ends.items ++ run.end ∷ []) }
+{
+    let FileRun { verdicts, end } = run;
+    runs.verdicts.push(List::of(verdicts))?;
+    runs.ends.push(end)?;
+    Ok(())
+}
+
+/// Opens the files of a shelf one after another, reads each to its end and applies its events. A file that cannot be
+/// opened has none.
+pub(crate) fn read_files<F: Shelf>(
+    alloc: Global,
+    shelf: &mut F,
+    names: &[String],
+    store: &mut PlainStore,
+) -> Result<Runs, NoMemory>
+    requires { length store.old.worker.events + length names.now * file.MAX_EVENTS ≤ worker.MAX_EVENTS }
+    ensures { IfOk result (λ runs. AreRuns F.state F.S.state (F.holds shelf.old) (map string_bytes names.now)
+        shelf.old shelf.new store.old store.new runs) }
+{
+    let mut runs = Runs {
+        verdicts: Vec::new(alloc),
+        ends: Vec::new(alloc),
+    };
+    for name in names {
+        let run = read_file(alloc, shelf, name.as_str(), store)?;
+        push_run(&mut runs, run)?;
+    }
+    Ok(runs)
+}
