@@ -1,4 +1,4 @@
-mod EachView
+pub mod EachView
 mod Ordered
 mod Rising
 mod Totals
@@ -15,4 +15,4 @@ mod CountersMade
 mod LawfulParts
 mod BinsShown
 mod Showable
-mod RowsBins
+pub mod RowsBins

@@ -14,7 +14,7 @@ module _ {X : Type 0} (line : X → List ℕ) (rows : List X) (i : ℕ) where
   lines_parted = sym (flat_map-append line (take i rows) (drop i rows)) ∙ ap (λ (l : List X). flat_map line l) (take-append-drop i rows)
 
   -- one line more of those up to a place
-  lines_next : (row : X) → i < length rows → row ≡ get_or rows i row
+  pub lines_next : (row : X) → i < length rows → row ≡ get_or rows i row
       → flat_map line (take (i + 1) rows) ≡ flat_map line (take i rows) ++ line row
   lines_next row within is =
       ap (λ (l : List X). flat_map line l) (take_more rows i row within ∙ ap (λ (x : X). take i rows ++ x ∷ []) (sym is))
