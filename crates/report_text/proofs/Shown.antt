@@ -6,7 +6,8 @@ use Rattle.text_parts.specs.Histograms.{AreHistograms, HasHistograms}
 use Rattle.flush_view.specs.Showing.{IsShowable, HasBinsShown, ViewHistory, view_in_turn}
 use Rattle.flush_view.proofs.RowsBins.{views_have_bins}
 
-pub has_histograms : (views : ViewHistory) (shown : FlushView) → IsShowable views.config views.report → view_in_turn views ≡ Some shown
+pub has_histograms : (views : ViewHistory) (shown : FlushView) → IsShowable views.config views.report
+    → view_in_turn views ≡ Some shown
     → HasHistograms shown
 has_histograms views shown showable is =
     All-weaker HasBinsShown AreHistograms

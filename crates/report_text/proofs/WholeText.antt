@@ -31,4 +31,5 @@ in_parts text rules symbols report =
     sym (joined_append flushes (reads ++ (rows ++ workers))
     ∙ ap (λ l. joined flushes ++ l) (joined_append reads (rows ++ workers)
     ∙ (λ k. joined_map read_line (enumerate_from 1 report.reads) k ++ (joined_append rows workers
-    ∙ (λ j. joined_symbols symbols (last_state rules.names report.log) j ++ joined_map worker_line (enumerate_from 1 report.verdicts) j)) k)))
+    ∙ (λ j. joined_symbols symbols (last_state rules.names report.log) j
+    ++ joined_map worker_line (enumerate_from 1 report.verdicts) j)) k)))

@@ -6,7 +6,8 @@ ghost use Rattle.stat_name.specs.Spelling.{spelling};
 ghost use Rattle.stat_name.specs.StoredName.{data_of, stored};
 ghost use Rattle.hex.specs.Hex.{encode_lower};
 ghost use Rattle.text_parts.specs.Answer.{IsTextAnswer};
-ghost use Rattle.flush_view.specs.Symbols.{kind_word as word_of_kind, mode_told as word_of_mode, symbol_told, symbol_line};
+ghost use Rattle.flush_view.specs.Symbols.{kind_word as word_of_kind, mode_told as word_of_mode};
+ghost use Rattle.flush_view.specs.Symbols.{symbol_told, symbol_line};
 ghost use Rattle.report_text.specs.Parts.{metric_words};
 
 use stat_defs::{Kind, Metric, Mode, NoMemory};

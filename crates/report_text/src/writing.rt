@@ -99,7 +99,8 @@ pub fn write_report<O: Sink>(
     requires rules { rules ≡ config.now.tags }
     requires buckets { buckets.now ≡ config.now.buckets }
     requires showable { IsShowable config.now report.now }
-    ensures answer { IsTextAnswer (O.state out.old) (O.state out.new) (report_text options config.now report.now) result }
+    ensures answer { IsTextAnswer (O.state out.old) (O.state out.new)
+        (report_text options config.now report.now) result }
     ensures later { (O.state out.old).faults ≤ (O.state out.new).faults }
 {
     let count = report.flushes.items().len();

@@ -11,24 +11,29 @@ use Rattle.report_text.proofs.readings.write_reads.Goals as goal
 pub returns-in_err-put_read-clause-answer : goal.returns-in_err-put_read-clause-answer
 returns-in_err-put_read-clause-answer g c =
     let p = err_from_is_err_and c.from_residual.result c.from_residual.ensures.1 in
-    rw (p.1, p.2) (lines_stopped read_line (enumerate_from 1 c.args.reads.now) c.loop-at.at _ _ _ c.loop-at.invariant.gathered)
+    rw (p.1, p.2)
+    (lines_stopped read_line (enumerate_from 1 c.args.reads.now) c.loop-at.at _ _ _ c.loop-at.invariant.gathered)
 
 pub returns-in_err-push_full-clause-answer : goal.returns-in_err-push_full-clause-answer
 returns-in_err-push_full-clause-answer g c =
     let p = err_from_is_err_and c.from_residual-in_err-push_full.result c.from_residual-in_err-push_full.ensures.1 in
     rw (p.1, p.2) (lines_cut read_line (enumerate_from 1 c.args.reads.now) (c.loop-at.at + 1) _ _ _ _
-    (line_put read_line (enumerate_from 1 c.args.reads.now) c.loop-at.at (c.loop-at.at + 1, c.index-reads-at.result) _ _ _ _
+    (line_put read_line (enumerate_from 1 c.args.reads.now) c.loop-at.at
+    (c.loop-at.at + 1, c.index-reads-at.result) _ _ _ _
     (numbered_within c.args.reads.now c.loop-at.at c.loop-at-test.true)
-    (numbered_at c.args.reads.now c.loop-at.at c.index-reads-at.result c.loop-at-test.true c.index-reads-at.is) c.loop-at.invariant.gathered
+    (numbered_at c.args.reads.now c.loop-at.at c.index-reads-at.result c.loop-at-test.true c.index-reads-at.is)
+    c.loop-at.invariant.gathered
     c.in_ok-put_read.ensures)
     c.in_err-push_full.ensures.front)
 
 pub loop-at-preserved : goal.loop-at-preserved
 loop-at-preserved g c = record {
   gathered = gathered_on _ _ _ _ _ _
-      (line_put read_line (enumerate_from 1 c.args.reads.now) c.loop-at.at (c.loop-at.at + 1, c.index-reads-at.result) _ _ _ _
+      (line_put read_line (enumerate_from 1 c.args.reads.now) c.loop-at.at
+      (c.loop-at.at + 1, c.index-reads-at.result) _ _ _ _
       (numbered_within c.args.reads.now c.loop-at.at c.loop-at-test.true)
-      (numbered_at c.args.reads.now c.loop-at.at c.index-reads-at.result c.loop-at-test.true c.index-reads-at.is) c.loop-at.invariant.gathered
+      (numbered_at c.args.reads.now c.loop-at.at c.index-reads-at.result c.loop-at-test.true c.index-reads-at.is)
+      c.loop-at.invariant.gathered
       c.in_ok-put_read.ensures)
       c.in_ok-push_full.ensures.whole;
   later = omega (arith, c.loop-at.invariant.later, c.in_ok-push_full.ensures.later);
@@ -37,7 +42,8 @@ loop-at-preserved g c = record {
 pub returns-in_err-push_all-clause-answer : goal.returns-in_err-push_all-clause-answer
 returns-in_err-push_all-clause-answer g c =
     let p = err_from_is_err_and c.from_residual-in_err-push_all.result c.from_residual-in_err-push_all.ensures.1 in
-    rw (p.1, p.2) (lines_cut read_line (enumerate_from 1 c.args.reads.now) c.loop-at.at _ _ _ _ c.loop-at.invariant.gathered
+    rw (p.1, p.2)
+    (lines_cut read_line (enumerate_from 1 c.args.reads.now) c.loop-at.at _ _ _ _ c.loop-at.invariant.gathered
     (subst (λ (l : List ℕ). WritesFront (g.O.Sink.state c.loop-at.out) (g.O.Sink.state c.push_all.new.out) l)
     c.deref.ensures.value c.in_err-push_all.ensures.front))
 

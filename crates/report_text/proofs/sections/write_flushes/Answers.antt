@@ -17,8 +17,10 @@ returns-in_err-write_flush-clause-answer g c =
     let so_far = c.loop-at.invariant in
     let report = c.args.views.now.report in
     let within : c.loop-at.at < length report.flushes = omega (arith, c.loop-at-test.true, c.requires.count) in
-    rw (p.1, p.2) (flush_cut (view_text c.args.prefix.now c.args.format) (view_rules c.args.views.now.config) report.log report.flushes
-    _ (g.O.Sink.state c.loop-at.out) _ c.loop-at.at (c.loop-at.at + 1 == c.args.count) (view_in_turn c.loop-at.views) so_far.done _
+    rw (p.1, p.2) (flush_cut (view_text c.args.prefix.now c.args.format)
+    (view_rules c.args.views.now.config) report.log report.flushes
+    _ (g.O.Sink.state c.loop-at.out) _ c.loop-at.at (c.loop-at.at + 1 == c.args.count)
+    (view_in_turn c.loop-at.views) so_far.done _
     c.in_err-write_flush.field-0.0 within (ap (λ n. c.loop-at.at + 1 == n) c.requires.count)
     (λ k. view (view_rules (so_far.config k)) (so_far.report k).log (so_far.report k).flushes (so_far.given k))
     so_far.rest so_far.written c.in_err-write_flush.ensures.answer)
@@ -43,7 +45,8 @@ loop-at-preserved g c =
       whole = ap (λ (v : ViewHistory). v.whole) c.in_ok-write_flush.ensures.views ∙ so_far.whole;
       done = so_far.done ++ piece;
       written = whole_next _ (g.O.Sink.state c.loop-at.out) _ so_far.done piece so_far.written
-          (subst (λ (v : Option FlushView). WritesWhole (g.O.Sink.state c.loop-at.out) (g.O.Sink.state c.write_flush.new.out)
+          (subst (λ (v : Option FlushView). WritesWhole (g.O.Sink.state c.loop-at.out)
+          (g.O.Sink.state c.write_flush.new.out)
           (flush_text text (c.loop-at.at + 1) last v)) shown c.in_ok-write_flush.ensures.answer);
       rest = flush_next text rules report.log report.flushes c.loop-at.at last so_far.done _ within
           (ap (λ n. c.loop-at.at + 1 == n) c.requires.count) so_far.rest;
@@ -55,6 +58,7 @@ returns-clause-answer g c =
     let so_far = c.loop-at.invariant in
     let report = c.args.views.now.report in
     subst (λ (l : List ℕ). WritesWhole (g.O.Sink.state c.args.out.now) (g.O.Sink.state c.loop-at.out) l)
-    (flushes_done (view_text c.args.prefix.now c.args.format) (view_rules c.args.views.now.config) report.log report.flushes c.loop-at.at
+    (flushes_done (view_text c.args.prefix.now c.args.format)
+    (view_rules c.args.views.now.config) report.log report.flushes c.loop-at.at
     so_far.done _ (omega (arith, c.loop-at-test.false, c.requires.count)) so_far.rest)
     so_far.written

@@ -13,5 +13,6 @@ loop-left-preserved c =
 pub returns : goal.returns
 returns c =
     c.in_ok-push-2.ensures.items
-    ∙ ap (λ (l : List ℕ). c.loop-left.form.items ++ l) (sym (spelling_one c.loop-left.left (omega (arith, c.loop-left-test.false))))
+    ∙ ap (λ (l : List ℕ). c.loop-left.form.items ++ l) (sym
+    (spelling_one c.loop-left.left (omega (arith, c.loop-left-test.false))))
     ∙ c.loop-left.invariant

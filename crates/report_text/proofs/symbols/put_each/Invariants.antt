@@ -5,4 +5,5 @@ use Rattle.report_text.proofs.symbols.put_each.Given as goal
 
 abbrev pub invariant-loop-number : goal.invariant-loop-number
 invariant-loop-number l =
-    l.text.items ≡ l.fn.text.items ++ flat_map symbol_told (take (length l.yielded) (zip l.numbers (map (λ token. token.now) l.cut)))
+    l.text.items ≡ l.fn.text.items ++ flat_map symbol_told
+    (take (length l.yielded) (zip l.numbers (map (λ token. token.now) l.cut)))

@@ -14,20 +14,23 @@ line metric = symbol_line metric.now
 pub returns-in_err-put_metric-clause-answer : goal.returns-in_err-put_metric-clause-answer
 returns-in_err-put_metric-clause-answer g c =
     let p = err_from_is_err_and c.from_residual.result c.from_residual.ensures.1 in
-    rw (p.1, p.2) (lines_stopped line c.args.metrics.now c.loop-metric.metric-index _ _ _ c.loop-metric.invariant.gathered)
+    rw (p.1, p.2)
+    (lines_stopped line c.args.metrics.now c.loop-metric.metric-index _ _ _ c.loop-metric.invariant.gathered)
 
 pub returns-in_err-push_full-clause-answer : goal.returns-in_err-push_full-clause-answer
 returns-in_err-push_full-clause-answer g c =
     let p = err_from_is_err_and c.from_residual-in_err-push_full.result c.from_residual-in_err-push_full.ensures.1 in
     rw (p.1, p.2) (lines_cut line c.args.metrics.now (c.loop-metric.metric-index + 1) _ _ _ _
-    (line_put line c.args.metrics.now c.loop-metric.metric-index c.metric-item.result _ _ _ _ c.loop-metric-test.true c.metric-item.is
+    (line_put line c.args.metrics.now c.loop-metric.metric-index c.metric-item.result _ _ _ _ c.loop-metric-test.true
+    c.metric-item.is
     c.loop-metric.invariant.gathered c.in_ok-put_metric.ensures)
     c.in_err-push_full.ensures.front)
 
 pub loop-metric-preserved : goal.loop-metric-preserved
 loop-metric-preserved g c = record {
   gathered = gathered_on _ _ _ _ _ _
-      (line_put line c.args.metrics.now c.loop-metric.metric-index c.metric-item.result _ _ _ _ c.loop-metric-test.true c.metric-item.is
+      (line_put line c.args.metrics.now c.loop-metric.metric-index c.metric-item.result _ _ _ _ c.loop-metric-test.true
+      c.metric-item.is
       c.loop-metric.invariant.gathered c.in_ok-put_metric.ensures)
       c.in_ok-push_full.ensures.whole;
   later = omega (arith, c.loop-metric.invariant.later, c.in_ok-push_full.ensures.later);

@@ -13,7 +13,8 @@ use Rattle.report_text.proofs.writing.write_report.Goals as goal
 
 pub returns-in_err-write_flushes-clause-answer : goal.returns-in_err-write_flushes-clause-answer
 returns-in_err-write_flushes-clause-answer g c =
-    let p = err_from_is_err_and c.from_residual-in_err-write_flushes.result c.from_residual-in_err-write_flushes.ensures.1 in
+    let p = err_from_is_err_and c.from_residual-in_err-write_flushes.result
+    c.from_residual-in_err-write_flushes.ensures.1 in
     let text = view_text c.args.config.now.statsd_prefix c.args.options.format in
     let rules = view_rules c.args.config.now in
     let report = c.args.report.now in
@@ -22,7 +23,8 @@ returns-in_err-write_flushes-clause-answer g c =
     rw (p.1, p.2)
     (subst (λ (l : List ℕ). IsTextAnswer {T = Unit {0}} x y l (Err c.in_err-write_flushes.field-0.0))
     (in_parts text rules c.args.options.symbols report)
-    (answer_first x y (flushes_text text rules report) (text_behind rules c.args.options.symbols report) c.in_err-write_flushes.field-0.0
+    (answer_first x y (flushes_text text rules report) (text_behind rules c.args.options.symbols report)
+    c.in_err-write_flushes.field-0.0
     (subst (λ (v : ViewHistory). IsTextAnswer {T = Unit {0}} x y (flushes_text text (view_rules v.config) v.report)
     (Err c.in_err-write_flushes.field-0.0)) c.in_ok-views.ensures c.in_err-write_flushes.ensures.answer)))
 
@@ -36,9 +38,13 @@ returns-clause-answer g c =
     let z = g.O.Sink.state c.write_behind.new.out in
     let config : c.write_flushes.new.views.config ≡ c.args.config.now =
     c.in_ok-write_flushes.ensures.config ∙ ap (λ (v : ViewHistory). v.config) c.in_ok-views.ensures in
-    subst (λ (l : List ℕ). IsTextAnswer {T = Unit {0}} x z l c.write_behind.result) (in_parts text rules c.args.options.symbols report)
-    (answer_next x y z (flushes_text text rules report) (text_behind rules c.args.options.symbols report) c.write_behind.result
-    (subst (λ (v : ViewHistory). WritesWhole x y (flushes_text text (view_rules v.config) v.report)) c.in_ok-views.ensures
+    subst (λ (l : List ℕ). IsTextAnswer {T = Unit {0}} x z l c.write_behind.result)
+    (in_parts text rules c.args.options.symbols report)
+    (answer_next x y z (flushes_text text rules report)
+    (text_behind rules c.args.options.symbols report) c.write_behind.result
+    (subst (λ (v : ViewHistory). WritesWhole x y (flushes_text text (view_rules v.config) v.report))
+    c.in_ok-views.ensures
     c.in_ok-write_flushes.ensures.answer)
-    (subst (λ (k : Config). IsTextAnswer {T = Unit {0}} y z (text_behind (view_rules k) c.args.options.symbols report) c.write_behind.result)
+    (subst (λ (k : Config). IsTextAnswer {T = Unit {0}} y z
+    (text_behind (view_rules k) c.args.options.symbols report) c.write_behind.result)
     config c.write_behind.ensures.answer))

@@ -27,7 +27,9 @@ returns-clause-answer g c =
     ap (λ (l : List (Bor Metric)). flat_map (λ m. symbol_line m.now) l) c.deref.ensures.value
     ∙ sym (flat_map-map symbol_line (λ (m : Bor Metric). m.now) c.in_ok-metrics.metrics.items)
     ∙ ap (λ (l : List Metric). flat_map symbol_line l) c.in_ok-metrics.ensures in
-    answer_next (g.O.Sink.state c.args.out.now) (g.O.Sink.state c.push_all.new.out) (g.O.Sink.state c.write_metrics.new.out)
+    answer_next (g.O.Sink.state c.args.out.now) (g.O.Sink.state c.push_all.new.out)
+    (g.O.Sink.state c.write_metrics.new.out)
     (codes "# symbols\n") (flat_map symbol_line live) c.write_metrics.result c.in_ok-push_all.ensures.whole
-    (subst (λ (l : List ℕ). IsTextAnswer {T = Unit {0}} (g.O.Sink.state c.push_all.new.out) (g.O.Sink.state c.write_metrics.new.out) l
+    (subst (λ (l : List ℕ). IsTextAnswer {T = Unit {0}} (g.O.Sink.state c.push_all.new.out)
+    (g.O.Sink.state c.write_metrics.new.out) l
     c.write_metrics.result) lines c.write_metrics.ensures.answer)
