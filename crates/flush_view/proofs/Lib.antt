@@ -1,4 +1,4 @@
-mod EachView
+pub mod EachView
 mod Ordered
 mod Rising
 mod Totals

@@ -1,0 +1,5 @@
+mod Numbered
+mod Shown
+mod FlushTexts
+mod Told
+mod WholeText

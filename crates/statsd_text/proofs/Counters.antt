@@ -11,8 +11,10 @@ one_more : (shown : Bool) (prefix : List ℕ) (row : CounterRow) (rest : List Co
 one_more true prefix row rest lines e = ap (λ l. counter_line prefix row ++ l) e
 one_more false prefix row rest lines e = e
 
-pub lines_of_counters : (prefix : List ℕ) (rows : List CounterRow) → flat_map (shown_counter prefix) rows ≡ counter_lines prefix rows
+pub lines_of_counters : (prefix : List ℕ) (rows : List CounterRow) → flat_map (shown_counter prefix) rows
+    ≡ counter_lines prefix rows
 lines_of_counters prefix [] = refl
 lines_of_counters prefix (row ∷ rows) =
-    one_more (nat_lt 0 row.total) prefix row (filter (λ (r : CounterRow). nat_lt 0 r.total) rows) (flat_map (shown_counter prefix) rows)
+    one_more (nat_lt 0 row.total) prefix row (filter (λ (r : CounterRow). nat_lt 0 r.total) rows)
+    (flat_map (shown_counter prefix) rows)
     (lines_of_counters prefix rows)

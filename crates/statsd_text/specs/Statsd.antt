@@ -1,4 +1,5 @@
--- The StatsD lines of a flush (the StatsD line format; the replaced bytes, the order of lines and the choice of counters are
+-- The StatsD lines of a flush (the StatsD line format; the replaced bytes, the order of lines and the choice of
+-- counters are
 -- this project's own).
 use Rattle.std.specs.Prelude.{ℕ, ◌||◌, ◌==◌, nat_lt, if◌then◌else◌, List, ◌∷◌, ◌++◌, map, filter, codes}
 use Rattle.std.specs.List.{flat_map}

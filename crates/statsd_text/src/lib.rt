@@ -54,8 +54,9 @@ fn write_gauges<O: Sink>(
     Ok(())
 }
 
-/// Appends the StatsD lines of the counters and gauges that a flush shows, with this prefix before their names. A gauge's
-/// value is its reading and no change, also where it is negative. The text is pushed in pieces of `PUSH_BYTES` and more.
+/// Appends the StatsD lines of the counters and gauges that a flush shows, with this prefix before their names. A
+/// gauge's value is its reading and no change, also where it is negative. The text is pushed in pieces of `PUSH_BYTES`
+/// and more.
 pub fn write_statsd<O: Sink>(
     alloc: Global,
     view: &FlushView,

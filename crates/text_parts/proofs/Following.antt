@@ -21,4 +21,8 @@ answer_next x y z a b (Err NoMemory) whole rest = record {
 pub answer_first : (x y : SinkState) (a b : List ℕ) (fault : TextFault) → IsTextAnswer {T = Unit {0}} x y a (Err fault)
     → IsTextAnswer {T = Unit {0}} x y (a ++ b) (Err fault)
 answer_first x y a b WriteFault cut = cut_first x y a b cut
-answer_first x y a b NoMemory stop = record { front = front_first x.written y.written a b stop.front; count = stop.count }
+answer_first x y a b NoMemory stop = record {
+  front = front_first x.written y.written a b stop.front;
+  count =
+      stop.count;
+}

@@ -9,19 +9,23 @@ use Rattle.statsd_text.proofs.write_counters.Goals as goal
 pub returns-in_err-put_counter-clause-answer : goal.returns-in_err-put_counter-clause-answer
 returns-in_err-put_counter-clause-answer g c =
     let p = err_from_is_err_and c.from_residual.result c.from_residual.ensures.1 in
-    rw (p.1, p.2) (lines_stopped (shown_counter c.args.prefix.now) c.args.rows.now c.loop-row.row-index _ _ _ c.loop-row.invariant.gathered)
+    rw (p.1, p.2)
+    (lines_stopped (shown_counter c.args.prefix.now) c.args.rows.now c.loop-row.row-index _ _ _
+    c.loop-row.invariant.gathered)
 
 pub returns-in_err-push_full-clause-answer : goal.returns-in_err-push_full-clause-answer
 returns-in_err-push_full-clause-answer g c =
     let p = err_from_is_err_and c.from_residual-in_err-push_full.result c.from_residual-in_err-push_full.ensures.1 in
     rw (p.1, p.2) (lines_cut (shown_counter c.args.prefix.now) c.args.rows.now (c.loop-row.row-index + 1) _ _ _ _
-    (line_put _ _ _ c.row-item.result _ _ _ _ c.loop-row-test.true c.row-item.is c.loop-row.invariant.gathered c.in_ok-put_counter.ensures)
+    (line_put _ _ _ c.row-item.result _ _ _ _ c.loop-row-test.true c.row-item.is c.loop-row.invariant.gathered
+    c.in_ok-put_counter.ensures)
     c.in_err-push_full.ensures.front)
 
 pub loop-row-preserved : goal.loop-row-preserved
 loop-row-preserved g c = record {
   gathered = gathered_on _ _ _ _ _ _
-      (line_put _ _ _ c.row-item.result _ _ _ _ c.loop-row-test.true c.row-item.is c.loop-row.invariant.gathered c.in_ok-put_counter.ensures)
+      (line_put _ _ _ c.row-item.result _ _ _ _ c.loop-row-test.true c.row-item.is c.loop-row.invariant.gathered
+      c.in_ok-put_counter.ensures)
       c.in_ok-push_full.ensures.whole;
   later = omega (arith, c.loop-row.invariant.later, c.in_ok-push_full.ensures.later);
 }
@@ -29,6 +33,8 @@ loop-row-preserved g c = record {
 pub returns-in_err-push_all-clause-answer : goal.returns-in_err-push_all-clause-answer
 returns-in_err-push_all-clause-answer g c =
     let p = err_from_is_err_and c.from_residual-in_err-push_all.result c.from_residual-in_err-push_all.ensures.1 in
-    rw (p.1, p.2) (lines_cut (shown_counter c.args.prefix.now) c.args.rows.now c.loop-row.row-index _ _ _ _ c.loop-row.invariant.gathered
+    rw (p.1, p.2)
+    (lines_cut (shown_counter c.args.prefix.now) c.args.rows.now c.loop-row.row-index _ _ _ _
+    c.loop-row.invariant.gathered
     (subst (λ (l : List ℕ). WritesFront (g.O.Sink.state c.loop-row.out) (g.O.Sink.state c.push_all.new.out) l)
     c.deref.ensures.value c.in_err-push_all.ensures.front))

@@ -6,6 +6,7 @@ use Rattle.statsd_text.proofs.write_gauges.Given as goal
 
 abbrev pub invariant-loop-row : goal.invariant-loop-row
 invariant-loop-row g l = record {
-  gathered : IsGathered (g.O.Sink.state l.fn.out) (g.O.Sink.state l.out) l.text.items (flat_map (gauge_line l.prefix) (take l.row-index l.rows));
+  gathered : IsGathered (g.O.Sink.state l.fn.out) (g.O.Sink.state l.out) l.text.items
+      (flat_map (gauge_line l.prefix) (take l.row-index l.rows));
   later : (g.O.Sink.state l.fn.out).faults ≤ (g.O.Sink.state l.out).faults;
 }
