@@ -23,4 +23,5 @@ mod CountersMade
 mod LawfulParts
 mod BinsShown
 mod Showable
-mod RowsBins
+pub mod RowsBins
+pub mod TriedReport

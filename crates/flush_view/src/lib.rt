@@ -12,6 +12,8 @@ mod report_views;
 mod rows;
 mod sums;
 mod taken;
+#[cfg(test)]
+mod tests;
 mod worked;
 
 pub use laws::{
