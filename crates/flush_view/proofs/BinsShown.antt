@@ -15,7 +15,8 @@ module _ (id : ℕ) where
   of_id : (parts : List Part) → AllLawful parts → AllLawful (filter (is_part_on id) parts)
   of_id [] lawful = tt
   of_id (part ∷ parts) lawful = by_case (part.id.0 == id) (of_id parts lawful.1) where
-    by_case : (b : Bool) → AllLawful (filter (is_part_on id) parts) → AllLawful (cond b (part ∷ filter (is_part_on id) parts) (filter (is_part_on id) parts))
+    by_case : (b : Bool) → AllLawful (filter (is_part_on id) parts)
+        → AllLawful (cond b (part ∷ filter (is_part_on id) parts) (filter (is_part_on id) parts))
     by_case true rest = (lawful.0, rest)
     by_case false rest = rest
 
@@ -26,7 +27,9 @@ module _ (id : ℕ) where
   pub flush_lawful : (flush : FlushRecord) → HasLawfulParts flush → AllLawful (parts_on id flush)
   flush_lawful flush lawful = of_id flush.parts lawful
 
-  pub flushes_lawful : (flushes : List FlushRecord) → AllByRecursion HasLawfulParts flushes → AllLawful (flat_map (parts_on id) flushes)
+  pub flushes_lawful : (flushes : List FlushRecord) → AllByRecursion HasLawfulParts flushes
+      → AllLawful (flat_map (parts_on id) flushes)
   flushes_lawful [] lawful = tt
   flushes_lawful (flush ∷ flushes) lawful =
-      both_lawful (parts_on id flush) (flat_map (parts_on id) flushes) (flush_lawful flush lawful.0) (flushes_lawful flushes lawful.1)
+      both_lawful (parts_on id flush) (flat_map (parts_on id) flushes)
+      (flush_lawful flush lawful.0) (flushes_lawful flushes lawful.1)

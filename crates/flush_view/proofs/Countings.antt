@@ -42,10 +42,12 @@ module _ {X : Type 0} (bin : X → Bin) (n : X → ℕ) where
   abbrev places : List X → ℕ
   places xs = sum_by (λ x. place_of (bin x)) xs
 
-  of_one : (most : ℕ) (x : X) → is_lawful (bin x) ≡ true → place_of (bin x) < most → total_from (λ k. in_bin (bin_at k) x) 0 most ≡ n x
+  of_one : (most : ℕ) (x : X) → is_lawful (bin x) ≡ true → place_of (bin x) < most
+      → total_from (λ k. in_bin (bin_at k) x) 0 most ≡ n x
   of_one most x lawful below =
       total_same (λ k. in_bin (bin_at k) x) (λ k. cond (place_of (bin x) == k) (n x) 0) 0 most (λ k.
-      ap (λ b. cond b (n x) 0) (ap (λ b. is_same b (bin_at k)) (sym (bin_at-place_of (bin x) lawful)) ∙ same_place (place_of (bin x)) k))
+      ap (λ b. cond b (n x) 0)
+      (ap (λ b. is_same b (bin_at k)) (sym (bin_at-place_of (bin x) lawful)) ∙ same_place (place_of (bin x)) k))
       ∙ total_at (place_of (bin x)) (n x) 0 most (omega arith) (omega (arith, below))
 
   -- the numbers of all bins together are those of all members
@@ -56,7 +58,8 @@ module _ {X : Type 0} (bin : X → Bin) (n : X → ℕ) where
       let place = sum_by-cons (λ y. place_of (bin y)) x xs in
       let one = of_one most x lawful.0 (omega (arith, below, place)) in
       let rest = of_all most xs lawful.1 (omega (arith, below, place)) in
-      let split = total_same (λ k. sum_by (in_bin (bin_at k)) (x ∷ xs)) (λ k. in_bin (bin_at k) x + sum_by (in_bin (bin_at k)) xs) 0 most
+      let split = total_same (λ k. sum_by (in_bin (bin_at k)) (x ∷ xs))
+      (λ k. in_bin (bin_at k) x + sum_by (in_bin (bin_at k)) xs) 0 most
       (λ k. sum_by-cons (in_bin (bin_at k)) x xs) in
       let both = total_both (λ k. in_bin (bin_at k) x) (λ k. sum_by (in_bin (bin_at k)) xs) 0 most in
       let whole = sum_by-cons n x xs in
@@ -68,26 +71,33 @@ each_lawful (c ∷ counts) lawful =
     let parts = both (is_lawful c.bin) (list_all (λ d. is_lawful d.bin) counts) lawful in
     (parts.0, each_lawful counts parts.1)
 
-each_value : (values : List ℕ) → AllByRecursion (λ v. v < 2 ^ 64) values → AllByRecursion (λ v. is_lawful (bin_of_value v) ≡ true) values
+each_value : (values : List ℕ) → AllByRecursion (λ v. v < 2 ^ 64) values
+    → AllByRecursion (λ v. is_lawful (bin_of_value v) ≡ true) values
 each_value [] fit = tt
 each_value (v ∷ values) fit = (is_lawful-bin_of_value v fit.0, each_value values fit.1)
 
 one_each : (values : List ℕ) → sum_by (λ v. 1) values ≡ length values
 one_each [] = refl
-one_each (v ∷ values) = let rest = one_each values in let whole = sum_by-cons (λ (w : ℕ). 1) v values in omega (arith, rest, whole)
+one_each (v ∷ values) =
+    let rest = one_each values in
+    let whole = sum_by-cons (λ (w : ℕ). 1) v values in
+    omega (arith, rest, whole)
 
-pub total_of_values : (counts : List BinCount) (values : List ℕ) → AreLawful counts → AllByRecursion (λ v. v < 2 ^ 64) values
+pub total_of_values : (counts : List BinCount) (values : List ℕ) → AreLawful counts
+    → AllByRecursion (λ v. v < 2 ^ 64) values
     → AreBinsOf counts values → total counts ≡ length values
 total_of_values counts values lawful fit are =
     let most : ℕ = suc (places (λ c. c.bin) (λ c. c.count) counts + places bin_of_value (λ v. 1) values) in
     let mine = of_all (λ (c : BinCount). c.bin) (λ c. c.count) most counts (each_lawful counts lawful) (omega arith) in
     let theirs = of_all bin_of_value (λ v. 1) most values (each_value values fit) (omega arith) in
-    let same = total_same (λ k. sum_by (in_bin (λ (c : BinCount). c.bin) (λ c. c.count) (bin_at k)) counts) (λ k. sum_by (in_bin bin_of_value (λ v. 1) (bin_at k)) values) 0 most
+    let same = total_same (λ k. sum_by (in_bin (λ (c : BinCount). c.bin) (λ c. c.count) (bin_at k)) counts)
+    (λ k. sum_by (in_bin bin_of_value (λ v. 1) (bin_at k)) values) 0 most
     (λ k. are.each (bin_at k)) in
     let ones = one_each values in
     omega (arith, mine, theirs, same, ones)
 
-total_all : (from : List BinCount) (parts : List Part) → total (all_bins from parts) ≡ total from + sum_by (λ (part : Part). total part.bins) parts
+total_all : (from : List BinCount) (parts : List Part)
+    → total (all_bins from parts) ≡ total from + sum_by (λ (part : Part). total part.bins) parts
 total_all from [] = omega arith
 total_all from (part ∷ parts) =
     let rest = total_all (merged from part.bins) parts in

@@ -33,10 +33,12 @@ at_place [] k fit = tt
 at_place (xs ∷ xss) zero fit = fit.0
 at_place (xs ∷ xss) (suc k) fit = at_place xss k fit.1
 
-pub segments_fit : (k w : ℕ) (workers : List Work) (flushes : List FlushRecord) → AllByRecursion LawfulWork workers → AllByRecursion Fit64 (segments_at k w workers flushes)
+pub segments_fit : (k w : ℕ) (workers : List Work) (flushes : List FlushRecord) → AllByRecursion LawfulWork workers
+    → AllByRecursion Fit64 (segments_at k w workers flushes)
 segments_fit k w [] flushes lawful = tt
 segments_fit k w (work ∷ workers) flushes lawful = (
-  at_place (pieces (map (taken_from w) flushes) (recordings work)) k (pieces_fit (map (taken_from w) flushes) (recordings work) (records_fit work lawful.0)),
+  at_place (pieces (map (taken_from w) flushes) (recordings work)) k
+      (pieces_fit (map (taken_from w) flushes) (recordings work) (records_fit work lawful.0)),
   segments_fit k (suc w) workers flushes lawful.1,
 )
 
@@ -48,12 +50,15 @@ module _ (segs : List (List Recording)) (fit : AllByRecursion Fit64 segs) where
   bins_lawful : (w id : ℕ) → AreLawful (bins_by_worker segs w id)
   bins_lawful w id =
       let values : List ℕ = values_on id (segment_of segs w) in
-      (IsBinList-bins_of values (All-from_recursion (λ v. v < 2 ^ 64) values (values_fit id (segment_of segs w) (segment_fits segs w fit)))).lawful
+      let small = values_fit id (segment_of segs w) (segment_fits segs w fit) in
+      (IsBinList-bins_of values (All-from_recursion (λ v. v < 2 ^ 64) values small)).lawful
 
-  each_part : (parts : List Part) → AllByRecursion (λ p. (p.bins ≡ bins_by_worker segs p.worker p.id.0) × (p.bins ≢ [])) parts
+  each_part : (parts : List Part)
+      → AllByRecursion (λ p. (p.bins ≡ bins_by_worker segs p.worker p.id.0) × (p.bins ≢ [])) parts
       → AllByRecursion (λ part. AreLawful part.bins) parts
   each_part [] held = tt
-  each_part (part ∷ parts) held = (subst AreLawful (sym held.0.0) (bins_lawful part.worker part.id.0), each_part parts held.1)
+  each_part (part ∷ parts) held =
+      (subst AreLawful (sym held.0.0) (bins_lawful part.worker part.id.0), each_part parts held.1)
 
   pub lawful_parts : (flush : FlushRecord) → ArePartsOf (bins_by_worker segs) flush.parts → HasLawfulParts flush
   lawful_parts flush are = each_part flush.parts (recursion_from_All _ flush.parts are.held)

@@ -16,3 +16,4 @@ mod LawfulParts
 mod BinsShown
 mod Showable
 pub mod RowsBins
+pub mod TriedReport

@@ -57,7 +57,8 @@ both_lawful [] other a b = b
 both_lawful (t ∷ one) other a b = (a.0, both_lawful one other a.1 b)
 
 files_bounded : (events : List (List Event)) (verdicts : List (List Verdict)) → AllByRecursion AreOfFile events
-    → LawfulWork (flat_map work_of (zip events verdicts)) × (length (flat_map work_of (zip events verdicts)) ≤ events_in_files (length events))
+    → LawfulWork (flat_map work_of (zip events verdicts))
+    × (length (flat_map work_of (zip events verdicts)) ≤ events_in_files (length events))
 files_bounded [] verdicts all = (tt, omega arith)
 files_bounded (es ∷ events) [] all = (tt, omega arith)
 files_bounded (es ∷ events) (vs ∷ verdicts) all =
@@ -65,8 +66,10 @@ files_bounded (es ∷ events) (vs ∷ verdicts) all =
     let few = all.0.0 in
     let fewer = rest.1 in
     let told = told_few es vs in
-    let whole = length-append (zip es vs) (flat_map work_of (zip events verdicts)) in
-    (both_lawful (zip es vs) (flat_map work_of (zip events verdicts)) (told_lawful es vs all.0.1) rest.0, omega (arith, few, fewer, told, whole))
+    let whole = length-append (zip es vs) (flat_map work_of (zip events verdicts)) in (
+      both_lawful (zip es vs) (flat_map work_of (zip events verdicts)) (told_lawful es vs all.0.1) rest.0,
+      omega (arith, few, fewer, told, whole),
+    )
 
 pub together_bounded : (events : List (List Event)) (verdicts : List (List Verdict)) → AllByRecursion AreOfFile events
     → AreBounded (events_in_files (length events)) (together events verdicts)
@@ -96,7 +99,8 @@ units_few id (told ∷ work) lawful =
     let whole = sum_by-cons (units_in id) told work in
     omega (arith, one, rest, whole)
 
-pub all_units_few : (id : ℕ) (workers : List Work) → AllByRecursion LawfulWork workers → units_of id workers ≤ events_of workers * 2 ^ 32
+pub all_units_few : (id : ℕ) (workers : List Work) → AllByRecursion LawfulWork workers
+    → units_of id workers ≤ events_of workers * 2 ^ 32
 all_units_few id [] lawful = omega arith
 all_units_few id (work ∷ workers) lawful =
     let one = units_few id work lawful.0 in
@@ -110,7 +114,8 @@ all_units_few id (work ∷ workers) lawful =
 abbrev pub Fit64 : List Recording → Type 0
 Fit64 recorded = AllByRecursion (λ (r : Recording). r.1 < 2 ^ 64) recorded
 
-record_fits : (e : Event) (v : Verdict) (rest : List Recording) → IsLawful e → Fit64 rest → Fit64 (cons_option (recording_in (e, v)) rest)
+record_fits : (e : Event) (v : Verdict) (rest : List Recording) → IsLawful e → Fit64 rest
+    → Fit64 (cons_option (recording_in (e, v)) rest)
 record_fits (event.Rec label name v) (verdict.Accepted given) rest lawful fit = (lawful.1.1.v_fits, fit)
 record_fits _ _ rest lawful fit = fit
 
@@ -131,19 +136,24 @@ records_few (told ∷ work) =
 
 module _ (id : ℕ) where
   abbrev kept : Bool → Recording → List Recording → List ℕ
-  kept b r recorded = map (λ (p : ℕ × ℕ). p.1) (cond b (r ∷ filter (λ p. p.0 == id) recorded) (filter (λ p. p.0 == id) recorded))
+  kept b r recorded =
+      let rest : List Recording = filter (λ p. p.0 == id) recorded in
+      map (λ (p : ℕ × ℕ). p.1) (cond b (r ∷ rest) rest)
 
-  pub values_fit : (recorded : List Recording) → Fit64 recorded → AllByRecursion (λ v. v < 2 ^ 64) (values_on id recorded)
+  pub values_fit : (recorded : List Recording) → Fit64 recorded
+      → AllByRecursion (λ v. v < 2 ^ 64) (values_on id recorded)
   values_fit [] fit = tt
   values_fit (r ∷ recorded) fit = by_case (r.0 == id) (values_fit recorded fit.1) where
-    by_case : (b : Bool) → AllByRecursion (λ v. v < 2 ^ 64) (values_on id recorded) → AllByRecursion (λ v. v < 2 ^ 64) (kept b r recorded)
+    by_case : (b : Bool) → AllByRecursion (λ v. v < 2 ^ 64) (values_on id recorded)
+        → AllByRecursion (λ v. v < 2 ^ 64) (kept b r recorded)
     by_case true rest = (fit.0, rest)
     by_case false rest = rest
 
   values_few : (recorded : List Recording) → length (values_on id recorded) ≤ length recorded
   values_few [] = omega arith
   values_few (r ∷ recorded) = by_case (r.0 == id) (values_few recorded) where
-    by_case : (b : Bool) → length (values_on id recorded) ≤ length recorded → length (kept b r recorded) ≤ suc (length recorded)
+    by_case : (b : Bool) → length (values_on id recorded) ≤ length recorded
+        → length (kept b r recorded) ≤ suc (length recorded)
     by_case true rest = omega (arith, rest)
     by_case false rest = omega (arith, rest)
 
@@ -151,14 +161,17 @@ module _ (id : ℕ) where
   abbrev pub values_of : List Work → List ℕ
   values_of workers = flat_map (λ work. values_on id (recordings work)) workers
 
-  both_fit : (xs ys : List ℕ) → AllByRecursion (λ v. v < 2 ^ 64) xs → AllByRecursion (λ v. v < 2 ^ 64) ys → AllByRecursion (λ v. v < 2 ^ 64) (xs ++ ys)
+  both_fit : (xs ys : List ℕ) → AllByRecursion (λ v. v < 2 ^ 64) xs → AllByRecursion (λ v. v < 2 ^ 64) ys
+      → AllByRecursion (λ v. v < 2 ^ 64) (xs ++ ys)
   both_fit [] ys a b = b
   both_fit (x ∷ xs) ys a b = (a.0, both_fit xs ys a.1 b)
 
-  pub all_values_fit : (workers : List Work) → AllByRecursion LawfulWork workers → AllByRecursion (λ v. v < 2 ^ 64) (values_of workers)
+  pub all_values_fit : (workers : List Work) → AllByRecursion LawfulWork workers
+      → AllByRecursion (λ v. v < 2 ^ 64) (values_of workers)
   all_values_fit [] lawful = tt
   all_values_fit (work ∷ workers) lawful =
-      both_fit (values_on id (recordings work)) (values_of workers) (values_fit (recordings work) (records_fit work lawful.0)) (all_values_fit workers lawful.1)
+      both_fit (values_on id (recordings work)) (values_of workers)
+      (values_fit (recordings work) (records_fit work lawful.0)) (all_values_fit workers lawful.1)
 
   pub all_values_few : (workers : List Work) → length (values_of workers) ≤ events_of workers
   all_values_few [] = omega arith

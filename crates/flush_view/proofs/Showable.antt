@@ -40,7 +40,8 @@ use Rattle.flush_view.proofs.Rising.{sums_rise}
 pub never_falls : (xs : List ℕ) → IsStrictlyIncreasing xs → IsNonDecreasing xs
 never_falls xs rising i j d low within = ⊎_elim
     (λ same. omega (arith, ap (λ (k : ℕ). get_or xs k d) same))
-    (λ apart. let below = AllPairs-from_increasing xs rising i j d (omega (arith, low, apart)) within in omega (arith, below))
+    (λ apart. let below = AllPairs-from_increasing xs rising i j d (omega (arith, low, apart)) within in
+    omega (arith, below))
     (cases_eq i j)
 
 -- as many events as so many files may have are fewer than are counted, and their units than a counter holds
@@ -69,7 +70,8 @@ module _ (plan : RunPlan) (workers : List Work) (report : Report) (account : Acc
         (deltas_made plan.rules (length workers) report.log (suc k == n) flush shown, rest.1),
       )
 
-  all_fit : AllByRecursion HasLawfulParts report.flushes × AllByRecursion (OfMade plan.rules (length workers) report.log) report.flushes
+  all_fit : AllByRecursion HasLawfulParts report.flushes
+      × AllByRecursion (OfMade plan.rules (length workers) report.log) report.flushes
   all_fit = each_fits (length report.flushes) 0 report.flushes account.flushes
 
   pub units : (id : ℕ) → flushed id report.flushes < 2 ^ 63
@@ -79,7 +81,8 @@ module _ (plan : RunPlan) (workers : List Work) (report : Report) (account : Acc
             → AllByRecursion (λ (i : MetricId). flushed i.0 report.flushes < 2 ^ 63) ids
         few_each [] same = tt
         few_each (i ∷ ids) same =
-            let few = few_units (units_of i.0 workers) (events_of workers) (all_units_few i.0 workers bounded.lawful) bounded.few in
+            let each = all_units_few i.0 workers bounded.lawful in
+            let few = few_units (units_of i.0 workers) (events_of workers) each bounded.few in
             let is = same.0 in
             (omega (arith, few, is), few_each ids same.1)
 
@@ -87,42 +90,52 @@ module _ (plan : RunPlan) (workers : List Work) (report : Report) (account : Acc
   values id =
       let parts : List Part = flat_map (parts_on id) report.flushes in
       let lawful = (sums_rise parts (flushes_lawful id report.flushes all_fit.0)).lawful in
-      let are : AreBinsOf (merged_parts parts) (values_of id workers) = record { each = λ bin. cumulative id bin plan workers report account } in
+      let are : AreBinsOf (merged_parts parts) (values_of id workers) =
+      record { each = λ bin. cumulative id bin plan workers report account } in
       let taken = total_merged parts in
-      let count = total_of_values (merged_parts parts) (values_of id workers) lawful (all_values_fit id workers bounded.lawful) are in
-      let few = few_values (length (values_of id workers)) (events_of workers) (all_values_few id workers) bounded.few in
+      let fit = all_values_fit id workers bounded.lawful in
+      let count = total_of_values (merged_parts parts) (values_of id workers) lawful fit are in
+      let each = all_values_few id workers in
+      let few = few_values (length (values_of id workers)) (events_of workers) each bounded.few in
       omega (arith, taken, count, few)
 
   pub lawful : AllByRecursion HasLawfulParts report.flushes
   lawful = all_fit.0
 
-same_count : (events : List (List Event)) (verdicts : List (List Verdict)) → lengths verdicts ≡ lengths events → length events ≡ length verdicts
+same_count : (events : List (List Event)) (verdicts : List (List Verdict)) → lengths verdicts ≡ lengths events
+    → length events ≡ length verdicts
 same_count events verdicts same =
     let one = length-map verdicts (λ (vs : List Verdict). length vs) in
     let other = length-map events (λ (es : List Event). length es) in
     let long = ap (λ (l : List ℕ). length l) same in
     omega (arith, one, other, long)
 
-module _ (config : Config) (contents : List (Option (List ℕ))) (events : List (List Event)) (report : Report) (few : length contents ≤ MAX_WORKERS) where
+module _ (config : Config) (contents : List (Option (List ℕ))) (events : List (List Event)) (report : Report)
+    (few : length contents ≤ MAX_WORKERS) where
   files : AreRead contents events report → AllByRecursion AreOfFile events × (length events ≡ length contents)
   files read =
       let ends = read.an_end_each in
       let verdicts = read.verdicts_each in
       let same = same_count events report.verdicts read.a_verdict_each in
-      (files_few contents report.ends events (omega (arith, ends, verdicts, same)) read.read, omega (arith, verdicts, same))
+      let long : length events ≡ length report.ends = omega (arith, ends, verdicts, same) in
+      (files_few contents report.ends events long read.read, omega (arith, verdicts, same))
 
-  showable : (plan : RunPlan) (workers : List Work) → plan.rules ≡ (view_rules config).names → plan.scopes ≡ config.scopes
-      → AreBounded (events_in_files MAX_WORKERS) workers → IsReportOf contents events plan workers report → IsShowable config report
+  showable : (plan : RunPlan) (workers : List Work) → plan.rules ≡ (view_rules config).names
+      → plan.scopes ≡ config.scopes
+      → AreBounded (events_in_files MAX_WORKERS) workers → IsReportOf contents events plan workers report
+      → IsShowable config report
   showable plan workers rules scopes bounded is = record {
     legal = subst (λ (s : List ScopeSpec). Legal (view_rules config).names s (ends_in report.log) report.log) scopes
-        (subst (λ (r : NameRules). Legal r plan.scopes (ends_in report.log) report.log) rules (legal_with_ends plan workers report is.history));
+        (subst (λ (r : NameRules). Legal r plan.scopes (ends_in report.log) report.log) rules
+        (legal_with_ends plan workers report is.history));
     rising = never_falls (map (λ flush. flush.at) report.flushes) is.swept.rising;
     units = units plan workers report is.account bounded;
     lawful = lawful plan workers report is.account bounded;
     values = values plan workers report is.account bounded;
   }
 
-  bounded : (workers : List Work) → length events ≡ length contents → AreBounded (events_in_files (length events)) workers
+  bounded : (workers : List Work) → length events ≡ length contents
+      → AreBounded (events_in_files (length events)) workers
       → AreBounded (events_in_files MAX_WORKERS) workers
   bounded workers same files =
       let fewer = files.few in

@@ -4,6 +4,8 @@
 
 mod laws;
 mod report_views;
+#[cfg(test)]
+mod tests;
 mod worked;
 
 pub use laws::{
