@@ -8,6 +8,14 @@ mod Ends
 mod Shown
 mod Made
 mod InLog
+mod Replayed
+mod FullNames
+mod SameBins
+mod ByNumber
+mod Picked
+mod Following
+mod Viewing
+mod Ready
 mod FileEvents
 mod Recorded
 mod Countings

@@ -2,8 +2,16 @@
 //! views.
 #![tactic(auto)]
 
+mod copies;
+mod lawful;
 mod laws;
+mod naming;
+mod progress;
+mod replaying;
 mod report_views;
+mod rows;
+mod sums;
+mod taken;
 #[cfg(test)]
 mod tests;
 mod worked;

@@ -1,10 +1,20 @@
 //! The views of a report, one after another.
-ghost use Rattle.std.specs.Prelude.{◌≡◌, ◌<◌, true, false, length, map, IfOk, OnOk, OnErr};
-ghost use Rattle.flush_view.specs.Views.{IsView, view_rules, last_state};
+ghost use Rattle.std.specs.Prelude.{◌≡◌, ◌<◌, All, true, false, length, map, IfOk, OnOk, OnErr};
+ghost use Rattle.book_state.specs.State.{metrics_of};
+ghost use Rattle.book_state.specs.Stored.{IsLawfulCall};
+ghost use Rattle.flush_view.specs.Kept.{IsAtStart};
+ghost use Rattle.flush_view.specs.Replaying.{AreNext, first_state, state_after};
+ghost use Rattle.flush_view.specs.Views.{IsView, view_rules, last_state, ends_in};
 ghost use Rattle.flush_view.specs.Symbols.{live_metrics};
 ghost use Rattle.flush_view.specs.Showing.{IsShowable, first_views, view_in_turn, after_view};
 
-use stat_defs::{Config, FlushView, Metric, NoMemory, Report};
+use crate::lawful::has_lawful_calls;
+use crate::naming::{NumberedMetric, in_order, live_in_order};
+use crate::progress::Progress;
+use crate::replaying::{apply_all, ends_in};
+use crate::sums::{no_bins, no_sums};
+use book_state::{BookState, StateParts};
+use stat_defs::{Config, Entry, FlushView, Metric, NoMemory, Report};
 use std::alloc::Global;
 use std::marker::Model;
 use tag_rules::{Buckets, TagRules};
@@ -18,6 +28,9 @@ pub struct ReportViews<'a> {
     report: &'a Report,
     given: usize,
     whole: bool,
+    // Every metric of the whole log, by full name.
+    metrics: Vec<NumberedMetric>,
+    progress: Progress,
 }
 
 impl<'a> Model for ReportViews<'a> {
@@ -25,7 +38,59 @@ impl<'a> Model for ReportViews<'a> {
 
     ghost Value = { ViewHistory };
 
-    ghost view = { λ v. record { config = v.config.now; report = v.report.now; given = v.given; whole = v.whole } };
+    ghost use Rattle.flush_view.specs.ViewsKept.{shown, Kept};
+
+    ghost view = { shown };
+
+    ghost invariant = { Kept };
+}
+
+// How many workers a log has that can be replayed. What a log of events never has, a call with an unlawful text and an end
+// of a worker past the greatest number, is answered as want of memory.
+fn workers_of(log: &[Entry]) -> Result<u32, NoMemory>
+    ensures workers { IfOk result (λ workers. workers ≡ ends_in log.now) }
+    ensures lawful { OnOk result (All (λ entry. IsLawfulCall entry.call) log.now) }
+{
+    if !has_lawful_calls(log) {
+        return Err(NoMemory);
+    }
+    match u32::try_from(ends_in(log)) {
+        Ok(workers) => Ok(workers),
+        Err(_) => Err(NoMemory),
+    }
+}
+
+// The tag rules and the metrics of the book after a whole log.
+fn replayed(
+    alloc: Global,
+    rules: TagRules,
+    workers: u32,
+    log: &[Entry],
+) -> Result<StateParts, NoMemory>
+    requires { AreNext (first_state rules workers) log.now }
+    ensures rules { IfOk result (λ parts. parts.rules ≡ rules) }
+    ensures metrics { IfOk result (λ parts. parts.metrics.items ≡ metrics_of (state_after rules workers log.now).state) }
+{
+    let mut book = BookState::new(alloc, rules, workers)?;
+    apply_all(alloc, &mut book, log)?;
+    book.into_parts(alloc)
+}
+
+// Nothing is followed yet.
+fn no_progress(
+    alloc: Global,
+    rules: TagRules,
+    workers: u32,
+    count: usize,
+) -> Result<Progress, NoMemory>
+    ensures { IfOk result (IsAtStart rules workers count) }
+{
+    Ok(Progress {
+        book: BookState::new(alloc, rules, workers)?,
+        applied: 0,
+        totals: no_sums(alloc, count)?,
+        cumulative: no_bins(alloc, count)?,
+    })
 }
 
 impl<'a> ReportViews<'a> {
@@ -42,7 +107,20 @@ impl<'a> ReportViews<'a> {
         requires showable { IsShowable config.now report.now }
         ensures { IfOk result (λ views. views ≡ first_views config.now report.now) }
     {
-        Err(NoMemory)
+        let log = report.log.items();
+        let workers = workers_of(log)?;
+        let parts = replayed(alloc, rules, workers, log)?;
+        let StateParts { rules, metrics } = parts;
+        let progress = no_progress(alloc, rules, workers, metrics.len())?;
+        Ok(ReportViews {
+            config,
+            buckets,
+            report,
+            given: 0,
+            whole: true,
+            metrics: in_order(alloc, metrics)?,
+            progress,
+        })
     }
 
     /// The view of the flush whose turn it is, or none behind the last. After want of memory no more views are given.
@@ -52,8 +130,18 @@ impl<'a> ReportViews<'a> {
         ensures ok { OnOk result (self.new ≡ after_view self.old) }
         ensures err { OnErr result (self.new ≡ record self.old { whole = false }) }
     {
+        let report = self.report;
+        let Some(flush) = report.flushes.items().get(self.given) else {
+            return Ok(None);
+        };
         self.whole = false;
-        Err(NoMemory)
+        self.progress.follow(alloc, report.log.items(), flush)?;
+        let view = self
+            .progress
+            .view(alloc, self.buckets, &self.metrics, flush)?;
+        self.given += 1;
+        self.whole = true;
+        Ok(Some(view))
     }
 
     /// The metrics that are live after the whole log, by full name, and those of one name by kind.
@@ -61,7 +149,7 @@ impl<'a> ReportViews<'a> {
         ensures { IfOk result (λ metrics. map (λ metric. metric.now) metrics.items
             ≡ live_metrics (last_state (view_rules self.now.config).names self.now.report.log)) }
     {
-        Err(NoMemory)
+        live_in_order(alloc, &self.metrics)
     }
 }
 
@@ -80,5 +168,12 @@ pub fn flush_view(
     requires within { k < length report.now.flushes }
     ensures { IfOk result (λ shown. IsView config.now report.now k shown) }
 {
-    Err(NoMemory)
+    let mut views = ReportViews::new(alloc, config, rules, buckets, report)?;
+    for _i in 0..k {
+        let _earlier = views.next(alloc)?;
+    }
+    match views.next(alloc)? {
+        Some(view) => Ok(view),
+        None => unreachable!(),
+    }
 }
