@@ -3,3 +3,4 @@ mod Shown
 mod FlushTexts
 mod Told
 mod WholeText
+mod Tried

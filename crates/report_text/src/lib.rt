@@ -5,6 +5,8 @@ mod options;
 mod readings;
 mod sections;
 mod symbols;
+#[cfg(test)]
+mod tests;
 mod workers;
 mod writing;
 
