@@ -27,8 +27,10 @@ pub one_applied : (old new : StoreHistory) (e : Event) (v : Verdict) → Applied
     → AreApplied old (e ∷ []) (v ∷ []) new
 one_applied old new e v applied =
     let with_worker : WorkerHistory → StoreHistory = λ w. record old { worker = w } in
+    let events : List Event = old.worker.events ++ e ∷ [] in
+    let verdicts : List Verdict = old.worker.verdicts ++ v ∷ [] in
     let with_book : BookHistory → StoreHistory =
-    λ b. with_worker (record old.worker { book = b; events = old.worker.events ++ e ∷ []; verdicts = old.worker.verdicts ++ v ∷ [] }) in
+    λ b. with_worker (record old.worker { book = b; events = events; verdicts = verdicts }) in
     record {
       entries = applied.worker.added.more;
       mine = applied.worker.added.mine;
@@ -51,7 +53,8 @@ pub both_applied : (a b c : StoreHistory) (es fs : List Event) (vs ws : List Ver
     → AreApplied b fs ws c → AreApplied a (es ++ fs) (vs ++ ws) c
 both_applied a b c es fs vs ws first second = record {
   entries = first.entries ++ second.entries;
-  mine = list_all-append (λ (entry : Entry). entry.seat == 1) first.entries second.entries ∙ (λ i. first.mine i && second.mine i);
+  mine = list_all-append (λ (entry : Entry). entry.seat == 1) first.entries second.entries
+      ∙ (λ i. first.mine i && second.mine i);
   a_verdict_each =
       omega (arith, first.a_verdict_each, second.a_verdict_each, length-append es fs, length-append vs ws);
   applied = second.applied ∙ ap (λ (s : StoreHistory). with_applied s fs ws second.entries) first.applied

@@ -96,7 +96,8 @@ module _ {F S : Type 0} (shelf : F → ShelfState) (source : S → SourceState) 
     file_read name before after opened earlier later run is same read = record {
       events = read.events;
       file = record {
-        run = run_of_content (holds name) (source opened).left run.end.end run.end.taken read.events is.left read.is_run;
+        run = run_of_content (holds name) (source opened).left run.end.end run.end.taken read.events is.left
+            read.is_run;
         cause = cause_of source (holds name) name (shelf before) (shelf after) read.given run.end run.end.end
             (opened_of source (holds name) name (shelf before) (shelf after) opened earlier later run is same read)
             read.taken read.rose read.opened;
@@ -177,7 +178,8 @@ module _ {F S : Type 0} (shelf : F → ShelfState) (source : S → SourceState) 
           files = so.files ++ (file ∷ []);
           are_files = files_push names name before between after so.files file so.are_files read.file;
           are_applied = subst (λ (es : List Event). AreApplied earlier es (all_verdicts more.verdicts.items) latest)
-              (sym events) (subst (λ (vs : List Verdict). AreApplied earlier (all_events so.files ++ read.events) vs latest)
+              (sym events)
+              (subst (λ (vs : List Verdict). AreApplied earlier (all_events so.files ++ read.events) vs latest)
               (sym verdicts) applied);
           a_verdict_each = verdicts_each told given so.files file more.verdicts.items more_verdicts so.a_verdict_each
               read.are_applied.a_verdict_each;

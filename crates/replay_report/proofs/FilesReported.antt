@@ -38,12 +38,13 @@ zipped [] = refl
 zipped (told ∷ work) = ap (λ (l : Work). told ∷ l) (zipped work)
 
 -- the files one after another are the work of one worker
-pub as_together : (files : List FileRead) (verdicts : List (List Verdict)) → lengths verdicts ≡ lengths (events_of files)
+as_together : (files : List FileRead) (verdicts : List (List Verdict)) → lengths verdicts ≡ lengths (events_of files)
     → together (events_of files) verdicts ≡ zip (all_events files) (all_verdicts verdicts) ∷ []
 as_together files verdicts each =
     let work : Work = flat_map work_of (zip (events_of files) verdicts) in
     let events : events_in work ≡ all_events files =
-    events_back (events_of files) verdicts each ∙ flat_map-map (λ (es : List Event). es) (λ (file : FileRead). file.events) files in
+    events_back (events_of files) verdicts each
+    ∙ flat_map-map (λ (es : List Event). es) (λ (file : FileRead). file.events) files in
     ap (λ (w : Work). w ∷ []) (zipped work ∙ ap (λ (es : List Event). zip es (verdicts_in work)) events
     ∙ ap (λ (vs : List Verdict). zip (all_events files) vs) (verdicts_back (events_of files) verdicts each))
 
@@ -89,13 +90,15 @@ module _ {F S : Type 0} (shelf : F → ShelfState) (source : S → SourceState) 
   module _ (names : List (List ℕ)) (before after : F) (files : List FileRead) (verdicts : List (List Verdict))
       (are : AreFiles shelf source holds names before after files) (each : lengths verdicts ≡ lengths (events_of files))
     where
-      read : (given : LastFlush) → AreRead (map holds names) (events_of files) (report_with verdicts (ends_of files) given)
+      read : (given : LastFlush)
+          → AreRead (map holds names) (events_of files) (report_with verdicts (ends_of files) given)
       read given =
           let contents : length files ≡ length (map holds names) =
           as_many_files names before after files are ∙ sym (length-map names holds) in
           record {
             an_end_each = length-map files (λ (file : FileRead). file.end) ∙ contents;
-            verdicts_each = sym (length-map verdicts (λ (vs : List Verdict). length vs)) ∙ ap (λ (l : List ℕ). length l) each
+            verdicts_each = sym (length-map verdicts (λ (vs : List Verdict). length vs))
+                ∙ ap (λ (l : List ℕ). length l) each
                 ∙ length-map (events_of files) (λ (es : List Event). length es)
                 ∙ length-map files (λ (file : FileRead). file.events) ∙ contents;
             a_verdict_each = each;
@@ -106,28 +109,35 @@ module _ {F S : Type 0} (shelf : F → ShelfState) (source : S → SourceState) 
       -- the report of a store that all events of the files were applied to
       pub is_ledger : (config : Config) (store : StoreHistory) (given : LastFlush)
           → AreApplied (new_store config) (all_events files) (all_verdicts verdicts) store → Finishes store given
-          → ReplayLedger (map holds names) (events_of files) (plan_of config) (report_with verdicts (ends_of files) given)
+          → ReplayLedger (map holds names) (events_of files) (plan_of config)
+          (report_with verdicts (ends_of files) given)
       is_ledger config store given applied finishes =
           let events : List Event = all_events files in
           let told : List Verdict = all_verdicts verdicts in
+          let ends : List WorkerEnd = ends_of files in
           let at_end : Finishes (with_applied (new_store config) events told applied.entries) given =
           subst (λ (s : StoreHistory). Finishes s given) applied.applied finishes in
-          subst (λ (workers : List Work). IsReportOf (map holds names) (events_of files) (last_flush_alone (plan_of config)) workers (report_with verdicts (ends_of files) given))
+          subst
+          (λ (workers : List Work). IsReportOf (map holds names) (events_of files) (last_flush_alone (plan_of config))
+          workers (report_with verdicts ends given))
           (sym (as_together files verdicts each)) (record {
             read = read given;
-            history = history config events told applied.entries given at_end verdicts (ends_of files) applied.a_verdict_each;
-            swept = swept config events told applied.entries given at_end verdicts (ends_of files) applied.mine;
-            account = account config events told applied.entries given at_end verdicts (ends_of files);
-            shown = shown config events told applied.entries given at_end verdicts (ends_of files);
+            history = history config events told applied.entries given at_end verdicts ends applied.a_verdict_each;
+            swept = swept config events told applied.entries given at_end verdicts ends applied.mine;
+            account = account config events told applied.entries given at_end verdicts ends;
+            shown = shown config events told applied.entries given at_end verdicts ends;
           })
 
   -- so the files that were read and applied have it
   is_replay : (names : List (List ℕ)) (before after : F) (config : Config) (store : StoreHistory) (runs : Runs)
-      (given : LastFlush) → AreRuns shelf source holds names before after (new_store config) store runs → Finishes store given
+      (given : LastFlush) → AreRuns shelf source holds names before after (new_store config) store runs
+      → Finishes store given
       → IsReplayOf shelf source holds config names before after (report_with runs.verdicts.items runs.ends.items given)
   is_replay names before after config store runs given are finishes =
       let verdicts : List (List Verdict) = runs.verdicts.items in
-      subst (λ (ends : List WorkerEnd). IsReplayOf shelf source holds config names before after (report_with verdicts ends given))
+      subst
+      (λ (ends : List WorkerEnd). IsReplayOf shelf source holds config names before after
+      (report_with verdicts ends given))
       (sym are.ends_are) (record {
         files = are.files;
         are_files = are.are_files;
@@ -136,12 +146,14 @@ module _ {F S : Type 0} (shelf : F → ShelfState) (source : S → SourceState) 
             are.are_applied finishes;
       })
 
-  pub reported : (names : List (List ℕ)) (before after : F) (config : Config) (store : StoreHistory) (runs : Runs)
-      (given : LastFlush) → AreRuns shelf source holds names before after (new_store config) store runs
-      → Finishes store given → (answer : Result Report NoMemory)
+  pub reported : (names : List (List ℕ)) (before after : F) (config : Config) (first store : StoreHistory)
+      (runs : Runs) (given : LastFlush) → first ≡ new_store config
+      → AreRuns shelf source holds names before after first store runs → Finishes store given
+      → (answer : Result Report NoMemory)
       → IfOk answer (λ report. report ≡ report_with runs.verdicts.items runs.ends.items given)
       → IfOk answer (IsReplayOf shelf source holds config names before after)
-  reported names before after config store runs given are finishes (Ok report) is =
+  reported names before after config first store runs given new are finishes (Ok report) is =
       subst (λ (r : Report). IsReplayOf shelf source holds config names before after r) (sym is)
-      (is_replay names before after config store runs given are finishes)
-  reported names before after config store runs given are finishes (Err fault) is = tt
+      (is_replay names before after config store runs given
+      (subst (λ (s : StoreHistory). AreRuns shelf source holds names before after s store runs) new are) finishes)
+  reported names before after config first store runs given new are finishes (Err fault) is = tt

@@ -149,7 +149,8 @@ module _ (config : Config) (events : List Event) (verdicts : List Verdict) (entr
         (sym (all work [] given.last shown.fits.parts)) shown.fits)
         (units_of_all (ids_made Counter (replay plan.rules 1 given.log)) shown.units)
         (nothing_left work [] given.last shown.fits.parts)
-        (recursion_from_All (λ (reading : Reading). reading.word ≡ gauge_word reading.id.0 work) given.last.gauges shown.words)
+        (recursion_from_All (λ (reading : Reading). reading.word ≡ gauge_word reading.id.0 work) given.last.gauges
+        shown.words)
       where
         units_of_all : (ids : List MetricId)
             → ((id : ℕ) → flushed id (given.last ∷ []) ≡ units_of id (work ∷ []))

@@ -51,20 +51,21 @@ module _ {S : Type 0} (state : S → SourceState) where
       subst (λ (es : List Event). Moves state old new answered.got es) tells.0 answered.moves in
       let all = moves_trans state init old new so.got answered.got so.events [] so.moves last in
       let from_start = rw (is, append-nil) at all in
+      let got : List ℕ = so.got ++ answered.got in
       let has : HasEnded state new end = at_end_of answer end (HasEnded state new) tells answered.ended in
       record {
         events = so.events;
         is_run = subst (λ (n : ℕ). IsRun (state source).left end n so.events) (sym taken_is)
             (run_taken (state source).left end new.taken so.events
-            (run_of state source new (state source).faults (so.got ++ answered.got) so.events end from_start has answered.whole));
+            (run_of state source new (state source).faults got so.events end from_start has answered.whole));
         are_applied = so.are_applied;
         few = so.few;
         opened = was_opened new.stopped end has.by;
         last = new.source;
         origin = from_start.later.origin;
-        given = so.got ++ answered.got;
+        given = got;
         consumed = from_start.consumed;
-        taken = taken_is ∙ ap (taken_at end) (from_start.taken ∙ zero-add (length (so.got ++ answered.got)));
+        taken = taken_is ∙ ap (taken_at end) (from_start.taken ∙ zero-add (length got));
         count_before = before_is;
         count_after = after_is;
         rose = λ fault. rw (before_is, after_is, ← from_start.first)

@@ -62,13 +62,16 @@ module _ {S : Type 0} (state : S → SourceState) where
     pub so_far_more : (latest : StoreHistory) (more : List Verdict) → IsToldBehind later event verdicts latest more
         → SoFar state init new earlier latest more
     so_far_more latest more now =
+        let before = so.given in
+        let one_more = answer.moves.given in
         let given : new.given ≡ length (so.events ++ event ∷ []) =
-        (let before = so.given in let one_more = answer.moves.given in omega (arith, before, one_more, length-append so.events (event ∷ []))) in
+        omega (arith, before, one_more, length-append so.events (event ∷ [])) in
         record {
           got = so.got ++ answer.got;
           events = so.events ++ (event ∷ []);
           moves = moves_trans state init old new so.got answer.got so.events (event ∷ []) so.moves answer.moves;
-          are_applied = subst (λ (vs : List Verdict). AreApplied earlier (so.events ++ event ∷ []) vs latest) (sym now.told)
+          are_applied = subst (λ (vs : List Verdict). AreApplied earlier (so.events ++ event ∷ []) vs latest)
+              (sym now.told)
               (both_applied earlier later latest so.events (event ∷ []) verdicts (now.verdict ∷ []) so.are_applied
               (one_applied later latest event now.verdict now.applied));
           given = given;

@@ -44,8 +44,8 @@ report_with verdicts ends given = record {
 }
 
 -- a source was read to its end, and its events were applied
-pub record IsSourceRun {S : Type 0} (state : S → SourceState) (source : S) (earlier later : StoreHistory) (run : FileRun)
-    : Type 0 where
+pub record IsSourceRun {S : Type 0} (state : S → SourceState) (source : S) (earlier later : StoreHistory)
+    (run : FileRun) : Type 0 where
   pub events : List Event
   pub is_run : IsRun (state source).left run.end.end run.end.taken events
   pub are_applied : AreApplied earlier events run.verdicts.items later

@@ -8,10 +8,10 @@ use Rattle.stat_defs.specs.declared.reports.WorkerEnd.{WorkerEnd}
 use Rattle.stats_io.specs.States.{SourceState, ShelfState}
 use Rattle.stats_io.specs.Open.{IsUnopened}
 
-module _ {S : Type 0} (source : S → SourceState) (content : Option (List ℕ)) (name : List ℕ) (before after : ShelfState) where
+module _ {S : Type 0} (source : S → SourceState) (content : Option (List ℕ)) (name : List ℕ)
+    (before after : ShelfState) where
   -- The file was opened, which leaves the shelf's count. The end's two counts are those of its source: 0 as it was
-  -- opened, and
-  -- that of a later state, which has given these bytes of the file.
+  -- opened, and that of a later state, which has given these bytes of the file.
   pub record IsOpened (given : List ℕ) (end : WorkerEnd) : Type 0 where
     pub later : S
     pub origin : (source later).origin ≡ name
