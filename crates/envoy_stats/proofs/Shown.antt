@@ -1,6 +1,7 @@
 -- The report of a replay can be shown.
 use Rattle.std.proofs.Common.{◌≡◌, ◌≤◌, ◌∙◌, ℕ, Option, List, length, map, refl, arith}
 use Rattle.std.proofs.lemmas.List.{length-map}
+use Rattle.stat_defs.specs.Configs.{IsConfig}
 use Rattle.stats_io.specs.States.{SourceState, ShelfState}
 use Rattle.book_state.specs.declared.limits.TheConstants.{MAX_WORKERS}
 use Rattle.flush_view.proofs.Showable.{ledgers_show}
@@ -12,10 +13,10 @@ use Rattle.envoy_stats.specs.declared.replay.Recorded.{Recorded}
 
 module _ {F S : Type 0} (shelf : F → ShelfState) (source : S → SourceState) (holds : List ℕ → Option (List ℕ)) where
   pub records : (names : List (List ℕ)) (before after : F) (recorded : Recorded)
-      → recorded.rules ≡ recorded.config.tags → recorded.buckets ≡ recorded.config.buckets → length names ≤ MAX_FILES
+      → IsConfig recorded.config → recorded.rules ≡ recorded.config.tags → recorded.buckets ≡ recorded.config.buckets → length names ≤ MAX_FILES
       → IsReplayOf shelf source holds recorded.config names before after recorded.report
       → Records shelf source holds recorded.config names before after recorded
-  records names before after recorded rules buckets few is =
+  records names before after recorded lawful rules buckets few is =
       let many : length (map holds names) ≡ length names = length-map names holds in
       let within : length (map holds names) ≤ MAX_WORKERS = omega (arith, many, few) in
       record {
@@ -25,7 +26,7 @@ module _ {F S : Type 0} (shelf : F → ShelfState) (source : S → SourceState) 
           rules = rules;
           buckets = buckets;
           showable = ledgers_show.replay recorded.config (map holds names) (map (λ (file : FileRead). file.events) is.files) recorded.report
-              within is.ledger;
+              lawful within is.ledger;
           few = omega (arith, is.ledger.read.an_end_each, many, few);
         };
       }

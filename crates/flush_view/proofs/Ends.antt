@@ -145,7 +145,7 @@ no_sweep : (c : Call) → is_end c ≡ true → is_sweep c ≡ false
 no_sweep call.End ends = refl
 no_sweep _ ends = absurd (true_false (sym ends))
 
-within : (n seat : ℕ) → (nat_le 1 seat && nat_le seat n) ≡ true → (1 ≤ seat) × (seat < 1 + n)
+pub within : (n seat : ℕ) → (nat_le 1 seat && nat_le seat n) ≡ true → (1 ≤ seat) × (seat < 1 + n)
 within n seat fits =
     let parts = both (nat_le 1 seat) (nat_le seat n) fits in
     elim (leb_tells 1 seat) [

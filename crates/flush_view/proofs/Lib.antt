@@ -22,6 +22,7 @@ mod Countings
 mod CountersMade
 mod LawfulParts
 mod BinsShown
+mod CallsLawful
 pub mod Showable
 pub mod RowsBins
 pub mod TriedReport

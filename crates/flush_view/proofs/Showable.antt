@@ -1,9 +1,10 @@
 -- The ledger of a run or a replay can be shown.
-use Rattle.std.proofs.Common.{◌≡◌, ◌==◌, ◌≤◌, ◌<◌, ◌*◌, ◌^◌, ℕ, suc, Option, List, [], ◌∷◌, map, length, take, get_or, refl, ap, subst, arith, ⊎_elim}
+use Rattle.std.proofs.Common.{◌≡◌, ◌==◌, ◌≤◌, ◌<◌, ◌*◌, ◌^◌, ℕ, suc, Option, List, [], ◌∷◌, map, length, take, get_or, refl, ap, sym, subst, arith, ⊎_elim}
 use Rattle.std.specs.List.{flat_map, AllByRecursion}
 use Rattle.std.specs.List.Sorted.{IsStrictlyIncreasing, IsNonDecreasing}
 use Rattle.std.proofs.lemmas.Bool.{cases_eq}
 use Rattle.std.proofs.lemmas.List.{length-map}
+use Rattle.std.proofs.lemmas.List.Elements.{recursion_from_All}
 use Rattle.std.proofs.lemmas.List.Kept.{AllPairs-from_increasing}
 use Rattle.stat_defs.specs.declared.configs.Config.{Config}
 use Rattle.stat_defs.specs.declared.configs.ScopeSpec.{ScopeSpec}
@@ -14,6 +15,7 @@ use Rattle.stat_defs.specs.declared.ids.MetricId.{MetricId}
 use Rattle.stat_defs.specs.declared.reports.FlushRecord.{FlushRecord}
 use Rattle.stat_defs.specs.declared.reports.Part.{Part}
 use Rattle.stat_defs.specs.declared.reports.Report.{Report}
+use Rattle.stat_defs.specs.Configs.{IsConfig, IsScopeSpec}
 use Rattle.loglinear_bins.specs.declared.place.TheConstants.{MAX_COUNT}
 use Rattle.loglinear_bins.specs.Counts.{AreBinsOf}
 use Rattle.book_state.specs.declared.limits.TheConstants.{MAX_WORKERS}
@@ -29,6 +31,8 @@ use Rattle.flush_view.specs.Showing.{HasLawfulParts, IsShowable, LedgersShow, va
 use Rattle.flush_view.specs.Views.{ends_in, parts_on, merged_parts, view_rules}
 use Rattle.flush_view.proofs.BinsShown.{flushes_lawful}
 use Rattle.flush_view.proofs.Countings.{total_of_values, total_merged}
+use Rattle.flush_view.proofs.CallsLawful.{calls_lawful}
+use Rattle.flush_view.proofs.Ends.{ends_of_workers}
 use Rattle.flush_view.proofs.CountersMade.{OfMade, deltas_made, each_flushed}
 use Rattle.flush_view.proofs.Cumulative.{cumulative}
 use Rattle.flush_view.proofs.FileEvents.{AreOfFile, files_few}
@@ -110,8 +114,14 @@ same_count events verdicts same =
     let long = ap (λ (l : List ℕ). length l) same in
     omega (arith, one, other, long)
 
+apart_few : (events : List (List Event)) (verdicts : List (List Verdict))
+    → length (apart events verdicts) ≤ length events
+apart_few [] verdicts = omega arith
+apart_few (es ∷ events) [] = omega arith
+apart_few (es ∷ events) (vs ∷ verdicts) = let rest = apart_few events verdicts in omega (arith, rest)
+
 module _ (config : Config) (contents : List (Option (List ℕ))) (events : List (List Event)) (report : Report)
-    (few : length contents ≤ MAX_WORKERS) where
+    (lawful_config : IsConfig config) (few : length contents ≤ MAX_WORKERS) where
   files : AreRead contents events report → AllByRecursion AreOfFile events × (length events ≡ length contents)
   files read =
       let ends = read.an_end_each in
@@ -122,12 +132,18 @@ module _ (config : Config) (contents : List (Option (List ℕ))) (events : List 
 
   showable : (plan : RunPlan) (workers : List Work) → plan.rules ≡ (view_rules config).names
       → plan.scopes ≡ config.scopes
-      → AreBounded (events_in_files MAX_WORKERS) workers → IsReportOf contents events plan workers report
+      → length workers ≤ MAX_WORKERS → AreBounded (events_in_files MAX_WORKERS) workers
+      → IsReportOf contents events plan workers report
       → IsShowable config report
-  showable plan workers rules scopes bounded is = record {
+  showable plan workers rules scopes number bounded is = record {
     legal = subst (λ (s : List ScopeSpec). Legal (view_rules config).names s (ends_in report.log) report.log) scopes
         (subst (λ (r : NameRules). Legal r plan.scopes (ends_in report.log) report.log) rules
         (legal_with_ends plan workers report is.history));
+    workers = subst (λ (n : ℕ). n ≤ MAX_WORKERS) (sym (ends_of_workers plan workers report is.history)) number;
+    calls = calls_lawful plan workers report
+        (subst (λ (s : List ScopeSpec). AllByRecursion IsScopeSpec s) (sym scopes)
+        (recursion_from_All IsScopeSpec config.scopes lawful_config.scopes.each))
+        bounded.lawful is.history;
     rising = never_falls (map (λ flush. flush.at) report.flushes) is.swept.rising;
     units = units plan workers report is.account bounded;
     lawful = lawful plan workers report is.account bounded;
@@ -141,20 +157,24 @@ module _ (config : Config) (contents : List (Option (List ℕ))) (events : List 
       let fewer = files.few in
       record { lawful = files.lawful; few = omega (arith, same, few, fewer) }
 
+  few_apart : (es : List (List Event)) (vs : List (List Verdict)) → length es ≡ length contents
+      → length (apart es vs) ≤ MAX_WORKERS
+  few_apart es vs same = let fewer = apart_few es vs in omega (arith, few, same, fewer)
+
   pub run_shows : RunLedger contents events (plan_of config) report → IsShowable config report
   run_shows is =
       let read = files is.read in
-      showable (plan_of config) (apart events report.verdicts) refl refl
+      showable (plan_of config) (apart events report.verdicts) refl refl (few_apart events report.verdicts read.1)
       (bounded (apart events report.verdicts) read.1 (apart_bounded events report.verdicts read.0)) is
 
   pub replay_shows : ReplayLedger contents events (plan_of config) report → IsShowable config report
   replay_shows is =
       let read = files is.read in
-      showable (last_flush_alone (plan_of config)) (together events report.verdicts) refl refl
+      showable (last_flush_alone (plan_of config)) (together events report.verdicts) refl refl (omega arith)
       (bounded (together events report.verdicts) read.1 (together_bounded events report.verdicts read.0)) is
 
 pub ledgers_show : LedgersShow
 ledgers_show = record {
-  run = λ config contents events report few is. run_shows config contents events report few is;
-  replay = λ config contents events report few is. replay_shows config contents events report few is;
+  run = λ config contents events report lawful few is. run_shows config contents events report lawful few is;
+  replay = λ config contents events report lawful few is. replay_shows config contents events report lawful few is;
 }

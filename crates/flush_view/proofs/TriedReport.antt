@@ -1,11 +1,13 @@
 -- The report that the tests try can be shown.
-use Rattle.std.proofs.Common.{◌≡◌, ◌==◌, ◌≤◌, ◌<◌, ◌^◌, ℕ, zero, suc, Bool, true, false, cond, List, [], ◌∷◌, refl, arith, lit<, inl, inr}
+use Rattle.std.proofs.Common.{◌≡◌, ◌==◌, ◌≤◌, ◌<◌, ◌^◌, ℕ, zero, suc, Bool, true, false, cond, List, [], ◌∷◌, length, refl, arith, lit<, lit≤, inl, inr}
 use Rattle.std.specs.Prelude.{codes, sum_by}
-use Rattle.std.specs.List.{flat_map}
+use Rattle.std.specs.List.{flat_map, list_all, AllByRecursion}
+use Rattle.stat_defs.specs.Names.{is_name_byte, IsLocalName, IsScopePrefix}
 use Rattle.std.specs.List.Sorted.{IsStrictlyIncreasing}
 use Rattle.loglinear_bins.specs.declared.place.TheConstants.{MAX_COUNT}
 use Rattle.loglinear_bins.specs.Counts.{total}
 use Rattle.book_state.specs.Log.{Legal}
+use Rattle.book_state.specs.Stored.{IsLawfulCall}
 use Rattle.book_state.specs.Worked.{root_alone}
 use Rattle.book_state.proofs.Computed.{drawn_all}
 use Rattle.stat_book.specs.Calls.{name_rules}
@@ -84,9 +86,41 @@ rising zero short = lit< tt
 rising (suc zero) short = lit< tt
 rising (suc (suc k)) short = absurd (omega (arith, short))
 
+letter : (name : List ℕ) → length name ≡ 1 → list_all is_name_byte name ≡ true → IsLocalName name
+letter name one bytes = record { not_empty = omega (arith, one); short = omega (arith, one); bytes = bytes }
+
+no_prefix : IsScopePrefix []
+no_prefix = record { short = lit≤ tt; bytes = refl }
+
+prefix_t : IsScopePrefix (codes "t")
+prefix_t = record { short = lit≤ tt; bytes = refl }
+
+calls : AllByRecursion (λ entry. IsLawfulCall entry.call) tried_log
+calls = (
+  no_prefix,
+  (
+    prefix_t,
+    (
+      letter (codes "u") refl refl,
+      (
+        letter (codes "g") refl refl,
+        (
+          letter (codes "h") refl refl,
+          (
+            letter (codes "r") refl refl,
+            (tt, (tt, (tt, (tt, (prefix_t, (letter (codes "u") refl refl, (tt, (tt, (tt, (tt, tt)))))))))),
+          ),
+        ),
+      ),
+    ),
+  ),
+)
+
 pub tried_shows : IsShowable plain_config tried_report
 tried_shows = record {
   legal = legal;
+  workers = lit≤ tt;
+  calls = calls;
   rising = never_falls (9 ∷ 13 ∷ 15 ∷ []) rising;
   units = few_units;
   lawful = ((refl, tt), (tt, ((refl, tt), tt)));

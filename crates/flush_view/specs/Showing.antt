@@ -13,6 +13,8 @@ use Rattle.loglinear_bins.specs.declared.place.TheConstants.{MAX_COUNT}
 use Rattle.loglinear_bins.specs.Counts.{AreLawful, IsBinList, total}
 use Rattle.book_state.specs.declared.limits.TheConstants.{MAX_WORKERS}
 use Rattle.book_state.specs.Log.{Legal}
+use Rattle.book_state.specs.Stored.{IsLawfulCall}
+use Rattle.stat_defs.specs.Configs.{IsConfig}
 use Rattle.ledger.specs.Flushes.{flushed}
 use Rattle.ledger.specs.Ledger.{RunLedger, ReplayLedger, plan_of}
 use Rattle.stat_defs.specs.declared.events.Event.{Event}
@@ -26,10 +28,13 @@ values_taken id flushes = sum_by (λ part. total part.bins) (flat_map (parts_on 
 abbrev pub HasLawfulParts : FlushRecord → Type 0
 HasLawfulParts flush = AllByRecursion (λ part. AreLawful part.bins) flush.parts
 
--- A report that can be shown. The log is legal for the configuration, with as many workers as have an end in it. The
--- flushes stand in the order of their sweeps. What they took together fits a counter and a histogram.
+-- A report that can be shown. The log is legal for the configuration, with as many workers as have an end in it, and
+-- the texts of its calls are lawful. The flushes stand in the order of their sweeps, and their parts have lawful bins.
+-- What they took together fits a counter and a histogram.
 pub record IsShowable (config : Config) (report : Report) : Type 0 where
   pub legal : Legal (view_rules config).names config.scopes (ends_in report.log) report.log
+  pub workers : ends_in report.log ≤ MAX_WORKERS
+  pub calls : AllByRecursion (λ entry. IsLawfulCall entry.call) report.log
   pub rising : IsNonDecreasing (map (λ flush. flush.at) report.flushes)
   pub units : (id : ℕ) → flushed id report.flushes < 2 ^ 63
   pub lawful : AllByRecursion HasLawfulParts report.flushes
@@ -38,10 +43,10 @@ pub record IsShowable (config : Config) (report : Report) : Type 0 where
 -- the ledger of a run or a replay can be shown, where there are no more files than workers may be
 pub record LedgersShow : Type 0 where
   pub run : (config : Config) (contents : List (Option (List ℕ))) (events : List (List Event)) (report : Report)
-      → length contents ≤ MAX_WORKERS
+      → IsConfig config → length contents ≤ MAX_WORKERS
       → RunLedger contents events (plan_of config) report → IsShowable config report
   pub replay : (config : Config) (contents : List (Option (List ℕ))) (events : List (List Event)) (report : Report)
-      → length contents ≤ MAX_WORKERS
+      → IsConfig config → length contents ≤ MAX_WORKERS
       → ReplayLedger contents events (plan_of config) report → IsShowable config report
 
 -- rising bins, none of them empty, of no more values than are counted

@@ -3,7 +3,6 @@
 #![tactic(auto)]
 
 mod copies;
-mod lawful;
 mod laws;
 mod naming;
 mod progress;

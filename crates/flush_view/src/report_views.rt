@@ -1,14 +1,13 @@
 //! The views of a report, one after another.
-ghost use Rattle.std.specs.Prelude.{◌≡◌, ◌<◌, All, true, false, length, map, IfOk, OnOk, OnErr};
+ghost use Rattle.std.specs.Prelude.{◌≡◌, ◌<◌, ◌≤◌, true, false, length, map, IfOk, OnOk, OnErr};
 ghost use Rattle.book_state.specs.State.{metrics_of};
-ghost use Rattle.book_state.specs.Stored.{IsLawfulCall};
+ghost use Rattle.book_state.specs.declared.limits.TheConstants.{MAX_WORKERS};
 ghost use Rattle.flush_view.specs.Kept.{IsAtStart};
 ghost use Rattle.flush_view.specs.Replaying.{AreNext, first_state, state_after};
 ghost use Rattle.flush_view.specs.Views.{IsView, view_rules, last_state, ends_in};
 ghost use Rattle.flush_view.specs.Symbols.{live_metrics};
 ghost use Rattle.flush_view.specs.Showing.{IsShowable, first_views, view_in_turn, after_view};
 
-use crate::lawful::has_lawful_calls;
 use crate::naming::{NumberedMetric, in_order, live_in_order};
 use crate::progress::Progress;
 use crate::replaying::{apply_all, ends_in};
@@ -45,19 +44,12 @@ impl<'a> Model for ReportViews<'a> {
     ghost invariant = { Kept };
 }
 
-// How many workers a log has that can be replayed. What a log of events never has, a call with an unlawful text and an end
-// of a worker past the greatest number, is answered as want of memory.
-fn workers_of(log: &[Entry]) -> Result<u32, NoMemory>
-    ensures workers { IfOk result (λ workers. workers ≡ ends_in log.now) }
-    ensures lawful { OnOk result (All (λ entry. IsLawfulCall entry.call) log.now) }
+// How many workers a log has.
+fn workers_of(log: &[Entry]) -> u32
+    requires { ends_in log.now ≤ MAX_WORKERS }
+    ensures { result ≡ ends_in log.now }
 {
-    if !has_lawful_calls(log) {
-        return Err(NoMemory);
-    }
-    match u32::try_from(ends_in(log)) {
-        Ok(workers) => Ok(workers),
-        Err(_) => Err(NoMemory),
-    }
+    ends_in(log) as u32
 }
 
 // The tag rules and the metrics of the book after a whole log.
@@ -108,7 +100,7 @@ impl<'a> ReportViews<'a> {
         ensures { IfOk result (λ views. views ≡ first_views config.now report.now) }
     {
         let log = report.log.items();
-        let workers = workers_of(log)?;
+        let workers = workers_of(log);
         let parts = replayed(alloc, rules, workers, log)?;
         let StateParts { rules, metrics } = parts;
         let progress = no_progress(alloc, rules, workers, metrics.len())?;

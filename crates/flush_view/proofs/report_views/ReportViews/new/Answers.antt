@@ -1,11 +1,8 @@
-use Rattle.std.proofs.Common.{◌≡◌, ◌∙◌, List, All, length, ap, subst, rules}
+use Rattle.std.proofs.Common.{◌≡◌, ◌∙◌, List, length, ap, rules}
 use Rattle.std.specs.List.{enumerate_from}
 use Rattle.std.proofs.lemmas.List.{length-map}
-use Rattle.std.proofs.lemmas.List.Elements.{recursion_from_All}
-use Rattle.stat_defs.specs.declared.history.Entry.{Entry}
 use Rattle.stat_defs.specs.declared.metrics.Metric.{Metric}
 use Rattle.book_state.specs.State.{metrics_of}
-use Rattle.book_state.specs.Stored.{IsLawfulCall}
 use Rattle.flush_view.specs.ByName.{by_name}
 use Rattle.flush_view.specs.Kept.{last_book}
 use Rattle.flush_view.specs.Replaying.{state_after}
@@ -17,18 +14,16 @@ pub replayed-requires : goal.replayed-requires
 replayed-requires c =
     let config = c.args.config.now in
     let report = c.args.report.now in
-    let workers = c.in_ok-workers.ensures.workers ∙ ap ends_in c.items-log.ensures in
-    let lawful = subst (λ (l : List Entry). All (λ entry. IsLawfulCall entry.call) l) c.items-log.ensures c.in_ok-workers.ensures.lawful in
-    next_same c.args.rules config.tags c.in_ok-workers.workers (ends_in report.log) c.items-log.result.now report.log
+    let workers = c.workers_of-workers.ensures ∙ ap ends_in c.items-log.ensures in
+    next_same c.args.rules config.tags c.workers_of-workers.result (ends_in report.log) c.items-log.result.now report.log
     c.requires.rules workers c.items-log.ensures
-    (log_next config report c.requires.showable (recursion_from_All (λ (entry : Entry). IsLawfulCall entry.call) report.log lawful))
+    (log_next config report c.requires.showable c.requires.showable.calls)
 
 pub invariant_of-result : goal.invariant_of-result
 invariant_of-result c =
     let config = c.args.config.now in
     let report = c.args.report.now in
-    let workers = c.in_ok-workers.ensures.workers ∙ ap ends_in c.items-log.ensures in
-    let lawful = subst (λ (l : List Entry). All (λ entry. IsLawfulCall entry.call) l) c.items-log.ensures c.in_ok-workers.ensures.lawful in
+    let workers = c.workers_of-workers.ensures ∙ ap ends_in c.items-log.ensures in
     let metrics =
     c.in_ok-parts.ensures.metrics
     ∙ (λ i. metrics_of (state_after (c.requires.rules i) (workers i) (c.items-log.ensures i)).state)
@@ -41,7 +36,7 @@ invariant_of-result c =
       buckets = c.requires.buckets;
       ready = λ whole. record {
         showable = c.requires.showable;
-        next = log_next config report c.requires.showable (recursion_from_All (λ (entry : Entry). IsLawfulCall entry.call) report.log lawful);
+        next = log_next config report c.requires.showable c.requires.showable.calls;
         followed = started config report _ _ _ _ c.in_ok-progress.ensures (c.in_ok-parts.ensures.rules ∙ c.requires.rules) workers counted;
       };
     }
