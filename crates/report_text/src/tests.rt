@@ -238,7 +238,6 @@ fn reads(alloc: Global) -> Result<Vec<ReadRecord>, NoMemory> {
     Ok(vec![in alloc; read]?)
 }
 
-#[tactic(auto, using(crate::proofs::Tried::shows_too))]
 fn report(alloc: Global) -> Result<Report, NoMemory>
     ensures { IfOk result (λ report. IsShowable plain_config report) }
 {
