@@ -53,6 +53,22 @@ fn taken_at(end: FileEnd, taken: u64) -> u64
 }
 
 // Applies an event, whose verdict comes behind the earlier ones.
+fn tell_verdict(
+    alloc: Global,
+    store: &mut PlainStore,
+    event: &Event,
+    verdicts: &mut Vec<Verdict>,
+) -> Result<(), NoMemory>
+    requires lawful { IsLawfulEvent event.now }
+    requires few { length store.old.worker.events < worker.MAX_EVENTS }
+    ensures { OnOk result (IsToldBehind store.old event.now verdicts.old.items store.new verdicts.new.items) }
+{
+    let verdict = store.apply(alloc, event)?;
+    verdicts.push(verdict)?;
+    Ok(())
+}
+
+// The same, and gives back the event's memory.
 fn apply_event(
     alloc: Global,
     store: &mut PlainStore,
@@ -63,9 +79,7 @@ fn apply_event(
     requires few { length store.old.worker.events < worker.MAX_EVENTS }
     ensures { OnOk result (IsToldBehind store.old event verdicts.old.items store.new verdicts.new.items) }
 {
-    let verdict = store.apply(alloc, &event)?;
-    verdicts.push(verdict)?;
-    Ok(())
+    tell_verdict(alloc, store, &event, verdicts)
 }
 
 // Reads a source to its end and applies its events.
