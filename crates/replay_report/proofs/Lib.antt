@@ -4,3 +4,5 @@ pub mod FilesReported
 pub mod SoFar
 pub mod ReadToEnd
 pub mod FilesRead
+mod UnopenedFiles
+pub mod HeldAlike
