@@ -45,8 +45,8 @@ impl<'a> Model for ReportViews<'a> {
     ghost invariant = { Kept };
 }
 
-// How many workers a log has that can be replayed. What a log of events never has, a call with an unlawful text and an end
-// of a worker past the greatest number, is answered as want of memory.
+// How many workers a log has that can be replayed. What no log of events has, a call with an unlawful text or an end of
+// a worker past the greatest number, is answered as want of memory.
 fn workers_of(log: &[Entry]) -> Result<u32, NoMemory>
     ensures workers { IfOk result (λ workers. workers ≡ ends_in log.now) }
     ensures lawful { OnOk result (All (λ entry. IsLawfulCall entry.call) log.now) }
@@ -69,7 +69,8 @@ fn replayed(
 ) -> Result<StateParts, NoMemory>
     requires { AreNext (first_state rules workers) log.now }
     ensures rules { IfOk result (λ parts. parts.rules ≡ rules) }
-    ensures metrics { IfOk result (λ parts. parts.metrics.items ≡ metrics_of (state_after rules workers log.now).state) }
+    ensures metrics { IfOk result (λ parts. parts.metrics.items
+        ≡ metrics_of (state_after rules workers log.now).state) }
 {
     let mut book = BookState::new(alloc, rules, workers)?;
     apply_all(alloc, &mut book, log)?;

@@ -18,17 +18,22 @@ replayed-requires c =
     let config = c.args.config.now in
     let report = c.args.report.now in
     let workers = c.in_ok-workers.ensures.workers ∙ ap ends_in c.items-log.ensures in
-    let lawful = subst (λ (l : List Entry). All (λ entry. IsLawfulCall entry.call) l) c.items-log.ensures c.in_ok-workers.ensures.lawful in
+    let lawful = subst
+    (λ (l : List Entry). All
+    (λ entry. IsLawfulCall entry.call) l) c.items-log.ensures c.in_ok-workers.ensures.lawful in
     next_same c.args.rules config.tags c.in_ok-workers.workers (ends_in report.log) c.items-log.result.now report.log
     c.requires.rules workers c.items-log.ensures
-    (log_next config report c.requires.showable (recursion_from_All (λ (entry : Entry). IsLawfulCall entry.call) report.log lawful))
+    (log_next config report c.requires.showable
+    (recursion_from_All (λ (entry : Entry). IsLawfulCall entry.call) report.log lawful))
 
 pub invariant_of-result : goal.invariant_of-result
 invariant_of-result c =
     let config = c.args.config.now in
     let report = c.args.report.now in
     let workers = c.in_ok-workers.ensures.workers ∙ ap ends_in c.items-log.ensures in
-    let lawful = subst (λ (l : List Entry). All (λ entry. IsLawfulCall entry.call) l) c.items-log.ensures c.in_ok-workers.ensures.lawful in
+    let lawful = subst
+    (λ (l : List Entry). All
+    (λ entry. IsLawfulCall entry.call) l) c.items-log.ensures c.in_ok-workers.ensures.lawful in
     let metrics =
     c.in_ok-parts.ensures.metrics
     ∙ (λ i. metrics_of (state_after (c.requires.rules i) (workers i) (c.items-log.ensures i)).state)
@@ -41,7 +46,9 @@ invariant_of-result c =
       buckets = c.requires.buckets;
       ready = λ whole. record {
         showable = c.requires.showable;
-        next = log_next config report c.requires.showable (recursion_from_All (λ (entry : Entry). IsLawfulCall entry.call) report.log lawful);
-        followed = started config report _ _ _ _ c.in_ok-progress.ensures (c.in_ok-parts.ensures.rules ∙ c.requires.rules) workers counted;
+        next = log_next config report c.requires.showable
+            (recursion_from_All (λ (entry : Entry). IsLawfulCall entry.call) report.log lawful);
+        followed = started config report _ _ _ _ c.in_ok-progress.ensures
+            (c.in_ok-parts.ensures.rules ∙ c.requires.rules) workers counted;
       };
     }
