@@ -46,7 +46,8 @@ front_sum f k flushes =
     let parts = sum_by-append f (take k flushes) (drop k flushes) in
     omega (arith, whole, parts)
 
-more_sum : (f : FlushRecord → ℕ) (flushes : List FlushRecord) (k : ℕ) (flush : FlushRecord) → slice_get flushes k ≡ Some flush
+more_sum : (f : FlushRecord → ℕ) (flushes : List FlushRecord) (k : ℕ) (flush : FlushRecord)
+    → slice_get flushes k ≡ Some flush
     → sum_by f (take (suc k) flushes) ≡ sum_by f (take k flushes) + f flush
 more_sum f flushes k flush at =
     let whole = ap (λ (l : List FlushRecord). sum_by f l) (one_more flushes k flush at) in
@@ -65,7 +66,8 @@ all_values id (flush ∷ flushes) =
     let whole = sum_by-cons (values_by id) flush flushes in
     omega (arith, rest, parts, whole)
 
-total-behind : (bins : List BinCount) (parts : List Part) → total (behind bins parts) ≡ total bins + sum_by (λ (part : Part). total part.bins) parts
+total-behind : (bins : List BinCount) (parts : List Part)
+    → total (behind bins parts) ≡ total bins + sum_by (λ (part : Part). total part.bins) parts
 total-behind bins [] = omega arith
 total-behind bins (part ∷ parts) =
     let rest = total-behind (merged bins part.bins) parts in
@@ -73,7 +75,8 @@ total-behind bins (part ∷ parts) =
     let whole = sum_by-cons (λ (p : Part). total p.bins) part parts in
     omega (arith, rest, more, whole)
 
-behind-append : (bins : List BinCount) (parts more : List Part) → behind bins (parts ++ more) ≡ behind (behind bins parts) more
+behind-append : (bins : List BinCount) (parts more : List Part)
+    → behind bins (parts ++ more) ≡ behind (behind bins parts) more
 behind-append bins [] more = refl
 behind-append bins (part ∷ parts) more = behind-append (merged bins part.bins) parts more
 
@@ -100,11 +103,13 @@ both_lawful : (parts more : List Part) → AreLawfulParts parts → AreLawfulPar
 both_lawful [] more one other = other
 both_lawful (part ∷ parts) more one other = (one.0, both_lawful parts more one.1 other)
 
-all_lawful : (id k : ℕ) (flushes : List FlushRecord) → AllByRecursion HasLawfulParts flushes → AreLawfulParts (flat_map (parts_on id) (take k flushes))
+all_lawful : (id k : ℕ) (flushes : List FlushRecord) → AllByRecursion HasLawfulParts flushes
+    → AreLawfulParts (flat_map (parts_on id) (take k flushes))
 all_lawful id zero flushes lawful = tt
 all_lawful id (suc k) [] lawful = tt
 all_lawful id (suc k) (flush ∷ flushes) lawful =
-    both_lawful (parts_on id flush) (flat_map (parts_on id) (take k flushes)) (picked_lawful id flush.parts lawful.0) (all_lawful id k flushes lawful.1)
+    both_lawful (parts_on id flush) (flat_map (parts_on id) (take k flushes)) (picked_lawful id flush.parts lawful.0)
+    (all_lawful id k flushes lawful.1)
 
 lawful_at : (flushes : List FlushRecord) (k : ℕ) (flush : FlushRecord) → slice_get flushes k ≡ Some flush
     → AllByRecursion HasLawfulParts flushes → HasLawfulParts flush
@@ -128,7 +133,8 @@ reads false x y = y
 
 -- a number that is cut off at the greatest one has the same signed reading
 cut_reading : (half top : ℕ) (s : ℕ) → half ≤ top
-    → reads (ltb (min s top) half) (pos (min s top)) (negsuc (suc top - suc (min s top))) ≡ reads (ltb s half) (pos s) (negsuc (suc top - suc s))
+    → reads (ltb (min s top) half) (pos (min s top)) (negsuc (suc top - suc (min s top)))
+    ≡ reads (ltb s half) (pos s) (negsuc (suc top - suc s))
 cut_reading half top s high = elim (leb_tells s top) [
   | inl h ↦
       let small = h.1 in
@@ -172,12 +178,16 @@ module _ (config : Config) (report : Report) (can : IsShowable config report) (k
   lawful : HasLawfulParts flush
   lawful = lawful_at report.flushes k flush at can.lawful
 
-  roomy : (slots : Slots) → ((id : ℕ) → (bins_at slots id ≡ []) ⊎ (bins_at slots id ≡ merged_parts (flat_map (parts_on id) (take k report.flushes))))
+  roomy : (slots : Slots)
+      → ((id : ℕ)
+      → (bins_at slots id ≡ []) ⊎
+      (bins_at slots id ≡ merged_parts (flat_map (parts_on id) (take k report.flushes))))
       → IsRoomy slots flush.parts
   roomy slots are = record {
     rising = λ id. elim (are id) [
       | inl none ↦ subst IsBinList (sym none) none_rise
-      | inr some ↦ subst IsBinList (sym some) (sums_rise (flat_map (parts_on id) (take k report.flushes)) (all_lawful id k report.flushes can.lawful))
+      | inr some ↦ subst IsBinList (sym some)
+          (sums_rise (flat_map (parts_on id) (take k report.flushes)) (all_lawful id k report.flushes can.lawful))
     ];
     few = λ id.
         let few = few_values id in
@@ -192,18 +202,23 @@ module _ (config : Config) (report : Report) (can : IsShowable config report) (k
 
   -- there is room for the parts of the flush alone, and beside those of the flushes before
   pub room_alone : (count : ℕ) → HasRoomForAll (replicate count None) flush.parts
-  room_alone count = room_for_all (replicate count None) flush.parts lawful (roomy (replicate count None) (λ id. inl (ap held (no_bins_at count id))))
+  room_alone count =
+      room_for_all (replicate count None) flush.parts lawful
+      (roomy (replicate count None) (λ id. inl (ap held (no_bins_at count id))))
 
   pub room_beside : (slots : Slots) → length slots ≡ metrics_made config report
-      → ((id : ℕ) → id < metrics_made config report → bins_at slots id ≡ merged_parts (flat_map (parts_on id) (take k report.flushes)))
+      → ((id : ℕ) → id < metrics_made config report
+      → bins_at slots id ≡ merged_parts (flat_map (parts_on id) (take k report.flushes)))
       → HasRoomForAll slots flush.parts
-  room_beside slots long are = room_for_all slots flush.parts lawful (roomy slots (λ id. elim (leb_tells (length slots) id) [
-    | inl h ↦ inl (ap held (get_or_past slots id None h.1))
-    | inr h ↦ let within = h.1 in inr (are id (omega (arith, within, long)))
-  ]))
+  room_beside slots long are =
+      room_for_all slots flush.parts lawful (roomy slots (λ id. elim (leb_tells (length slots) id) [
+        | inl h ↦ inl (ap held (get_or_past slots id None h.1))
+        | inr h ↦ let within = h.1 in inr (are id (omega (arith, within, long)))
+      ]))
 
   -- the sums behind the flush
-  pub totals_behind : (sums : List ℕ) (id : ℕ) → id < length sums → get_or sums id 0 ≡ flushed id (take k report.flushes)
+  pub totals_behind : (sums : List ℕ) (id : ℕ) → id < length sums
+      → get_or sums id 0 ≡ flushed id (take k report.flushes)
       → get_or (with_deltas sums flush.deltas) id 0 ≡ flushed id (take (suc k) report.flushes)
   totals_behind sums id within was =
       let few = few_units id in
@@ -222,7 +237,8 @@ module _ (config : Config) (report : Report) (can : IsShowable config report) (k
       ∙ ap (λ (l : List FlushRecord). behind [] (flat_map (parts_on id) l)) (sym (one_more report.flushes k flush at))
 
   -- what the flush took alone
-  pub units_alone : (count id : ℕ) → id < count → get_or (with_deltas (replicate count 0) flush.deltas) id 0 ≡ flushed_in id flush
+  pub units_alone : (count id : ℕ) → id < count
+      → get_or (with_deltas (replicate count 0) flush.deltas) id 0 ≡ flushed_in id flush
   units_alone count id within =
       let few = few_units id in
       let none = no_sum_at count id in
@@ -239,15 +255,19 @@ module _ (config : Config) (report : Report) (can : IsShowable config report) (k
         parts_at (replicate count None) flush.parts id inside
             ∙ ap (λ (slot : Option (List BinCount)). behind (held slot) (parts_on id flush)) (no_bins_at count id),
         warm_at (replicate count None) flush.parts id inside
-            ∙ ap (λ (slot : Option (List BinCount)). is_some slot || list_any (is_part_on id) flush.parts) (no_bins_at count id),
+            ∙ ap (λ (slot : Option (List BinCount)). is_some slot || list_any (is_part_on id) flush.parts)
+            (no_bins_at count id),
       )
 
 -- the words of the flush, as signed numbers
 pub words_alone : (flush : FlushRecord) (count id : ℕ) → id < count
-    → cast_signed w64 (get_or (with_readings (replicate count 0) flush.gauges) id 0) ≡ cast_signed w64 (sum_by (word_on id) flush.gauges)
+    → cast_signed w64 (get_or (with_readings (replicate count 0) flush.gauges) id 0)
+    ≡ cast_signed w64 (sum_by (word_on id) flush.gauges)
 words_alone flush count id within =
     let none = no_sum_at count id in
     let long = length-replicate {A = ℕ} count 0 in
     let sum = readings_at (replicate count 0) flush.gauges id (omega (arith, within, long)) (omega (arith, none)) in
-    ap (cast_signed w64) (sum ∙ ap (λ n. min (n + sum_by (word_on id) flush.gauges) (2 ^ 64 - 1)) none ∙ ap (λ n. min n (2 ^ 64 - 1)) (zero-add (sum_by (word_on id) flush.gauges)))
+    ap (cast_signed w64)
+    (sum ∙ ap (λ n. min (n + sum_by (word_on id) flush.gauges) (2 ^ 64 - 1)) none
+    ∙ ap (λ n. min n (2 ^ 64 - 1)) (zero-add (sum_by (word_on id) flush.gauges)))
     ∙ signed_cut (sum_by (word_on id) flush.gauges)

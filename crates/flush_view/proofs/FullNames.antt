@@ -52,7 +52,8 @@ prefix_in [] i all = record { short = omega arith; bytes = refl }
 prefix_in (scope ∷ scopes) zero all = all.0
 prefix_in (scope ∷ scopes) (suc i) all = prefix_in scopes i all.1
 
-left_named : (tag : ℕ) (metric : Metric) (bearers : List ℕ) → IsFullName metric.name → HasName (left_to tag metric bearers)
+left_named : (tag : ℕ) (metric : Metric) (bearers : List ℕ) → IsFullName metric.name
+    → HasName (left_to tag metric bearers)
 left_named tag metric [] named = named
 left_named tag metric (b ∷ bs) named = named
 
@@ -68,7 +69,8 @@ swept_named seats row named = by_case (overdue seats row.metric.life) where
   by_case true = named
   by_case false = named
 
-effect_named : (rules : NameRules) (seat : ℕ) (c : Call) (r : Reply) (s : State) → IsLawfulCall c → HasNames s → HasNames (effect rules seat c r s)
+effect_named : (rules : NameRules) (seat : ℕ) (c : Call) (r : Reply) (s : State) → IsLawfulCall c → HasNames s
+    → HasNames (effect rules seat c r s)
 effect_named rules seat (call.OpenScope label prefix) (reply.Opened id) s lawful named =
     (pushed HasPrefix s.scopes (record { label = label; prefix = prefix; live = true }) named.0 lawful, named.1)
 effect_named rules seat (call.OpenScope label prefix) _ s lawful named = named
@@ -81,28 +83,37 @@ effect_named rules seat (call.Find key) (reply.Made id numbers) s lawful named =
     on_seat_named _ seat _ (
       named.0,
       pushed HasName s.metrics (made rules s key numbers) named.1
-          (full_is_full (option_map_or (λ scope. scope.prefix) (slice_get s.scopes (scope_of s key)) []) key.name (prefix_in s.scopes (scope_of s key) named.0) lawful),
+          (full_is_full (option_map_or (λ scope. scope.prefix) (slice_get s.scopes (scope_of s key)) []) key.name
+          (prefix_in s.scopes (scope_of s key) named.0) lawful),
     )
 effect_named rules seat (call.Find key) (reply.Found id) s lawful named =
-    on_seat_named _ seat _ (named.0, changed HasName (found (scope_of s key) key.mode) (λ row has. has) id.0 s.metrics named.1)
+    on_seat_named _ seat _
+    (named.0, changed HasName (found (scope_of s key) key.mode) (λ row has. has) id.0 s.metrics named.1)
 effect_named rules seat (call.Find key) reply.Rejected s lawful named = on_seat_named _ seat s named
 effect_named rules seat (call.Find key) _ s lawful named = named
-effect_named rules seat (call.SetText id text) reply.TextSet s lawful named =
-    (named.0, changed HasName (λ row. record row { metric = record row.metric { text = text } }) (λ row has. has) id.0 s.metrics named.1)
+effect_named rules seat (call.SetText id text) reply.TextSet s lawful named = (
+  named.0,
+  changed HasName (λ row. record row { metric = record row.metric { text = text } })
+      (λ row has. has) id.0 s.metrics named.1,
+)
 effect_named rules seat (call.SetText id text) _ s lawful named = named
 effect_named rules seat call.Ack (reply.Acked tag) s lawful named = on_seat_named _ seat s named
 effect_named rules seat call.Ack _ s lawful named = named
-effect_named rules seat call.Sweep (reply.Swept n) s lawful named = (named.0, mapped HasName (swept s.seats) (swept_named s.seats) s.metrics named.1)
+effect_named rules seat call.Sweep (reply.Swept n) s lawful named =
+    (named.0, mapped HasName (swept s.seats) (swept_named s.seats) s.metrics named.1)
 effect_named rules seat call.Sweep _ s lawful named = named
 effect_named rules seat call.End reply.Ended s lawful named = on_seat_named _ seat s named
 effect_named rules seat call.End _ s lawful named = named
 
-named_after : (v : StateView) (log : List Entry) → AreNext v log → HasNames v.state → HasNames (fold after_entry v log).state
+named_after : (v : StateView) (log : List Entry) → AreNext v log → HasNames v.state
+    → HasNames (fold after_entry v log).state
 named_after v [] next named = named
 named_after v (e ∷ log) next named =
-    named_after (after_entry v e) log next.1 (effect_named (drawing v.tags) e.seat e.call e.reply v.state next.0.lawful named)
+    named_after (after_entry v e) log next.1
+    (effect_named (drawing v.tags) e.seat e.call e.reply v.state next.0.lawful named)
 
-texts_of : (rows : List Row) → AllByRecursion HasName rows → AllByRecursion (λ (metric : Metric). IsUtf8 metric.name) (map (λ row. row.metric) rows)
+texts_of : (rows : List Row) → AllByRecursion HasName rows
+    → AllByRecursion (λ (metric : Metric). IsUtf8 metric.name) (map (λ row. row.metric) rows)
 texts_of [] all = tt
 texts_of (row ∷ rows) all = (name_is_text row.metric.name all.0, texts_of rows all.1)
 

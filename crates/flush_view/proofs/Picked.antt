@@ -44,9 +44,11 @@ module _ {X : Type 0} where
     lt x y = comes_before name x y
 
     -- lists that differ in the order of names alone have one order
-    same_order : (xs ys : List X) → ((z : X) → filter (ties lt z) xs ≡ filter (ties lt z) ys) → by_name name xs ≡ by_name name ys
+    same_order : (xs ys : List X) → ((z : X) → filter (ties lt z) xs ≡ filter (ties lt z) ys)
+        → by_name name xs ≡ by_name name ys
     same_order xs ys same =
-        (in_order name).only ys (by_name name xs) ((in_order name).sorted xs) (λ z. (in_order name).stable xs z ∙ same z)
+        (in_order name).only ys (by_name name xs) ((in_order name).sorted xs)
+        (λ z. (in_order name).stable xs z ∙ same z)
 
     -- the members that pass, in their order
     by_name-filter : (p : X → Bool) (xs : List X) → filter p (by_name name xs) ≡ by_name name (filter p xs)
@@ -58,7 +60,8 @@ module _ {X : Type 0} where
         ∙ ap (filter p) ((in_order name).stable xs z)
         ∙ filter_turned p (ties lt z) xs)
 
-    filter_lists : {K : Type 0} (p : X → Bool) (f g : K → List X) (ks : List K) → ((k : K) → filter p (f k) ≡ filter p (g k))
+    filter_lists : {K : Type 0} (p : X → Bool) (f g : K → List X) (ks : List K)
+        → ((k : K) → filter p (f k) ≡ filter p (g k))
         → filter p (flat_map f ks) ≡ filter p (flat_map g ks)
     filter_lists p f g [] same = refl
     filter_lists p f g (k ∷ ks) same =
@@ -72,7 +75,8 @@ module _ {X Y : Type 0} (f : X → Y) (name : Y → List ℕ) where
   map-put x [] = refl
   map-put x (y ∷ ys) = by_case (comes_before name (f y) (f x)) (map-put x ys) where
     by_case : (b : Bool) → map f (put_by_name (λ z. name (f z)) x ys) ≡ put_by_name name (f x) (map f ys)
-        → map f (cond b (y ∷ put_by_name (λ z. name (f z)) x ys) (x ∷ y ∷ ys)) ≡ cond b (f y ∷ put_by_name name (f x) (map f ys)) (f x ∷ f y ∷ map f ys)
+        → map f (cond b (y ∷ put_by_name (λ z. name (f z)) x ys) (x ∷ y ∷ ys))
+        ≡ cond b (f y ∷ put_by_name name (f x) (map f ys)) (f x ∷ f y ∷ map f ys)
     by_case true rest = ap (λ (l : List Y). f y ∷ l) rest
     by_case false rest = refl
 
@@ -84,7 +88,8 @@ module _ {X Y : Type 0} (f : X → Y) (name : Y → List ℕ) where
   map-filter p [] = refl
   map-filter p (x ∷ xs) = by_case (p (f x)) (map-filter p xs) where
     by_case : (b : Bool) → map f (filter (λ x. p (f x)) xs) ≡ filter p (map f xs)
-        → map f (cond b (x ∷ filter (λ x. p (f x)) xs) (filter (λ x. p (f x)) xs)) ≡ cond b (f x ∷ filter p (map f xs)) (filter p (map f xs))
+        → map f (cond b (x ∷ filter (λ x. p (f x)) xs) (filter (λ x. p (f x)) xs))
+        ≡ cond b (f x ∷ filter p (map f xs)) (filter p (map f xs))
     by_case true rest = ap (λ (l : List Y). f x ∷ l) rest
     by_case false rest = rest
 
@@ -96,16 +101,20 @@ sorted_by_name name xs ys sorted stable = (in_order name).only xs ys sorted stab
 -- all metrics in their order show those of a kind that pass
 pub metrics_picked : (kind : Kind) (passes : ℕ → Bool) (s : State)
     → picked kind passes (by_name row_name (numbered_metrics s)) ≡ metrics_shown kind passes s
-metrics_picked kind passes s = by_name-filter row_name (λ numbered. same_kind numbered.1.kind kind && passes numbered.0) (numbered_metrics s)
+metrics_picked kind passes s =
+    by_name-filter row_name (λ numbered. same_kind numbered.1.kind kind && passes numbered.0) (numbered_metrics s)
 
 abbrev metric_in : NumberedMetric → Metric
 metric_in numbered = numbered.1
 
-pub enumerate_from-push : {X : Type 0} (id : ℕ) (xs : List X) (x : X) → enumerate_from id (xs ++ x ∷ []) ≡ enumerate_from id xs ++ (id + length xs, x) ∷ []
-enumerate_from-push {X} id [] x = let same : id ≡ id + 0 = omega arith in ap (λ (n : ℕ). (let one : List (ℕ × X) = (n, x) ∷ [] in one)) same
+pub enumerate_from-push : {X : Type 0} (id : ℕ) (xs : List X) (x : X)
+    → enumerate_from id (xs ++ x ∷ []) ≡ enumerate_from id xs ++ (id + length xs, x) ∷ []
+enumerate_from-push {X} id [] x = let same : id ≡ id + 0 =
+    omega arith in ap (λ (n : ℕ). (let one : List (ℕ × X) = (n, x) ∷ [] in one)) same
 enumerate_from-push {X} id (y ∷ xs) x =
     let same : id + 1 + length xs ≡ id + suc (length xs) = omega arith in
-    ap (λ (l : List (ℕ × X)). (id, y) ∷ l) (enumerate_from-push (id + 1) xs x ∙ ap (λ n. enumerate_from (id + 1) xs ++ (n, x) ∷ []) same)
+    ap (λ (l : List (ℕ × X)). (id, y) ∷ l)
+    (enumerate_from-push (id + 1) xs x ∙ ap (λ n. enumerate_from (id + 1) xs ++ (n, x) ∷ []) same)
 
 unnumbered : (id : ℕ) (metrics : List Metric) → map metric_in (enumerate_from id metrics) ≡ metrics
 unnumbered id [] = refl
@@ -114,22 +123,28 @@ unnumbered id (metric ∷ metrics) = ap (λ (l : List Metric). metric ∷ l) (un
 abbrev is_live_of : Kind → Metric → Bool
 is_live_of kind metric = is_live_life metric.life && same_kind metric.kind kind
 
-live_sorted : (s : State) (kind : Kind) → live_in (by_name row_name (numbered_metrics s)) kind ≡ by_name (λ metric. metric.name) (live_of_kind s kind)
+live_sorted : (s : State) (kind : Kind)
+    → live_in (by_name row_name (numbered_metrics s)) kind ≡ by_name (λ metric. metric.name) (live_of_kind s kind)
 live_sorted s kind =
     map-filter metric_in (λ metric. metric.name) (is_live_of kind) (by_name row_name (numbered_metrics s))
     ∙ ap (filter (is_live_of kind)) (map-by_name metric_in (λ metric. metric.name) (numbered_metrics s))
     ∙ by_name-filter (λ metric. metric.name) (is_live_of kind) (map metric_in (numbered_metrics s))
-    ∙ ap (λ (l : List Metric). by_name (λ metric. metric.name) (filter (is_live_of kind) l)) (unnumbered 0 (metrics_of s))
+    ∙ ap (λ (l : List Metric). by_name (λ metric. metric.name) (filter (is_live_of kind) l))
+    (unnumbered 0 (metrics_of s))
 
 -- those of all metrics in their order that are live, kind by kind, are in one order the live metrics
-pub live_are : (s : State) → by_name (λ metric. metric.name) (flat_map (live_in (by_name row_name (numbered_metrics s))) kinds) ≡ live_metrics s
+pub live_are : (s : State)
+    → by_name (λ metric. metric.name) (flat_map (live_in (by_name row_name (numbered_metrics s))) kinds)
+    ≡ live_metrics s
 live_are s = same_order (λ metric. metric.name) _ _ (λ z.
-    filter_lists (λ metric. metric.name) (ties (lt (λ (metric : Metric). metric.name)) z) (live_in (by_name row_name (numbered_metrics s))) (live_of_kind s) kinds (λ kind.
+    filter_lists (λ metric. metric.name) (ties (lt (λ (metric : Metric). metric.name)) z)
+    (live_in (by_name row_name (numbered_metrics s))) (live_of_kind s) kinds (λ kind.
     ap (filter (ties (lt (λ (metric : Metric). metric.name)) z)) (live_sorted s kind)
     ∙ (in_order (λ (metric : Metric). metric.name)).stable (live_of_kind s kind) z))
 
 module _ (P : NumberedMetric → Type 0) where
-  put_all : (x : NumberedMetric) (ys : List NumberedMetric) → P x → AllByRecursion P ys → AllByRecursion P (put_by_name row_name x ys)
+  put_all : (x : NumberedMetric) (ys : List NumberedMetric) → P x → AllByRecursion P ys
+      → AllByRecursion P (put_by_name row_name x ys)
   put_all x [] one all = (one, tt)
   put_all x (y ∷ ys) one all = by_case (comes_before row_name y x) (put_all x ys one all.1) where
     by_case : (b : Bool) → AllByRecursion P (put_by_name row_name x ys)
@@ -143,15 +158,18 @@ module _ (P : NumberedMetric → Type 0) where
   all_in_order (x ∷ xs) all = put_all x (by_name row_name xs) all.0 (all_in_order xs all.1)
 
 -- each number is below that of metrics
-pub ids_within : (from : ℕ) (metrics : List Metric) → AllByRecursion (λ (numbered : NumberedMetric). numbered.0 < from + length metrics) (enumerate_from from metrics)
+pub ids_within : (from : ℕ) (metrics : List Metric)
+    → AllByRecursion (λ (numbered : NumberedMetric). numbered.0 < from + length metrics) (enumerate_from from metrics)
 ids_within from [] = tt
-ids_within from (metric ∷ metrics) = (omega arith, wider (from + 1) metrics (from + suc (length metrics)) (omega arith)) where
-  wider : (from : ℕ) (metrics : List Metric) (top : ℕ) → from + length metrics ≤ top
-      → AllByRecursion (λ (numbered : NumberedMetric). numbered.0 < top) (enumerate_from from metrics)
-  wider from [] top high = tt
-  wider from (metric ∷ metrics) top high = (omega (arith, high), wider (from + 1) metrics top (omega (arith, high)))
+ids_within from (metric ∷ metrics) =
+    (omega arith, wider (from + 1) metrics (from + suc (length metrics)) (omega arith)) where
+      wider : (from : ℕ) (metrics : List Metric) (top : ℕ) → from + length metrics ≤ top
+          → AllByRecursion (λ (numbered : NumberedMetric). numbered.0 < top) (enumerate_from from metrics)
+      wider from [] top high = tt
+      wider from (metric ∷ metrics) top high = (omega (arith, high), wider (from + 1) metrics top (omega (arith, high)))
 
-pub names_within : (P : List ℕ → Type 0) (from : ℕ) (metrics : List Metric) → AllByRecursion (λ (metric : Metric). P metric.name) metrics
+pub names_within : (P : List ℕ → Type 0) (from : ℕ) (metrics : List Metric)
+    → AllByRecursion (λ (metric : Metric). P metric.name) metrics
     → AllByRecursion (λ (numbered : NumberedMetric). P numbered.1.name) (enumerate_from from metrics)
 names_within P from [] all = tt
 names_within P from (metric ∷ metrics) all = (all.0, names_within P (from + 1) metrics all.1)

@@ -31,32 +31,42 @@ pub next_same : (tags tags' : List TagSpec) (n n' : ℕ) (log log' : List Entry)
     → AreNext (first_state tags' n') log' → AreNext (first_state tags n) log
 next_same tags tags' n n' log log' a b c next =
     subst (λ (t : List TagSpec). AreNext (first_state t n) log) (sym a)
-    (subst (λ (m : ℕ). AreNext (first_state tags' m) log) (sym b) (subst (λ (l : List Entry). AreNext (first_state tags' n') l) (sym c) next))
+    (subst (λ (m : ℕ). AreNext (first_state tags' m) log) (sym b)
+    (subst (λ (l : List Entry). AreNext (first_state tags' n') l) (sym c) next))
 
 module _ (config : Config) (report : Report) where
   abbrev first : StateView
   first = first_state config.tags (ends_in report.log)
 
   -- the entries of a showable report are steps, where their calls are lawful
-  pub log_next : IsShowable config report → AllByRecursion (λ (e : Entry). IsLawfulCall e.call) report.log → AreNext first report.log
+  pub log_next : IsShowable config report → AllByRecursion (λ (e : Entry). IsLawfulCall e.call) report.log
+      → AreNext first report.log
   log_next can lawful =
-      all_next (view_rules config).names config.tags (ends_in report.log) (tags_drawn config.matcher config.tags) report.log can.legal.steps lawful
+      all_next (view_rules config).names config.tags (ends_in report.log)
+      (tags_drawn config.matcher config.tags) report.log can.legal.steps lawful
 
   -- the stored state is that of the replay
-  pub stored_is : (log : List Entry) → (state_after config.tags (ends_in report.log) log).state ≡ replay (view_rules config).names (ends_in report.log) log
-  stored_is log = state_replayed (view_rules config).names config.tags (ends_in report.log) (tags_drawn config.matcher config.tags) log
+  pub stored_is : (log : List Entry)
+      → (state_after config.tags (ends_in report.log) log).state
+      ≡ replay (view_rules config).names (ends_in report.log) log
+  stored_is log =
+      state_replayed (view_rules config).names config.tags (ends_in report.log)
+      (tags_drawn config.matcher config.tags) log
 
   -- the full names are texts
-  pub ordered_texts : AreNext first report.log → AllByRecursion (λ (numbered : NumberedMetric). IsUtf8 numbered.1.name) (ordered_metrics config report)
+  pub ordered_texts : AreNext first report.log
+      → AllByRecursion (λ (numbered : NumberedMetric). IsUtf8 numbered.1.name) (ordered_metrics config report)
   ordered_texts next =
       all_in_order (λ (numbered : NumberedMetric). IsUtf8 numbered.1.name) (numbered_metrics (last_book config report))
       (names_within IsUtf8 0 (metrics_of (last_book config report))
-      (subst (λ (s : State). AllByRecursion (λ (metric : Metric). IsUtf8 metric.name) (metrics_of s)) (stored_is report.log)
+      (subst (λ (s : State). AllByRecursion (λ (metric : Metric). IsUtf8 metric.name) (metrics_of s))
+      (stored_is report.log)
       (names_are_texts first refl refl report.log next)))
 
   -- before the first flush
   pub started : (tags : List TagSpec) (workers count : ℕ) (progress : Progress) → IsAtStart tags workers count progress
-      → tags ≡ config.tags → workers ≡ ends_in report.log → count ≡ metrics_made config report → HasFollowed config report 0 progress
+      → tags ≡ config.tags → workers ≡ ends_in report.log → count ≡ metrics_made config report
+      → HasFollowed config report 0 progress
   started tags workers count progress start same_tags same_workers same_count =
       let none = start.applied in
       record {
@@ -72,12 +82,15 @@ module _ (config : Config) (report : Report) where
         bins = λ id below. ap (λ (l : Slots). bins_at l id) start.cumulative ∙ ap held (no_bins_at count id);
       }
 
-  module _ (k : ℕ) (progress : Progress) (ready : IsReady config report k progress) (flush : FlushRecord) (at : slice_get report.flushes k ≡ Some flush) where
+  module _ (k : ℕ) (progress : Progress) (ready : IsReady config report k progress) (flush : FlushRecord)
+      (at : slice_get report.flushes k ≡ Some flush) where
     -- the entries up to the flush are the next ones
-    pub entries_next : (log : List Entry) → log ≡ report.log → AreNext progress.book (slice_range log progress.applied (place_of log flush))
+    pub entries_next : (log : List Entry) → log ≡ report.log
+        → AreNext progress.book (slice_range log progress.applied (place_of log flush))
     entries_next log same =
         subst (λ (l : List Entry). AreNext progress.book (slice_range l progress.applied (place_of l flush))) (sym same)
-        (subst (λ (v : StateView). AreNext v (slice_range report.log progress.applied (place_of report.log flush))) (sym ready.followed.book)
+        (subst (λ (v : StateView). AreNext v (slice_range report.log progress.applied (place_of report.log flush)))
+        (sym ready.followed.book)
         (next_between first report.log progress.applied (place_of report.log flush - progress.applied) ready.next))
 
     pub within_place : (log : List Entry) → log ≡ report.log → progress.applied ≤ place_of log flush
@@ -87,7 +100,8 @@ module _ (config : Config) (report : Report) where
         let long = ap length same in
         omega (arith, low, inside, long)
 
-    module _ (new : Progress) (log : List Entry) (same : log ≡ report.log) (follows : Follows log flush progress new) where
+    module _ (new : Progress) (log : List Entry) (same : log ≡ report.log)
+        (follows : Follows log flush progress new) where
       follows_log : Follows report.log flush progress new
       follows_log = subst (λ (l : List Entry). Follows l flush progress new) same follows
 
@@ -105,13 +119,17 @@ module _ (config : Config) (report : Report) where
       book_before =
           ap (λ (v : StateView). v.state) followed.book
           ∙ ap (λ (n : ℕ). (state_after config.tags (ends_in report.log) (take n report.log)).state) follows_log.applied
-          ∙ ap (λ (l : List Entry). (state_after config.tags (ends_in report.log) l).state) (taken_to flush.at report.log)
+          ∙ ap (λ (l : List Entry). (state_after config.tags (ends_in report.log) l).state)
+          (taken_to flush.at report.log)
           ∙ stored_is (take flush.at report.log)
 
       -- the view that is made is the one of the flush
       pub view_shown : (metrics : List NumberedMetric) → metrics ≡ ordered_metrics config report
-          → Some (view_kept (view_rules config).bounds new.book.state (kept_of (length metrics) flush new.totals.items new.cumulative.items) metrics)
+          → Some (view_kept (view_rules config).bounds new.book.state
+          (kept_of (length metrics) flush new.totals.items new.cumulative.items) metrics)
           ≡ view (view_rules config) report.log report.flushes k
       view_shown metrics is =
           ap Some (view_is config report ready.showable k flush at new metrics followed book_before is)
-          ∙ sym (ap (option_map (λ (f : FlushRecord). view_of (view_rules config) report.log f (take (suc k) report.flushes))) at)
+          ∙ sym (ap
+          (option_map
+          (λ (f : FlushRecord). view_of (view_rules config) report.log f (take (suc k) report.flushes))) at)

@@ -57,11 +57,13 @@ next_behind : (v : StateView) (xs ys : List Entry) → AreNext v (xs ++ ys) → 
 next_behind v [] ys next = next
 next_behind v (x ∷ xs) ys next = next_behind (after_entry v x) xs ys next.1
 
-folded : (v : StateView) (xs ys : List Entry) → fold after_entry v (xs ++ ys) ≡ fold after_entry (fold after_entry v xs) ys
+folded : (v : StateView) (xs ys : List Entry)
+    → fold after_entry v (xs ++ ys) ≡ fold after_entry (fold after_entry v xs) ys
 folded v [] ys = refl
 folded v (x ∷ xs) ys = folded (after_entry v x) xs ys
 
-parted : (from : ℕ) (n : ℕ) (log : List Entry) → take from log ++ (take n (drop from log) ++ drop n (drop from log)) ≡ log
+parted : (from : ℕ) (n : ℕ) (log : List Entry)
+    → take from log ++ (take n (drop from log) ++ drop n (drop from log)) ≡ log
 parted zero n log = whole n log where
   whole : (n : ℕ) (log : List Entry) → take n log ++ drop n log ≡ log
   whole zero log = refl
@@ -78,7 +80,8 @@ pub next_between : (v : StateView) (log : List Entry) (from n : ℕ) → AreNext
     → AreNext (fold after_entry v (take from log)) (take n (drop from log))
 next_between v log from n next =
     next_front (fold after_entry v (take from log)) (take n (drop from log)) (drop n (drop from log))
-    (next_behind v (take from log) (take n (drop from log) ++ drop n (drop from log)) (subst (AreNext v) (sym (parted from n log)) next))
+    (next_behind v (take from log) (take n (drop from log) ++ drop n (drop from log))
+    (subst (AreNext v) (sym (parted from n log)) next))
 
 joined : (from n : ℕ) (log : List Entry) → take from log ++ take n (drop from log) ≡ take (from + n) log
 joined zero n log = ap (λ (k : ℕ). take k log) (sym (zero-add n))
@@ -91,6 +94,8 @@ joined (suc from) n (e ∷ log) =
     ap (λ (l : List Entry). e ∷ l) (joined from n log) ∙ ap (λ (k : ℕ). take k (e ∷ log)) same
 
 pub applied_between : (v : StateView) (log : List Entry) (from n : ℕ)
-    → fold after_entry (fold after_entry v (take from log)) (take n (drop from log)) ≡ fold after_entry v (take (from + n) log)
+    → fold after_entry (fold after_entry v (take from log)) (take n (drop from log))
+    ≡ fold after_entry v (take (from + n) log)
 applied_between v log from n =
-    sym (folded v (take from log) (take n (drop from log))) ∙ ap (λ (l : List Entry). fold after_entry v l) (joined from n log)
+    sym (folded v (take from log) (take n (drop from log)))
+    ∙ ap (λ (l : List Entry). fold after_entry v l) (joined from n log)

@@ -22,7 +22,8 @@ use Rattle.flush_view.proofs.Rising.{sums_rise}
 -- lawful bins that are not empty and rise from a place on
 abbrev RisesFrom : ℕ → List BinCount → Type 0
 RisesFrom low [] = Unit {0}
-RisesFrom low (c ∷ cs) = (low ≤ low_tenths c.bin) × (0 < c.count) × (is_lawful c.bin ≡ true) × RisesFrom (low_tenths c.bin + 1) cs
+RisesFrom low (c ∷ cs) =
+    (low ≤ low_tenths c.bin) × (0 < c.count) × (is_lawful c.bin ≡ true) × RisesFrom (low_tenths c.bin + 1) cs
 
 rise_from : (low : ℕ) (c : BinCount) (cs : List BinCount) → low ≤ low_tenths c.bin
     → list_all (λ b. is_lawful b.bin) (c ∷ cs) ≡ true → list_all (λ b. nat_lt 0 b.count) (c ∷ cs) ≡ true
@@ -37,14 +38,16 @@ rise_from low c (d ∷ ds) first lawful some rising =
       (Decides-ltb 0 c.count).0 has.0,
       is.0,
       rise_from (low_tenths c.bin + 1) d ds (omega (arith, next)) is.1 has.1
-          (λ k short. let more : suc k + 1 ≡ suc (k + 1) = omega arith in rw more at (rising (suc k) (omega (arith, short)))),
+          (λ k short. let more : suc k + 1
+          ≡ suc (k + 1) = omega arith in rw more at (rising (suc k) (omega (arith, short)))),
     )
 
 rise : (cs : List BinCount) → IsBinList cs → RisesFrom 0 cs
 rise [] is = tt
 rise (c ∷ cs) is = rise_from 0 c cs (omega arith) is.lawful is.some is.rising
 
-lower_place : (b c : Bin) → is_lawful b ≡ true → is_lawful c ≡ true → place_of b < place_of c → low_tenths b < low_tenths c
+lower_place : (b c : Bin) → is_lawful b ≡ true → is_lawful c ≡ true → place_of b < place_of c
+    → low_tenths b < low_tenths c
 lower_place b c lb lc below =
     let lower = low_tenths-bin_at (place_of b) (place_of c) below in
     let at_b : low_tenths (bin_at (place_of b)) ≡ low_tenths b = ap low_tenths (bin_at-place_of b lb) in
@@ -104,9 +107,11 @@ not_lower low c d cs ds one other same lower =
 same_rising : (low : ℕ) (cs ds : List BinCount) → RisesFrom low cs → RisesFrom low ds → SameCounts cs ds → cs ≡ ds
 same_rising low [] [] one other same = refl
 same_rising low [] (d ∷ ds) one other same =
-    let here = first_count low d ds other in let some = other.1 in let equal = same d.bin in absurd (omega (arith, here, some, equal))
+    let here = first_count low d ds other in let some = other.1 in let equal = same d.bin in absurd
+    (omega (arith, here, some, equal))
 same_rising low (c ∷ cs) [] one other same =
-    let here = first_count low c cs one in let some = one.1 in let equal = same c.bin in absurd (omega (arith, here, some, equal))
+    let here = first_count low c cs one in let some = one.1 in let equal = same c.bin in absurd
+    (omega (arith, here, some, equal))
 same_rising low (c ∷ cs) (d ∷ ds) one other same =
     let even : low_tenths c.bin ≡ low_tenths d.bin = elim (leb_tells (low_tenths c.bin) (low_tenths d.bin)) [
       | inr h ↦ absurd (not_lower low d c ds cs other one (λ bin. sym (same bin)) h.1)
@@ -117,13 +122,15 @@ same_rising low (c ∷ cs) (d ∷ ds) one other same =
     ] in
     let bin_same : c.bin ≡ d.bin = same_low c.bin d.bin one.2 other.2 even in
     let count_same : c.count ≡ d.count =
-    sym (first_count low c cs one) ∙ same c.bin ∙ ap (λ (b : Bin). count_of (d ∷ ds) b) bin_same ∙ first_count low d ds other in
+    sym (first_count low c cs one) ∙ same c.bin ∙ ap (λ (b : Bin). count_of (d ∷ ds) b) bin_same
+    ∙ first_count low d ds other in
     let first : c ≡ d = λ i. record { bin = bin_same i; count = count_same i } in
     cons_same c d cs ds first (same_rising (low_tenths c.bin + 1) cs ds one.3
     (subst (λ (n : ℕ). RisesFrom (n + 1) ds) (sym even) other.3) (λ bin.
     let left = sum_by-cons (λ (b : BinCount). cond (is_same b.bin bin) b.count 0) c cs in
     let right = sum_by-cons (λ (b : BinCount). cond (is_same b.bin bin) b.count 0) d ds in
-    let heads : cond (is_same c.bin bin) c.count 0 ≡ cond (is_same d.bin bin) d.count 0 = ap (λ (b : BinCount). cond (is_same b.bin bin) b.count 0) first in
+    let heads : cond (is_same c.bin bin) c.count 0
+    ≡ cond (is_same d.bin bin) d.count 0 = ap (λ (b : BinCount). cond (is_same b.bin bin) b.count 0) first in
     let all = same bin in
     omega (arith, left, right, heads, all)))
 
@@ -146,7 +153,8 @@ none_rise = record { lawful = refl; rising = λ k short. absurd (omega (arith, s
 pub merged_once : (cs ds : List BinCount) → IsBinList cs → AreLawful ds → merged cs (merged [] ds) ≡ merged cs ds
 merged_once cs ds is lawful =
     let middle = merged_rises [] ds none_rise lawful in
-    same_bins (merged cs (merged [] ds)) (merged cs ds) (merged_rises cs (merged [] ds) is middle.lawful) (merged_rises cs ds is lawful)
+    same_bins (merged cs (merged [] ds)) (merged cs ds) (merged_rises cs (merged [] ds) is middle.lawful)
+    (merged_rises cs ds is lawful)
     (λ bin.
     let one = count_of-merged cs (merged [] ds) bin in
     let two = count_of-merged [] ds bin in

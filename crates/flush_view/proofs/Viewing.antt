@@ -30,7 +30,8 @@ use Rattle.flush_view.proofs.Following.{totals_behind, bins_behind, units_alone,
 use Rattle.flush_view.proofs.Picked.{metrics_picked, all_in_order, ids_within, same_rows}
 use Rattle.flush_view.proofs.Replayed.{applied_between}
 
-each_so : {X : Type 0} (P Q : X → Type 0) → ((x : X) → P x → Q x) → (xs : List X) → AllByRecursion P xs → AllByRecursion Q xs
+each_so : {X : Type 0} (P Q : X → Type 0) → ((x : X) → P x → Q x) → (xs : List X) → AllByRecursion P xs
+    → AllByRecursion Q xs
 each_so P Q so [] all = tt
 each_so P Q so (x ∷ xs) all = (so x all.0, each_so P Q so xs all.1)
 
@@ -53,7 +54,8 @@ taken_to n log = elim (leb_tells n (length log)) [
   | inr h ↦
       let past = h.1 in
       let whole : min n (length log) ≡ length log = omega (arith, past) in
-      ap (λ (m : ℕ). take m log) whole ∙ take_all (length log) log (omega arith) ∙ sym (take_all n log (omega (arith, past)))
+      ap (λ (m : ℕ). take m log) whole ∙ take_all (length log) log (omega arith)
+      ∙ sym (take_all n log (omega (arith, past)))
 ]
 
 place_in : (flushes : List FlushRecord) (k : ℕ) (flush : FlushRecord) → slice_get flushes k ≡ Some flush
@@ -74,7 +76,8 @@ module _ (config : Config) (report : Report) (can : IsShowable config report) (k
       let rise = can.rising k (suc k) 0 (omega arith) (omega (arith, within, long)) in
       omega (arith, here, later, rise)
 
-  pub followed_on : (old new : Progress) → HasFollowed config report k old → Follows report.log flush old new → HasFollowed config report (suc k) new
+  pub followed_on : (old new : Progress) → HasFollowed config report k old → Follows report.log flush old new
+      → HasFollowed config report (suc k) new
   followed_on old new was follows =
       let first = first_state config.tags (ends_in report.log) in
       let log = report.log in
@@ -99,14 +102,17 @@ module _ (config : Config) (report : Report) (can : IsShowable config report) (k
         slots = ap length follows.cumulative ∙ wide ∙ held;
         totals = λ id below.
             ap (λ (l : List ℕ). get_or l id 0) follows.totals
-            ∙ totals_behind config report can k flush at old.totals.items id (omega (arith, below, had)) (was.totals id below);
+            ∙ totals_behind config report can k flush at old.totals.items id (omega (arith, below, had))
+            (was.totals id below);
         bins = λ id below.
             ap (λ (l : Slots). bins_at l id) follows.cumulative
-            ∙ bins_behind config report can k flush at old.cumulative.items id (omega (arith, below, held)) (was.bins id below);
+            ∙ bins_behind config report can k flush at old.cumulative.items id (omega (arith, below, held))
+            (was.bins id below);
       }
 
   module _ (before : State) (totals : List ℕ) (cumulative : Slots)
-      (total_at : (id : ℕ) → id < metrics_made config report → get_or totals id 0 ≡ flushed id (take (suc k) report.flushes))
+      (total_at : (id : ℕ) → id < metrics_made config report
+      → get_or totals id 0 ≡ flushed id (take (suc k) report.flushes))
       (all_at : (id : ℕ) → id < metrics_made config report
       → bins_at cumulative id ≡ merged_parts (flat_map (parts_on id) (take (suc k) report.flushes)))
       (count : ℕ) (counts : count ≡ metrics_made config report) where
@@ -122,17 +128,25 @@ module _ (config : Config) (report : Report) (can : IsShowable config report) (k
     within : AllByRecursion (λ (numbered : NumberedMetric). numbered.0 < count) ordered
     within =
         let long = length-map last.metrics (λ row. row.metric) in
-        each_so (λ (numbered : NumberedMetric). numbered.0 < 0 + length (metrics_of last)) (λ numbered. numbered.0 < count)
+        each_so (λ (numbered : NumberedMetric). numbered.0 < 0 + length (metrics_of last))
+        (λ numbered. numbered.0 < count)
         (λ numbered below. omega (arith, below, long, counts)) ordered
-        (all_in_order (λ (numbered : NumberedMetric). numbered.0 < 0 + length (metrics_of last)) (numbered_metrics last) (ids_within 0 (metrics_of last)))
+        (all_in_order (λ (numbered : NumberedMetric). numbered.0 < 0 + length (metrics_of last))
+        (numbered_metrics last) (ids_within 0 (metrics_of last)))
 
     module _ {R : Type 0} (kind : Kind) (f g : NumberedMetric → R) (p q : ℕ → Bool)
-        (same : (numbered : NumberedMetric) → numbered.0 < count → (f numbered ≡ g numbered) × (p numbered.0 ≡ q numbered.0)) where
+        (same : (numbered : NumberedMetric) → numbered.0 < count
+        → (f numbered ≡ g numbered) × (p numbered.0 ≡ q numbered.0)) where
       rows_same : map f (picked kind p ordered) ≡ map g (metrics_shown kind q last)
       rows_same =
-          same_rows f g (λ numbered. same_kind numbered.1.kind kind && p numbered.0) (λ numbered. same_kind numbered.1.kind kind && q numbered.0) ordered
+          same_rows f g (λ numbered. same_kind numbered.1.kind kind && p numbered.0)
+          (λ numbered. same_kind numbered.1.kind kind && q numbered.0) ordered
           (each_so (λ (numbered : NumberedMetric). numbered.0 < count) _
-          (λ numbered below. ((same numbered below).0, ap (λ b. same_kind numbered.1.kind kind && b) (same numbered below).1)) ordered within)
+          (λ numbered below. (
+            (same numbered below).0,
+            ap (λ b. same_kind numbered.1.kind kind && b)
+                (same numbered below).1,
+          )) ordered within)
           ∙ ap (map g) (metrics_picked kind q last)
 
     abbrev bounds : List ℕ → List Bound
@@ -148,13 +162,15 @@ module _ (config : Config) (report : Report) (can : IsShowable config report) (k
           ap (λ n. has_not_gone before numbered.0 || nat_lt 0 n) delta,
         ))
 
-    gauges_same : map (gauge_at (with_readings (replicate count 0) flush.gauges)) (picked Gauge (has_not_gone before) ordered)
+    gauges_same : map (gauge_at (with_readings (replicate count 0) flush.gauges))
+        (picked Gauge (has_not_gone before) ordered)
         ≡ map (gauge_row flush) (metrics_shown Gauge (has_not_gone before) last)
     gauges_same = rows_same Gauge _ _ _ _ (λ numbered below.
         let word = words_alone flush count numbered.0 below in
         (λ i. record { name = numbered.1.name; tagged = numbered.1.tagged; value = word i }, refl))
 
-    texts_same : map (text_row before) (picked Text (has_not_gone before) ordered) ≡ map (text_row before) (metrics_shown Text (has_not_gone before) last)
+    texts_same : map (text_row before) (picked Text (has_not_gone before) ordered)
+        ≡ map (text_row before) (metrics_shown Text (has_not_gone before) last)
     texts_same = ap (map (text_row before)) (metrics_picked Text (has_not_gone before) last)
 
     histograms_same : map (histogram_at bounds (with_parts (replicate count None) flush.parts) cumulative)
@@ -178,7 +194,8 @@ module _ (config : Config) (report : Report) (can : IsShowable config report) (k
           counters = map (counter_row flush so_far) (metrics_shown Counter (has_counter_row before flush) last);
           gauges = map (gauge_row flush) (metrics_shown Gauge (has_not_gone before) last);
           texts = map (text_row before) (metrics_shown Text (has_not_gone before) last);
-          histograms = map (histogram_row bounds flush so_far) (metrics_shown Histogram (has_histogram_row before flush) last);
+          histograms =
+              map (histogram_row bounds flush so_far) (metrics_shown Histogram (has_histogram_row before flush) last);
         }
     rows_kept = λ i. record {
       counters = counters_same i;
@@ -191,13 +208,17 @@ module _ (config : Config) (report : Report) (can : IsShowable config report) (k
   pub view_is : (new : Progress) (metrics : List NumberedMetric) → HasFollowed config report (suc k) new
       → new.book.state ≡ state_before (view_rules config).names report.log flush
       → metrics ≡ ordered_metrics config report
-      → view_kept (view_rules config).bounds new.book.state (kept_of (length metrics) flush new.totals.items new.cumulative.items) metrics
+      → view_kept (view_rules config).bounds new.book.state
+      (kept_of (length metrics) flush new.totals.items new.cumulative.items) metrics
       ≡ view_of (view_rules config) report.log flush (take (suc k) report.flushes)
   view_is new metrics followed before is =
       let count : length (ordered_metrics config report) ≡ metrics_made config report =
       length-by_name row_name (numbered_metrics (last_book config report))
       ∙ length-enumerate_from 0 (metrics_of (last_book config report))
       ∙ length-map (last_book config report).metrics (λ row. row.metric) in
-      (λ i. view_kept (view_rules config).bounds (before i) (kept_of (length (is i)) flush new.totals.items new.cumulative.items) (is i))
-      ∙ rows_kept (state_before (view_rules config).names report.log flush) new.totals.items new.cumulative.items followed.totals followed.bins
+      (λ i. view_kept (view_rules config).bounds (before i)
+      (kept_of (length (is i)) flush new.totals.items new.cumulative.items) (is i))
+      ∙ rows_kept
+      (state_before
+      (view_rules config).names report.log flush) new.totals.items new.cumulative.items followed.totals followed.bins
       (length (ordered_metrics config report)) count

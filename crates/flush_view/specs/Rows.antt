@@ -67,7 +67,8 @@ pub record Figures : Type 0 where
 -- the view of these metrics, where this is the book before the sweep
 abbrev pub view_kept : (List ℕ → List Bound) → State → Figures → List NumberedMetric → FlushView
 view_kept bounds before figures metrics = record {
-  counters = map (counter_at figures.units figures.totals) (picked Counter (shows_counter before figures.units) metrics);
+  counters = map (counter_at figures.units figures.totals)
+      (picked Counter (shows_counter before figures.units) metrics);
   gauges = map (gauge_at figures.words) (picked Gauge (has_not_gone before) metrics);
   texts = map (text_row before) (picked Text (has_not_gone before) metrics);
   histograms = map (histogram_at bounds figures.intervals figures.cumulative)

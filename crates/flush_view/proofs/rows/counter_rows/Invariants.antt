@@ -5,4 +5,6 @@ use Rattle.flush_view.proofs.rows.counter_rows.Given as goal
 
 abbrev pub invariant-loop-numbered : goal.invariant-loop-numbered
 invariant-loop-numbered l =
-    l.rows.items ≡ map (counter_at l.units l.totals) (picked Counter (shows_counter l.book.state l.units) (take l.numbered-index l.metrics))
+    l.rows.items
+    ≡ map (counter_at l.units l.totals)
+    (picked Counter (shows_counter l.book.state l.units) (take l.numbered-index l.metrics))

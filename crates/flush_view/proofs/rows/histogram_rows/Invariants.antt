@@ -6,4 +6,6 @@ use Rattle.flush_view.proofs.rows.histogram_rows.Given as goal
 
 abbrev pub invariant-loop-numbered : goal.invariant-loop-numbered
 invariant-loop-numbered l =
-    l.rows.items ≡ map (histogram_at (bounds_for l.buckets) l.intervals l.cumulative) (picked Histogram (shows_histogram l.book.state l.intervals) (take l.numbered-index l.metrics))
+    l.rows.items
+    ≡ map (histogram_at (bounds_for l.buckets) l.intervals l.cumulative)
+    (picked Histogram (shows_histogram l.book.state l.intervals) (take l.numbered-index l.metrics))

@@ -6,4 +6,5 @@ use Rattle.flush_view.proofs.rows.text_rows.Given as goal
 
 abbrev pub invariant-loop-numbered : goal.invariant-loop-numbered
 invariant-loop-numbered l =
-    l.rows.items ≡ map (text_row l.book.state) (picked Text (has_not_gone l.book.state) (take l.numbered-index l.metrics))
+    l.rows.items
+    ≡ map (text_row l.book.state) (picked Text (has_not_gone l.book.state) (take l.numbered-index l.metrics))

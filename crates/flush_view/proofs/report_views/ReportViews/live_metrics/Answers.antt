@@ -14,8 +14,10 @@ pub returns : goal.returns
 returns c =
     let config = c.self.inside.config.now in
     let report = c.self.inside.report.now in
-    subst (λ (all : List Metric). IfOk c.live_in_order.result (λ metrics. map (λ metric. metric.now) metrics.items ≡ all))
-    (ap (λ (metrics : List NumberedMetric). by_name (λ (metric : Metric). metric.name) (flat_map (live_in metrics) kinds)) (c.deref.ensures.value ∙ c.self.invariant.metrics)
+    subst (λ (all : List Metric). IfOk c.live_in_order.result
+    (λ metrics. map (λ metric. metric.now) metrics.items ≡ all))
+    (ap (λ (metrics : List NumberedMetric). by_name (λ (metric : Metric). metric.name)
+    (flat_map (live_in metrics) kinds)) (c.deref.ensures.value ∙ c.self.invariant.metrics)
     ∙ live_are (last_book config report)
     ∙ ap (λ (v : ViewHistory). live_metrics (last_book v.config v.report)) c.self.view_is)
     c.live_in_order.ensures

@@ -17,31 +17,38 @@ pub follow-requires-clause-next : goal.follow-requires-clause-next
 follow-requires-clause-next c =
     let v = c.self.inside in
     let ready = c.self.invariant.ready (ap (λ (h : ViewHistory). h.whole) c.self.view_is ∙ c.requires.whole) in
-    let at = get_read c.items.result.now v.given c.in-Some.flush.now c.in-Some.ensures.lookup.3.0 c.in-Some.ensures.lookup.1 in
+    let look = c.in-Some.ensures.lookup in
+    let at = get_read c.items.result.now v.given c.in-Some.flush.now look.3.0 look.1 in
     entries_next v.config.now v.report.now v.given v.progress ready c.in-Some.flush.now
-    (ap (λ (l : List FlushRecord). slice_get l v.given) (sym c.items.ensures) ∙ at) c.items-2.result.now c.items-2.ensures
+    (ap (λ (l : List FlushRecord). slice_get l v.given) (sym c.items.ensures)
+    ∙ at) c.items-2.result.now c.items-2.ensures
 
 pub follow-requires-clause-room : goal.follow-requires-clause-room
 follow-requires-clause-room c =
     let v = c.self.inside in
     let ready = c.self.invariant.ready (ap (λ (h : ViewHistory). h.whole) c.self.view_is ∙ c.requires.whole) in
-    let at = get_read c.items.result.now v.given c.in-Some.flush.now c.in-Some.ensures.lookup.3.0 c.in-Some.ensures.lookup.1 in
+    let look = c.in-Some.ensures.lookup in
+    let at = get_read c.items.result.now v.given c.in-Some.flush.now look.3.0 look.1 in
     room_beside v.config.now v.report.now ready.showable v.given c.in-Some.flush.now
-    (ap (λ (l : List FlushRecord). slice_get l v.given) (sym c.items.ensures) ∙ at) v.progress.cumulative.items ready.followed.slots ready.followed.bins
+    (ap (λ (l : List FlushRecord). slice_get l v.given) (sym c.items.ensures)
+    ∙ at) v.progress.cumulative.items ready.followed.slots ready.followed.bins
 
 pub view-requires-clause-texts : goal.view-requires-clause-texts
 view-requires-clause-texts c =
     let v = c.self.inside in
     let ready = c.self.invariant.ready (ap (λ (h : ViewHistory). h.whole) c.self.view_is ∙ c.requires.whole) in
-    subst (All (λ (numbered : NumberedMetric). IsUtf8 numbered.1.name)) (sym (c.deref.ensures.value ∙ c.self.invariant.metrics))
-    (All-from_recursion (λ (numbered : NumberedMetric). IsUtf8 numbered.1.name) (ordered_metrics v.config.now v.report.now)
+    subst (All (λ (numbered : NumberedMetric). IsUtf8 numbered.1.name))
+    (sym (c.deref.ensures.value ∙ c.self.invariant.metrics))
+    (All-from_recursion (λ (numbered : NumberedMetric). IsUtf8 numbered.1.name)
+    (ordered_metrics v.config.now v.report.now)
     (ordered_texts v.config.now v.report.now ready.next))
 
 pub view-requires-clause-room : goal.view-requires-clause-room
 view-requires-clause-room c =
     let v = c.self.inside in
     let ready = c.self.invariant.ready (ap (λ (h : ViewHistory). h.whole) c.self.view_is ∙ c.requires.whole) in
-    let at = get_read c.items.result.now v.given c.in-Some.flush.now c.in-Some.ensures.lookup.3.0 c.in-Some.ensures.lookup.1 in
+    let look = c.in-Some.ensures.lookup in
+    let at = get_read c.items.result.now v.given c.in-Some.flush.now look.3.0 look.1 in
     room_alone v.config.now v.report.now ready.showable v.given c.in-Some.flush.now
     (ap (λ (l : List FlushRecord). slice_get l v.given) (sym c.items.ensures) ∙ at) (length c.deref.result.now)
 
@@ -49,7 +56,8 @@ pub invariant_of-self-2 : goal.invariant_of-self-2
 invariant_of-self-2 c =
     let v = c.self.inside in
     let ready = c.self.invariant.ready (ap (λ (h : ViewHistory). h.whole) c.self.view_is ∙ c.requires.whole) in
-    let at = get_read c.items.result.now v.given c.in-Some.flush.now c.in-Some.ensures.lookup.3.0 c.in-Some.ensures.lookup.1 in
+    let look = c.in-Some.ensures.lookup in
+    let at = get_read c.items.result.now v.given c.in-Some.flush.now look.3.0 look.1 in
     record {
       metrics = c.self.invariant.metrics;
       buckets = c.self.invariant.buckets;
@@ -62,7 +70,8 @@ pub returns-clause-shown : goal.returns-clause-shown
 returns-clause-shown c =
     let v = c.self.inside in
     let ready = c.self.invariant.ready (ap (λ (h : ViewHistory). h.whole) c.self.view_is ∙ c.requires.whole) in
-    let at = get_read c.items.result.now v.given c.in-Some.flush.now c.in-Some.ensures.lookup.3.0 c.in-Some.ensures.lookup.1 in
+    let look = c.in-Some.ensures.lookup in
+    let at = get_read c.items.result.now v.given c.in-Some.flush.now look.3.0 look.1 in
     ap (λ (view : FlushView). Some view) c.in_ok-view.ensures
     ∙ ap (λ (settings : List BucketSpec). Some (view_kept (bounds_for settings) c.follow.new.self.book.state
     (kept_of (length c.deref.result.now) c.in-Some.flush.now c.follow.new.self.totals.items c.follow.new.self.cumulative.items) c.deref.result.now)) c.self.invariant.buckets
