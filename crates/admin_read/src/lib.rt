@@ -30,7 +30,7 @@ fn write_rows<O: Sink>(alloc: Global, rows: &[StatRow<'_>], out: &mut O) -> Resu
 {
     let mut text = Vec::new(alloc);
     for row in rows {
-        put_row(alloc, &mut text, row)?;
+        put_row(&mut text, row)?;
         push_full(&mut text, out)?;
     }
     push_all(out, &text)?;

@@ -3,9 +3,10 @@ use Rattle.std.proofs.Common.{◌≡◌, ℕ, List, [], ◌∷◌, ◌++◌, sym
 use Rattle.std.specs.List.{flat_map, join_by}
 use Rattle.std.specs.Fmt.{decimal}
 use Rattle.stat_defs.specs.declared.metrics.Tagged.{Tagged}
+use Rattle.stat_defs.specs.declared.views.HistRow.{HistRow}
 use Rattle.prom_text.specs.Labels.{printed_name, bound_label}
-use Rattle.prom_text.specs.Prometheus.{labels_of, bucket_line}
-use Rattle.prom_text.specs.Rows.{bucket_begin, bucket_end}
+use Rattle.prom_text.specs.Prometheus.{labels_of, bucket_line, bound_line}
+use Rattle.prom_text.specs.Rows.{bucket_begin, bucket_end, bucket_lines}
 
 -- a separator before each is one behind each
 moved : (sep x : List ℕ) (xs : List (List ℕ))
@@ -42,3 +43,13 @@ pub bucket_put : (tagged : Tagged) (bound : List ℕ) (count : ℕ) (old begun b
 bucket_put tagged bound count old begun bounded new a b c =
     c ∙ ap (λ l. l ++ bucket_end count) (b ∙ ap (λ l. l ++ bound) a)
     ∙ four old (bucket_begin tagged) bound (bucket_end count) ∙ ap (λ l. old ++ l) (sym (bucket_parts tagged bound count))
+
+-- the line of all values behind those of the bounds
+pub last_put : (row : HistRow) (count : ℕ) (old begun bounded new : List ℕ) → begun ≡ bucket_begin row.tagged
+    → bounded ≡ old ++ flat_map (bound_line row) row.bounds → new ≡ bounded ++ (begun ++ (codes "+Inf" ++ bucket_end count))
+    → new ≡ old ++ bucket_lines row count
+last_put row count old begun bounded new a b c =
+    c ∙ ap (λ l. bounded ++ (l ++ (codes "+Inf" ++ bucket_end count))) a
+    ∙ ap (λ l. bounded ++ l) (sym (bucket_parts row.tagged (codes "+Inf") count))
+    ∙ ap (λ l. l ++ bucket_line row.tagged (codes "+Inf") count) b
+    ∙ append_assoc old (flat_map (bound_line row) row.bounds) (bucket_line row.tagged (codes "+Inf") count)

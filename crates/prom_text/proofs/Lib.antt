@@ -8,3 +8,4 @@ pub mod Steps
 pub mod Reading
 pub mod Bytes
 pub mod TextBytes
+pub mod Plain

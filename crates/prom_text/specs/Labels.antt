@@ -1,7 +1,7 @@
 -- The names and labels of Prometheus's text format: what stands for a byte that is not allowed, and how a label's value is
 -- escaped (the Prometheus exposition format; the prefix, the byte that stands for others, and the order of labels are this
 -- project's own).
-use Rattle.std.specs.Prelude.{ℕ, Bool, false, ◌==◌, ◌&&◌, nat_le, if◌then◌else◌, List, [], ◌∷◌, ◌++◌, map, codes}
+use Rattle.std.specs.Prelude.{ℕ, Bool, false, not, ◌==◌, ◌&&◌, ◌||◌, nat_le, if◌then◌else◌, List, [], ◌∷◌, ◌++◌, map, codes}
 use Rattle.std.specs.List.{flat_map, join_by}
 use Rattle.stat_defs.specs.Names.{is_label_byte}
 use Rattle.stat_defs.specs.declared.metrics.Tag.{Tag}
@@ -32,6 +32,10 @@ escaped_byte b =
 
 abbrev pub escaped : List ℕ → List ℕ
 escaped value = flat_map escaped_byte value
+
+-- a byte that is written as it is
+abbrev pub is_plain_byte : ℕ → Bool
+is_plain_byte b = not (b == 92 || (b == 34 || b == 10))
 
 -- `name="value"`
 abbrev pub label : Tag → List ℕ

@@ -3,8 +3,9 @@ use Rattle.std.specs.Prelude.{ℕ, Bool, true, not, if◌then◌else◌, Option,
 use Rattle.std.specs.List.{flat_map}
 use Rattle.std.specs.Fmt.{decimal}
 use Rattle.stat_defs.specs.declared.metrics.Tagged.{Tagged}
+use Rattle.stat_defs.specs.declared.views.HistRow.{HistRow}
 use Rattle.prom_text.specs.Labels.{printed_name}
-use Rattle.prom_text.specs.Prometheus.{labels_of, type_line, member_lines}
+use Rattle.prom_text.specs.Prometheus.{labels_of, bucket_line, bound_line, type_line, member_lines}
 use Rattle.prom_text.specs.declared.rows.Row.{Row}
 use Rattle.prom_text.specs.declared.rows.Row.TheVariants.{Counter, Gauge, Histogram}
 use Rattle.prom_text.specs.Members.{Member, CounterMember, GaugeMember, HistogramMember, same_group}
@@ -23,6 +24,11 @@ bucket_begin tagged =
 -- and from its bound on
 abbrev pub bucket_end : ℕ → List ℕ
 bucket_end count = codes "\"}" ++ (32 ∷ (decimal count ++ 10 ∷ []))
+
+-- a line for each bound, and one for so many values
+abbrev pub bucket_lines : HistRow → ℕ → List ℕ
+bucket_lines row count =
+    flat_map (bound_line row) row.bounds ++ bucket_line row.tagged (codes "+Inf") count
 
 -- another name or kind than that of the member before
 abbrev pub begins_group : Option Member → Member → Bool

@@ -1,9 +1,9 @@
 //! Names and labels as the format allows them.
 ghost use Rattle.std.specs.Prelude.{◌≡◌, ◌++◌, OnOk, map, codes};
-ghost use Rattle.std.specs.List.{flat_map, join_by};
+ghost use Rattle.std.specs.List.{flat_map, join_by, list_all};
 ghost use Rattle.std.specs.Ordering.{nat_cmp};
 ghost use Rattle.std.specs.Cmp.Lexicographic.{slice_cmp};
-ghost use Rattle.prom_text.specs.Labels.{printed_byte, printed_name as name_text, label_name as label_name_text, begins_with_digit as has_first_digit, escaped_byte, escaped, label as label_text};
+ghost use Rattle.prom_text.specs.Labels.{printed_byte, printed_name as name_text, label_name as label_name_text, begins_with_digit as has_first_digit, escaped_byte, escaped, is_plain_byte, label as label_text};
 
 use stat_defs::Tag;
 use std::alloc::AllocError;
@@ -18,13 +18,23 @@ fn printed(b: u8) -> u8
     }
 }
 
+/// How two bytes compare, as they are printed. Equal ones, which most are, need no look.
+fn compare_bytes(a: u8, b: u8) -> Ordering
+    ensures { result ≡ nat_cmp (printed_byte a) (printed_byte b) }
+{
+    if a == b {
+        return Ordering::Equal;
+    }
+    printed(a).cmp(&printed(b))
+}
+
 /// How two names compare, as they are printed.
 #[tactic(auto, using(crate::proofs::Names::compared_at, crate::proofs::Names::compared_ends))]
 pub(crate) fn compare_printed(a: &[u8], b: &[u8]) -> Ordering
     ensures { result ≡ slice_cmp nat_cmp (map printed_byte a.now) (map printed_byte b.now) }
 {
     for i in 0..a.len().min(b.len()) {
-        let order = printed(a[i]).cmp(&printed(b[i]));
+        let order = compare_bytes(a[i], b[i]);
         if order != Ordering::Equal {
             return order;
         }
@@ -35,8 +45,9 @@ pub(crate) fn compare_printed(a: &[u8], b: &[u8]) -> Ordering
 fn put_printed(text: &mut Vec<u8>, bytes: &[u8]) -> Result<(), AllocError>
     ensures { OnOk result (text.new.items ≡ text.old.items ++ map printed_byte bytes.now) }
 {
+    text.reserve(bytes.len())?;
     for b in bytes {
-        text.push(printed(*b))?;
+        text.push_reserved(printed(*b));
     }
     Ok(())
 }
@@ -78,9 +89,26 @@ fn put_escaped_byte(text: &mut Vec<u8>, b: u8) -> Result<(), AllocError>
     }
 }
 
+fn is_plain(b: u8) -> bool
+    ensures { result ≡ is_plain_byte b }
+{
+    b != b'\\' && b != b'"' && b != b'\n'
+}
+
+/// Whether no byte of a value is escaped.
+fn are_plain(value: &[u8]) -> bool
+    ensures { result ≡ list_all is_plain_byte value.now }
+{
+    value.iter().all(|b| is_plain(*b))
+}
+
+#[tactic(auto, using(crate::proofs::Plain::escaped_plain))]
 fn put_escaped(text: &mut Vec<u8>, value: &[u8]) -> Result<(), AllocError>
     ensures { OnOk result (text.new.items ≡ text.old.items ++ escaped value.now) }
 {
+    if are_plain(value) {
+        return text.extend_from_slice(value);
+    }
     for b in value {
         put_escaped_byte(text, *b)?;
     }

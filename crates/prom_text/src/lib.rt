@@ -18,9 +18,9 @@ mod tests;
 pub use laws::{groups_law, text_law};
 use lines::{put_row, put_type};
 use rows::{Row, is_same_group, rows_in_order};
-use stat_defs::{FlushView, NoMemory};
+use stat_defs::FlushView;
 use stats_io::{Sink, push_all};
-use std::alloc::Global;
+use std::alloc::{AllocError, Global};
 use text_parts::{TextFault, push_full};
 
 fn begins_group(before: &Option<Row<'_>>, row: &Row<'_>) -> bool
@@ -37,7 +37,7 @@ fn put_member(
     text: &mut Vec<u8>,
     before: &Option<Row<'_>>,
     row: &Row<'_>,
-) -> Result<(), NoMemory>
+) -> Result<(), AllocError>
     requires { HasHistogram (member_of row.now) }
     ensures { OnOk result (text.new.items
         ≡ text.old.items ++ member_text (option_map member_of before.now) (member_of row.now)) }

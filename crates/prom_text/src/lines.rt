@@ -2,20 +2,20 @@
 ghost use Rattle.std.specs.Prelude.{◌≡◌, ◌++◌, ◌∷◌, [], OnOk, codes, map};
 ghost use Rattle.std.specs.Fmt.{decimal, signed_decimal};
 ghost use Rattle.std.specs.List.{flat_map};
-ghost use Rattle.loglinear_bins.specs.Counts.{sum_of};
 ghost use Rattle.text_parts.specs.Decimals.{halves, twentieths};
 ghost use Rattle.text_parts.specs.Histograms.{IsHistogram};
 ghost use Rattle.prom_text.specs.Labels.{printed_name, label as label_text, braced};
 ghost use Rattle.prom_text.specs.Members.{kind_word as word_of};
-ghost use Rattle.prom_text.specs.Prometheus.{sample, labels_of, bucket_line, bound_line, histogram_lines, member_lines, type_line, HasHistogram};
-ghost use Rattle.prom_text.specs.Rows.{member_of, bucket_begin, bucket_end};
+ghost use Rattle.prom_text.specs.Prometheus.{sample, labels_of, bound_line, histogram_lines, member_lines, type_line, HasHistogram};
+ghost use Rattle.prom_text.specs.Rows.{member_of, bucket_begin, bucket_end, bucket_lines};
 
 use crate::labels::{put_label, put_labels, put_name};
 use crate::rows::Row;
-use loglinear_bins::Bins;
-use stat_defs::{Bound, CounterRow, GaugeRow, HistRow, NoMemory, Tag, Tagged};
+use stat_defs::{Bound, CounterRow, GaugeRow, HistRow, Tag, Tagged};
 use std::alloc::{AllocError, Global};
-use text_parts::{put_halves, put_number, put_signed, put_twentieths};
+use text_parts::{
+    put_halves, put_number, put_signed, put_twentieths, sum_twentieths, values_in, values_up_to,
+};
 
 /// Appends ` VALUE` for a number and ends the line.
 fn end_with_number(text: &mut Vec<u8>, n: u64) -> Result<(), AllocError>
@@ -89,50 +89,71 @@ fn end_bucket(text: &mut Vec<u8>, count: u64) -> Result<(), AllocError>
     end_with_number(text, count)
 }
 
+/// Appends the line of a bound's bucket, of which the begin is given.
 fn put_bucket(
     text: &mut Vec<u8>,
-    tagged: &Tagged,
+    begin: &[u8],
+    row: &HistRow,
     bound: Bound,
-    count: u64,
 ) -> Result<(), AllocError>
-    ensures { OnOk result (text.new.items
-        ≡ text.old.items ++ bucket_line tagged.now (halves bound.halves) count) }
+    requires histogram { IsHistogram row.now.cumulative }
+    requires begin { begin.now ≡ bucket_begin row.now.tagged }
+    ensures { OnOk result (text.new.items ≡ text.old.items ++ bound_line row.now bound) }
 {
-    begin_bucket(text, tagged)?;
+    text.extend_from_slice(begin)?;
     put_halves(text, bound.halves)?;
-    end_bucket(text, count)?;
+    end_bucket(text, values_up_to(row.cumulative.items(), bound))?;
     Ok(())
 }
 
-fn put_last_bucket(text: &mut Vec<u8>, tagged: &Tagged, count: u64) -> Result<(), AllocError>
-    ensures { OnOk result (text.new.items ≡ text.old.items ++ bucket_line tagged.now (codes "+Inf") count) }
+/// Appends the line of the bucket of all values, of which the begin is given.
+fn put_last_bucket(text: &mut Vec<u8>, begin: &[u8], count: u64) -> Result<(), AllocError>
+    ensures { OnOk result (text.new.items
+        ≡ text.old.items ++ (begin.now ++ (codes "+Inf" ++ bucket_end count))) }
 {
-    begin_bucket(text, tagged)?;
+    text.extend_from_slice(begin)?;
     text.extend_from_slice(b"+Inf")?;
-    end_bucket(text, count)?;
-    Ok(())
+    end_bucket(text, count)
 }
 
-fn put_buckets(text: &mut Vec<u8>, row: &HistRow, bins: &Bins) -> Result<(), AllocError>
-    requires { bins.now ≡ row.now.cumulative }
+fn put_bounds(text: &mut Vec<u8>, begin: &[u8], row: &HistRow) -> Result<(), AllocError>
+    requires histogram { IsHistogram row.now.cumulative }
+    requires begin { begin.now ≡ bucket_begin row.now.tagged }
     ensures { OnOk result (text.new.items ≡ text.old.items ++ flat_map (bound_line row.now) row.now.bounds) }
 {
     for bound in row.bounds.items() {
-        put_bucket(text, &row.tagged, *bound, bins.at_most(*bound))?;
+        put_bucket(text, begin, row, *bound)?;
     }
     Ok(())
 }
 
-fn put_sum(text: &mut Vec<u8>, tagged: &Tagged, bins: &Bins) -> Result<(), AllocError>
+/// Appends the lines of all buckets, which begin alike.
+fn put_buckets(
+    alloc: Global,
+    text: &mut Vec<u8>,
+    row: &HistRow,
+    count: u64,
+) -> Result<(), AllocError>
+    requires { IsHistogram row.now.cumulative }
+    ensures { OnOk result (text.new.items ≡ text.old.items ++ bucket_lines row.now count) }
+{
+    let mut begin = Vec::new(alloc);
+    begin_bucket(&mut begin, &row.tagged)?;
+    put_bounds(text, &begin, row)?;
+    put_last_bucket(text, &begin, count)?;
+    Ok(())
+}
+
+fn put_sum(text: &mut Vec<u8>, tagged: &Tagged, sum: u128) -> Result<(), AllocError>
     ensures { OnOk result (text.new.items ≡ text.old.items
         ++ sample (printed_name tagged.now.extracted ++ codes "_sum") (labels_of tagged.now)
-        (twentieths (sum_of bins.now))) }
+        (twentieths sum)) }
 {
     put_name(text, tagged.extracted.bytes())?;
     text.extend_from_slice(b"_sum")?;
     put_braced(text, tagged)?;
     text.push(b' ')?;
-    put_twentieths(text, bins.sum_twentieths())?;
+    put_twentieths(text, sum)?;
     text.push(b'\n')?;
     Ok(())
 }
@@ -148,29 +169,27 @@ fn put_count(text: &mut Vec<u8>, tagged: &Tagged, count: u64) -> Result<(), Allo
     end_with_number(text, count)
 }
 
-fn put_histogram(alloc: Global, text: &mut Vec<u8>, row: &HistRow) -> Result<(), NoMemory>
+fn put_histogram(alloc: Global, text: &mut Vec<u8>, row: &HistRow) -> Result<(), AllocError>
     requires { IsHistogram row.now.cumulative }
     ensures { OnOk result (text.new.items ≡ text.old.items ++ histogram_lines row.now) }
 {
-    let bins = Bins::of_pairs(alloc, row.cumulative.items())?;
-    put_buckets(text, row, &bins)?;
-    put_last_bucket(text, &row.tagged, bins.count())?;
-    put_sum(text, &row.tagged, &bins)?;
-    put_count(text, &row.tagged, bins.count())?;
-    Ok(())
+    let counts = row.cumulative.items();
+    let count = values_in(counts);
+    put_buckets(alloc, text, row, count)?;
+    put_sum(text, &row.tagged, sum_twentieths(counts))?;
+    put_count(text, &row.tagged, count)
 }
 
 /// Appends the lines of a row.
-pub(crate) fn put_row(alloc: Global, text: &mut Vec<u8>, row: &Row<'_>) -> Result<(), NoMemory>
+pub(crate) fn put_row(alloc: Global, text: &mut Vec<u8>, row: &Row<'_>) -> Result<(), AllocError>
     requires { HasHistogram (member_of row.now) }
     ensures { OnOk result (text.new.items ≡ text.old.items ++ member_lines (member_of row.now)) }
 {
     match row {
-        Row::Counter(row) => put_counter(text, row)?,
-        Row::Gauge(row) => put_gauge(text, row)?,
-        Row::Histogram(row) => put_histogram(alloc, text, row)?,
+        Row::Counter(row) => put_counter(text, row),
+        Row::Gauge(row) => put_gauge(text, row),
+        Row::Histogram(row) => put_histogram(alloc, text, row),
     }
-    Ok(())
 }
 
 fn kind_word(row: &Row<'_>) -> &'static str

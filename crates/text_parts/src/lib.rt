@@ -4,10 +4,13 @@
 
 mod buffer;
 mod fault;
+mod listed;
+mod measures;
 mod numbers;
 #[cfg(test)]
 mod tests;
 
 pub use buffer::{PUSH_BYTES, push_full};
 pub use fault::TextFault;
+pub use listed::{quantile, sum_twentieths, values_in, values_up_to};
 pub use numbers::{put_halves, put_number, put_signed, put_thousandths, put_twentieths};
