@@ -18,8 +18,10 @@ pub shows_too : (report : Report) → report.log ≡ tried_report.log → report
 shows_too report log flushes = record {
   legal = subst (λ (l : List Entry). Legal (view_rules plain_config).names plain_config.scopes (ends_in l) l) (sym log)
       tried_shows.legal;
-  rising = subst (λ (fs : List FlushRecord). IsNonDecreasing (map (λ flush. flush.at) fs)) (sym flushes) tried_shows.rising;
+  rising = subst (λ (fs : List FlushRecord). IsNonDecreasing (map (λ flush. flush.at) fs))
+      (sym flushes) tried_shows.rising;
   units = λ id. subst (λ (fs : List FlushRecord). flushed id fs < 2 ^ 63) (sym flushes) (tried_shows.units id);
   lawful = subst (λ (fs : List FlushRecord). AllByRecursion HasLawfulParts fs) (sym flushes) tried_shows.lawful;
-  values = λ id. subst (λ (fs : List FlushRecord). values_taken id fs ≤ MAX_COUNT) (sym flushes) (tried_shows.values id);
+  values = λ id. subst (λ (fs : List FlushRecord). values_taken id fs ≤ MAX_COUNT) (sym flushes)
+      (tried_shows.values id);
 }
