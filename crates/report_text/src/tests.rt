@@ -264,8 +264,8 @@ fn rules_and_buckets(alloc: Global) -> Result<(TagRules, Buckets), Fail>
     Ok((rules, buckets))
 }
 
-// What the report is as a text. The second flush has 2 units of counter 0, which the first sweep made gone, and so a row
-// for it and one for counter 4 of the same name; the last has none of it.
+// What the report is as a text. The second flush has 2 units of counter 0, which the first sweep made gone, and so a
+// row for it and one for counter 4 of the same name; the last has none of it.
 fn written(alloc: Global, format: Format, symbols: bool) -> Result<MemSink, Fail> {
     let config = config(alloc)?;
     let report = report(alloc)?;
