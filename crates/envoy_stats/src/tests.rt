@@ -9,48 +9,48 @@ use std::test::Fail;
 use tag_rules::RegexMaker;
 
 // Commands and what comes of them: rows parted by the byte 2, in each the words, the files `f1` and on, up to three, parted
-// by the byte 3, the number of the pull that fails in each, the status and the two outputs, parted by the byte 1.
+// by the byte 3, the number of the pull that fails in each if one does, the status and the two outputs, parted by the byte 1.
 const ROWS: &[u8] = b"\
-replay - f1\x01\x019\x010\x01# last\n# worker 1: 0 accepted, 0 dropped\n\x01\x02\
-replay - f1\x01inc root a 0\n\x019\x010\x01# last\n# worker 1: 1 accepted, 0 dropped\n\x01\x02\
-replay f1 f2\x01{}\x03inc web a 1\ninc root a 2\n\x019\x010\x01# last\nenvoy.a:2|c\n# worker 1: 1 accepted, 1 dropped\n\x01\x02\
-replay - f1\x01# x\ninc root b 2\n\ninc root a:b 1\ninc root b 40\x019\x010\x01# last\nenvoy.a_b:1|c\nenvoy.b:42|c\n# worker 1: 3 accepted, 0 dropped\n\x01\x02\
-replay - f1\x01inc root a 1\ninc root a 01\ninc root a 1\n\x019\x013\x01# last\nenvoy.a:1|c\n# worker 1: 1 accepted, 0 dropped\n\x01file 1 line 2: no event\n\x02\
+replay - f1\x01\x01\x010\x01# last\n# worker 1: 0 accepted, 0 dropped\n\x01\x02\
+replay - f1\x01inc root a 0\n\x01\x010\x01# last\n# worker 1: 1 accepted, 0 dropped\n\x01\x02\
+replay f1 f2\x01{}\x03inc web a 1\ninc root a 2\n\x01\x010\x01# last\nenvoy.a:2|c\n# worker 1: 1 accepted, 1 dropped\n\x01\x02\
+replay - f1\x01# x\ninc root b 2\n\ninc root a:b 1\ninc root b 40\x01\x010\x01# last\nenvoy.a_b:1|c\nenvoy.b:42|c\n# worker 1: 3 accepted, 0 dropped\n\x01\x02\
+replay - f1\x01inc root a 1\ninc root a 01\ninc root a 1\n\x01\x013\x01# last\nenvoy.a:1|c\n# worker 1: 1 accepted, 0 dropped\n\x01file 1 line 2: no event\n\x02\
 replay - f1\x01inc root a 1\ninc root b 2\n\x011\x014\x01# last\nenvoy.a:1|c\n# worker 1: 1 accepted, 0 dropped\n\x01file 1: read failed\n\x02\
-replay - f1 f2\x01inc root a 1\x03inc root b 2\n# x\nbogus\ninc root c 1\x019\x013\x01# last\nenvoy.a:1|c\nenvoy.b:2|c\n# worker 1: 1 accepted, 0 dropped\n# worker 2: 1 accepted, 0 dropped\n\x01file 2 line 3: no event\n\x02\
+replay - f1 f2\x01inc root a 1\x03inc root b 2\n# x\nbogus\ninc root c 1\x01\x013\x01# last\nenvoy.a:1|c\nenvoy.b:2|c\n# worker 1: 1 accepted, 0 dropped\n# worker 2: 1 accepted, 0 dropped\n\x01file 2 line 3: no event\n\x02\
 replay - f1 f2\x01x\n\x03inc root a 1\ninc root b 2\n\x011\x013\x01# last\nenvoy.a:1|c\n# worker 1: 0 accepted, 0 dropped\n# worker 2: 1 accepted, 0 dropped\n\x01file 1 line 1: no event\nfile 2: read failed\n\x02\
-replay f1 f2\x01{\"stats_config\":{\"stats_matcher\":{\"inclusion_list\":{\"patterns\":[{\"prefix\":\"cluster.\"}]}}}}\x03inc root cluster.x 1\ninc root server.y 1\x019\x010\x01# last\nenvoy.cluster.x:1|c\n# worker 1: 1 accepted, 1 dropped\n\x01\x02\
-replay f1 f2\x01{\"stats_run\":{\"flushes\":3,\"reads\":2,\"scopes\":[{\"label\":\"x\",\"prefix\":\"p\"},{\"label\":\"y\",\"prefix\":\"p.\"}]}}\x03inc x a 1\ninc y a 2\x019\x010\x01# last\nenvoy.p.a:3|c\n# worker 1: 2 accepted, 0 dropped\n\x01\x02\
-replay f1 f2\x01{\"stats_config\":{\"use_all_default_tags\":true,\"stats_tags\":[{\"tag_name\":\"region\",\"fixed_value\":\"eu-1\"}],\"stats_matcher\":{\"exclusion_list\":{\"patterns\":[{\"prefix\":\"cluster.api.internal.\"},{\"safe_regex\":{\"regex\":\".*\\\\.debug\"}}]}},\"histogram_bucket_settings\":[{\"match\":{\"suffix\":\"_ms\"},\"buckets\":[10,50,100,1000]}]},\"stats_sinks\":[{\"name\":\"envoy.stat_sinks.statsd\",\"typed_config\":{\"prefix\":\"edge\"}}],\"stats_run\":{\"scopes\":[{\"label\":\"web\",\"prefix\":\"http.web.\"},{\"label\":\"api\",\"prefix\":\"cluster.api\"}]}}\x03inc root a 1\ninc web rq 2\ninc api x 3\ninc api internal.y 4\ninc api z.debug 5\x019\x010\x01# last\nedge.a:1|c\nedge.cluster.api.x:3|c\nedge.http.web.rq:2|c\n# worker 1: 3 accepted, 2 dropped\n\x01\x02\
-replay f1 f2\x01[\x03inc root a 1\x019\x012\x01\x01boot: not json\n\x02\
-replay f1 f2\x01{\"stats_config\":{\"stats_tags\":[{\"tag_name\":\"x\",\"regex\":\"(\"}]}}\x03inc root a 1\x019\x012\x01\x01boot: bad pattern at stats_config.stats_tags[0].regex\n\x02\
-replay f1 f2\x01{\"stats_config\":{\"stats_matcher\":{\"exclusion_list\":{\"patterns\":[{\"exact\":\"(\"},{\"safe_regex\":{\"regex\":\"(\"}}]}}}}\x03\x019\x012\x01\x01boot: bad pattern at stats_config.stats_matcher.exclusion_list.patterns[1].safe_regex.regex\n\x02\
-replay f1 f2\x01{\"stats_run\":{\"scopes\":[{\"label\":\"root\"}]}}\x03\x019\x012\x01\x01boot: bad key at stats_run.scopes[0].label\n\x02\
-replay f1 f2\x01{\"stats_run\":{\"reads\":65}}\x03\x019\x012\x01\x01boot: out of range at stats_run.reads\n\x02\
-bins 0 7 10 99 100 109 110 12345 18446744073709551615\x01\x019\x010\x010 0 0\n7 70 0\n10 10 1\n99 99 1\n100 10 2\n109 10 2\n110 11 2\n12345 12 4\n18446744073709551615 18 19\n\x01\x02\
-check -\x01\x019\x010\x01ok: 4 tag rules, 0 patterns, 0 bucket settings, 1 scopes\n\x01\x02\
-check f1\x01{\"stats_config\":{\"stats_tags\":[{\"tag_name\":\"region\",\"fixed_value\":\"eu-1\"}],\"stats_matcher\":{\"exclusion_list\":{\"patterns\":[{\"prefix\":\"cluster.api.internal.\"},{\"safe_regex\":{\"regex\":\".*\\\\.debug\"}}]}},\"histogram_bucket_settings\":[{\"match\":{\"suffix\":\"_ms\"},\"buckets\":[10,50,100,1000]}]},\"stats_run\":{\"scopes\":[{\"label\":\"web\",\"prefix\":\"http.web.\"},{\"label\":\"api\",\"prefix\":\"cluster.api\"}]}}\x019\x010\x01ok: 5 tag rules, 2 patterns, 1 bucket settings, 3 scopes\n\x01\x02\
-check f1\x01{\"stats_config\":{\"histogram_bucket_settings\":[{\"match\":{\"safe_regex\":{\"regex\":\"[\"}},\"buckets\":[1]}]}}\x019\x012\x01\x01boot: bad pattern at stats_config.histogram_bucket_settings[0].match.safe_regex.regex\n\x02\
-check f1\x01[\x019\x012\x01\x01boot: not json\n\x02\
-check f9\x01\x019\x014\x01\x01boot: read failed\n\x02\
-replay --format admin - f1\x01inc root a 0\n\x019\x010\x01# last\na: 0\n# worker 1: 1 accepted, 0 dropped\n\x01\x02\
-replay --format prom - f1\x01open c cluster.c\ninc c upstream_rq_2xx 3\n\x019\x010\x01# last\n# TYPE envoy_cluster_upstream_rq_xx counter\nenvoy_cluster_upstream_rq_xx{envoy_response_code_class=\"2\",envoy_cluster_name=\"c\"} 3\n# worker 1: 2 accepted, 0 dropped\n\x01\x02\
-replay --format prom - f1\x01inc root cluster.foo_cluster.upstream_rq_timeout 1\n\x019\x010\x01# last\n# TYPE envoy_cluster_upstream_rq_timeout counter\nenvoy_cluster_upstream_rq_timeout{envoy_cluster_name=\"foo_cluster\"} 1\n# worker 1: 1 accepted, 0 dropped\n\x01\x02\
-replay --symbols - f1\x01open p cluster.c\nopen q cluster.c.\ninc p n 1\ninc q n 2\nrelease p\ninc q n 4\n\x019\x010\x01# last\nenvoy.cluster.c.n:7|c\n# symbols\ncluster.c.n counter - 03010203 1=cluster 2=c 3=n\n# worker 1: 6 accepted, 0 dropped\n\x01\x02\
-replay --symbols - f1\x01open s t\ninc s u 1\nrelease s\ninc s u 1\n\x019\x010\x01# last\nenvoy.t.u:1|c\n# symbols\n# worker 1: 3 accepted, 1 dropped\n\x01\x02\
-replay - f1\x01sub root g acc 5\n\x019\x010\x01# last\nenvoy.g:-5|g\n# worker 1: 1 accepted, 0 dropped\n\x01\x02\
-replay --format statsd - f1\x01sub root g acc 5\nset root g acc 9223372036854775807\nadd root g acc 1\n\x019\x010\x01# last\nenvoy.g:-9223372036854775808|g\n# worker 1: 3 accepted, 0 dropped\n\x01\x02\
-replay --format prom - f1\x01inc root a:b 2\ninc root a.b 1\nsub root a.b acc 3\n\x019\x010\x01# last\n# TYPE envoy_a_b counter\nenvoy_a_b{} 1\nenvoy_a_b{} 2\n# TYPE envoy_a_b gauge\nenvoy_a_b{} -3\n# worker 1: 3 accepted, 0 dropped\n\x01\x02\
-replay --format admin - f1\x01inc root a:b 2\ninc root a.b 1\nsub root a.b acc 3\n\x019\x010\x01# last\na.b: 1\na.b: -3\na:b: 2\n# worker 1: 3 accepted, 0 dropped\n\x01\x02\
-replay --format prom f1 f2\x01{\"stats_config\":{\"stats_tags\":[{\"tag_name\":\"t\",\"fixed_value\":\"a\\\"b\\\\c\"}]}}\x03inc root n 1\n\x019\x010\x01# last\n# TYPE envoy_n counter\nenvoy_n{t=\"a\\\"b\\\\c\"} 1\n# worker 1: 1 accepted, 0 dropped\n\x01\x02\
-replay --format prom f1 f2\x01{\"stats_config\":{\"stats_tags\":[{\"tag_name\":\"1:a\",\"fixed_value\":\"v\"}]}}\x03inc root n 1\n\x019\x010\x01# last\n# TYPE envoy_n counter\nenvoy_n{_1_a=\"v\"} 1\n# worker 1: 1 accepted, 0 dropped\n\x01\x02\
-replay --format prom f1 f2\x01{\"stats_config\":{\"use_all_default_tags\":false,\"stats_tags\":[{\"tag_name\":\"a\",\"regex\":\"^x\\\\.((\\\\w+)\\\\.)\"},{\"tag_name\":\"b\",\"regex\":\"^(x\\\\.y)\"}]}}\x03inc root x.y.z 1\n\x019\x010\x01# last\n# TYPE envoy_z counter\nenvoy_z{a=\"y\",b=\"x.y\"} 1\n# worker 1: 1 accepted, 0 dropped\n\x01\x02\
-replay --format prom f1 f2\x01{\"stats_config\":{\"stats_tags\":[{\"tag_name\":\"a\",\"fixed_value\":\"1\"},{\"tag_name\":\"a\",\"regex\":\"(z)\"}]}}\x03inc root x.z 1\n\x019\x010\x01# last\n# TYPE envoy_x_z counter\nenvoy_x_z{a=\"1\"} 1\n# worker 1: 1 accepted, 0 dropped\n\x01\x02\
-replay --format prom f1 f2\x01{\"stats_config\":{\"stats_tags\":[{\"tag_name\":\"a\",\"regex\":\"(q)?z\"}]}}\x03inc root x.z 1\n\x019\x010\x01# last\n# TYPE envoy_x_z counter\nenvoy_x_z{} 1\n# worker 1: 1 accepted, 0 dropped\n\x01\x02\
-replay --format admin - f1\x01text root v 1.30 beta\n\x019\x010\x01# last\nv: \"1.30 beta\"\n# worker 1: 1 accepted, 0 dropped\n\x01\x02\
-replay --format admin --symbols - f1\x01set root g never 7\n\x019\x010\x01# last\ng: 7\n# symbols\ng gauge never 0101 1=g\n# worker 1: 1 accepted, 0 dropped\n\x01\x02\
-replay --symbols --format admin - f1\x01rec root h 7\n\x019\x010\x01# last\nh: P0(7,7) P25(7.1,7.1) P50(7.1,7.1) P75(7.1,7.1) P90(7.1,7.1) P95(7.1,7.1) P99(7.1,7.1) P99.5(7.1,7.1) P99.9(7.1,7.1) P100(7.1,7.1)\n# symbols\nh histogram - 0101 1=h\n# worker 1: 1 accepted, 0 dropped\n\x01\x02\
-replay - f1 f2\x01open s web\ninc s rq 2\ninc root a 0\nadd root g acc 9\nrec s ms 5\ntext root v  x \nrelease s\n\x03inc s rq 1\nsub root g acc 12\nset root b never 4\ninc root c 3\n\x019\x010\x01# last\nenvoy.c:3|c\nenvoy.web.rq:2|c\nenvoy.b:4|g\nenvoy.g:-3|g\n# worker 1: 7 accepted, 0 dropped\n# worker 2: 3 accepted, 1 dropped\n\x01";
+replay f1 f2\x01{\"stats_config\":{\"stats_matcher\":{\"inclusion_list\":{\"patterns\":[{\"prefix\":\"cluster.\"}]}}}}\x03inc root cluster.x 1\ninc root server.y 1\x01\x010\x01# last\nenvoy.cluster.x:1|c\n# worker 1: 1 accepted, 1 dropped\n\x01\x02\
+replay f1 f2\x01{\"stats_run\":{\"flushes\":3,\"reads\":2,\"scopes\":[{\"label\":\"x\",\"prefix\":\"p\"},{\"label\":\"y\",\"prefix\":\"p.\"}]}}\x03inc x a 1\ninc y a 2\x01\x010\x01# last\nenvoy.p.a:3|c\n# worker 1: 2 accepted, 0 dropped\n\x01\x02\
+replay f1 f2\x01{\"stats_config\":{\"use_all_default_tags\":true,\"stats_tags\":[{\"tag_name\":\"region\",\"fixed_value\":\"eu-1\"}],\"stats_matcher\":{\"exclusion_list\":{\"patterns\":[{\"prefix\":\"cluster.api.internal.\"},{\"safe_regex\":{\"regex\":\".*\\\\.debug\"}}]}},\"histogram_bucket_settings\":[{\"match\":{\"suffix\":\"_ms\"},\"buckets\":[10,50,100,1000]}]},\"stats_sinks\":[{\"name\":\"envoy.stat_sinks.statsd\",\"typed_config\":{\"prefix\":\"edge\"}}],\"stats_run\":{\"scopes\":[{\"label\":\"web\",\"prefix\":\"http.web.\"},{\"label\":\"api\",\"prefix\":\"cluster.api\"}]}}\x03inc root a 1\ninc web rq 2\ninc api x 3\ninc api internal.y 4\ninc api z.debug 5\x01\x010\x01# last\nedge.a:1|c\nedge.cluster.api.x:3|c\nedge.http.web.rq:2|c\n# worker 1: 3 accepted, 2 dropped\n\x01\x02\
+replay f1 f2\x01[\x03inc root a 1\x01\x012\x01\x01boot: not json\n\x02\
+replay f1 f2\x01{\"stats_config\":{\"stats_tags\":[{\"tag_name\":\"x\",\"regex\":\"(\"}]}}\x03inc root a 1\x01\x012\x01\x01boot: bad pattern at stats_config.stats_tags[0].regex\n\x02\
+replay f1 f2\x01{\"stats_config\":{\"stats_matcher\":{\"exclusion_list\":{\"patterns\":[{\"exact\":\"(\"},{\"safe_regex\":{\"regex\":\"(\"}}]}}}}\x03\x01\x012\x01\x01boot: bad pattern at stats_config.stats_matcher.exclusion_list.patterns[1].safe_regex.regex\n\x02\
+replay f1 f2\x01{\"stats_run\":{\"scopes\":[{\"label\":\"root\"}]}}\x03\x01\x012\x01\x01boot: bad key at stats_run.scopes[0].label\n\x02\
+replay f1 f2\x01{\"stats_run\":{\"reads\":65}}\x03\x01\x012\x01\x01boot: out of range at stats_run.reads\n\x02\
+bins 0 7 10 99 100 109 110 12345 18446744073709551615\x01\x01\x010\x010 0 0\n7 70 0\n10 10 1\n99 99 1\n100 10 2\n109 10 2\n110 11 2\n12345 12 4\n18446744073709551615 18 19\n\x01\x02\
+check -\x01\x01\x010\x01ok: 4 tag rules, 0 patterns, 0 bucket settings, 1 scopes\n\x01\x02\
+check f1\x01{\"stats_config\":{\"stats_tags\":[{\"tag_name\":\"region\",\"fixed_value\":\"eu-1\"}],\"stats_matcher\":{\"exclusion_list\":{\"patterns\":[{\"prefix\":\"cluster.api.internal.\"},{\"safe_regex\":{\"regex\":\".*\\\\.debug\"}}]}},\"histogram_bucket_settings\":[{\"match\":{\"suffix\":\"_ms\"},\"buckets\":[10,50,100,1000]}]},\"stats_run\":{\"scopes\":[{\"label\":\"web\",\"prefix\":\"http.web.\"},{\"label\":\"api\",\"prefix\":\"cluster.api\"}]}}\x01\x010\x01ok: 5 tag rules, 2 patterns, 1 bucket settings, 3 scopes\n\x01\x02\
+check f1\x01{\"stats_config\":{\"histogram_bucket_settings\":[{\"match\":{\"safe_regex\":{\"regex\":\"[\"}},\"buckets\":[1]}]}}\x01\x012\x01\x01boot: bad pattern at stats_config.histogram_bucket_settings[0].match.safe_regex.regex\n\x02\
+check f1\x01[\x01\x012\x01\x01boot: not json\n\x02\
+check f9\x01\x01\x014\x01\x01boot: read failed\n\x02\
+replay --format admin - f1\x01inc root a 0\n\x01\x010\x01# last\na: 0\n# worker 1: 1 accepted, 0 dropped\n\x01\x02\
+replay --format prom - f1\x01open c cluster.c\ninc c upstream_rq_2xx 3\n\x01\x010\x01# last\n# TYPE envoy_cluster_upstream_rq_xx counter\nenvoy_cluster_upstream_rq_xx{envoy_response_code_class=\"2\",envoy_cluster_name=\"c\"} 3\n# worker 1: 2 accepted, 0 dropped\n\x01\x02\
+replay --format prom - f1\x01inc root cluster.foo_cluster.upstream_rq_timeout 1\n\x01\x010\x01# last\n# TYPE envoy_cluster_upstream_rq_timeout counter\nenvoy_cluster_upstream_rq_timeout{envoy_cluster_name=\"foo_cluster\"} 1\n# worker 1: 1 accepted, 0 dropped\n\x01\x02\
+replay --symbols - f1\x01open p cluster.c\nopen q cluster.c.\ninc p n 1\ninc q n 2\nrelease p\ninc q n 4\n\x01\x010\x01# last\nenvoy.cluster.c.n:7|c\n# symbols\ncluster.c.n counter - 03010203 1=cluster 2=c 3=n\n# worker 1: 6 accepted, 0 dropped\n\x01\x02\
+replay --symbols - f1\x01open s t\ninc s u 1\nrelease s\ninc s u 1\n\x01\x010\x01# last\nenvoy.t.u:1|c\n# symbols\n# worker 1: 3 accepted, 1 dropped\n\x01\x02\
+replay - f1\x01sub root g acc 5\n\x01\x010\x01# last\nenvoy.g:-5|g\n# worker 1: 1 accepted, 0 dropped\n\x01\x02\
+replay --format statsd - f1\x01sub root g acc 5\nset root g acc 9223372036854775807\nadd root g acc 1\n\x01\x010\x01# last\nenvoy.g:-9223372036854775808|g\n# worker 1: 3 accepted, 0 dropped\n\x01\x02\
+replay --format prom - f1\x01inc root a:b 2\ninc root a.b 1\nsub root a.b acc 3\n\x01\x010\x01# last\n# TYPE envoy_a_b counter\nenvoy_a_b{} 1\nenvoy_a_b{} 2\n# TYPE envoy_a_b gauge\nenvoy_a_b{} -3\n# worker 1: 3 accepted, 0 dropped\n\x01\x02\
+replay --format admin - f1\x01inc root a:b 2\ninc root a.b 1\nsub root a.b acc 3\n\x01\x010\x01# last\na.b: 1\na.b: -3\na:b: 2\n# worker 1: 3 accepted, 0 dropped\n\x01\x02\
+replay --format prom f1 f2\x01{\"stats_config\":{\"stats_tags\":[{\"tag_name\":\"t\",\"fixed_value\":\"a\\\"b\\\\c\"}]}}\x03inc root n 1\n\x01\x010\x01# last\n# TYPE envoy_n counter\nenvoy_n{t=\"a\\\"b\\\\c\"} 1\n# worker 1: 1 accepted, 0 dropped\n\x01\x02\
+replay --format prom f1 f2\x01{\"stats_config\":{\"stats_tags\":[{\"tag_name\":\"1:a\",\"fixed_value\":\"v\"}]}}\x03inc root n 1\n\x01\x010\x01# last\n# TYPE envoy_n counter\nenvoy_n{_1_a=\"v\"} 1\n# worker 1: 1 accepted, 0 dropped\n\x01\x02\
+replay --format prom f1 f2\x01{\"stats_config\":{\"use_all_default_tags\":false,\"stats_tags\":[{\"tag_name\":\"a\",\"regex\":\"^x\\\\.((\\\\w+)\\\\.)\"},{\"tag_name\":\"b\",\"regex\":\"^(x\\\\.y)\"}]}}\x03inc root x.y.z 1\n\x01\x010\x01# last\n# TYPE envoy_z counter\nenvoy_z{a=\"y\",b=\"x.y\"} 1\n# worker 1: 1 accepted, 0 dropped\n\x01\x02\
+replay --format prom f1 f2\x01{\"stats_config\":{\"stats_tags\":[{\"tag_name\":\"a\",\"fixed_value\":\"1\"},{\"tag_name\":\"a\",\"regex\":\"(z)\"}]}}\x03inc root x.z 1\n\x01\x010\x01# last\n# TYPE envoy_x_z counter\nenvoy_x_z{a=\"1\"} 1\n# worker 1: 1 accepted, 0 dropped\n\x01\x02\
+replay --format prom f1 f2\x01{\"stats_config\":{\"stats_tags\":[{\"tag_name\":\"a\",\"regex\":\"(q)?z\"}]}}\x03inc root x.z 1\n\x01\x010\x01# last\n# TYPE envoy_x_z counter\nenvoy_x_z{} 1\n# worker 1: 1 accepted, 0 dropped\n\x01\x02\
+replay --format admin - f1\x01text root v 1.30 beta\n\x01\x010\x01# last\nv: \"1.30 beta\"\n# worker 1: 1 accepted, 0 dropped\n\x01\x02\
+replay --format admin --symbols - f1\x01set root g never 7\n\x01\x010\x01# last\ng: 7\n# symbols\ng gauge never 0101 1=g\n# worker 1: 1 accepted, 0 dropped\n\x01\x02\
+replay --symbols --format admin - f1\x01rec root h 7\n\x01\x010\x01# last\nh: P0(7,7) P25(7.1,7.1) P50(7.1,7.1) P75(7.1,7.1) P90(7.1,7.1) P95(7.1,7.1) P99(7.1,7.1) P99.5(7.1,7.1) P99.9(7.1,7.1) P100(7.1,7.1)\n# symbols\nh histogram - 0101 1=h\n# worker 1: 1 accepted, 0 dropped\n\x01\x02\
+replay - f1 f2\x01open s web\ninc s rq 2\ninc root a 0\nadd root g acc 9\nrec s ms 5\ntext root v  x \nrelease s\n\x03inc s rq 1\nsub root g acc 12\nset root b never 4\ninc root c 3\n\x01\x010\x01# last\nenvoy.c:3|c\nenvoy.web.rq:2|c\nenvoy.b:4|g\nenvoy.g:-3|g\n# worker 1: 7 accepted, 0 dropped\n# worker 2: 3 accepted, 1 dropped\n\x01";
 
 // Words that are no command: a list a line, its words parted by spaces.
 const NO_COMMANDS: &str =
