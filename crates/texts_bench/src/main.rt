@@ -1,7 +1,6 @@
 //! The Prometheus and admin texts of a view of counters and of one of histograms, measured or timed.
 #![tactic(auto)]
 
-ghost use Rattle.std.specs.Prelude.{◌≤◌};
 ghost use Rattle.text_parts.specs.Histograms.{HasHistograms};
 
 mod views;
@@ -21,6 +20,7 @@ const FEW: u32 = 100;
 
 /// Rows of the views of which texts are timed: the most counters and histograms of one store.
 const COUNTERS: u32 = 16_384;
+
 const HISTOGRAMS: u32 = 1_024;
 
 /// No text of these views has more bytes.
@@ -31,8 +31,6 @@ enum Format {
     Prometheus,
     Admin,
 }
-
-const FORMATS: [(Format, &str); 2] = [(Format::Prometheus, "prom"), (Format::Admin, "admin")];
 
 /// Writes the text of a view, and gives the number of its bytes.
 fn write_once(alloc: Global, format: Format, view: &FlushView) -> Result<usize, TextFault>
@@ -62,28 +60,56 @@ fn write_often(
     Ok(bytes)
 }
 
-fn write_views(
-    rt: &HostRuntime,
-    counters: &FlushView,
-    histograms: &FlushView,
+/// How often texts are written, and which one, if not all.
+#[derive(Drop)]
+struct Wanted {
     times: u32,
-) -> io::Result<()>
-    requires counters { HasHistograms counters.now }
-    requires histograms { HasHistograms histograms.now }
-    requires times { 1 ≤ times }
-{
-    for (format, name) in FORMATS {
-        for (view, rows) in [(counters, "counters"), (histograms, "histograms")] {
-            let start = Instant::now(rt)?;
-            let bytes = write_often(rt.alloc(), format, view, times).map_err(stopped)?;
-            let each = start.elapsed(rt)?.as_micros() / times as u128;
-            println!(rt; "{name}, {rows}: {bytes} bytes")?;
-            if times > 1 {
-                println!(rt; "{name}, {rows}: {each} us")?;
-            }
+    only: Option<String>,
+}
+
+impl Wanted {
+    fn has(&self, name: &str) -> bool {
+        match &self.only {
+            Some(word) => word.as_str() == name,
+            None => true,
         }
     }
+}
+
+/// Writes a text so often as is wanted, and prints its bytes and, where it was written more than once, the time of one.
+fn measure(
+    rt: &HostRuntime,
+    wanted: &Wanted,
+    name: &str,
+    format: Format,
+    view: &FlushView,
+) -> io::Result<()>
+    requires { HasHistograms view.now }
+{
+    if !wanted.has(name) {
+        return Ok(());
+    }
+    let times = wanted.times.max(1);
+    let start = Instant::now(rt)?;
+    let bytes = write_often(rt.alloc(), format, view, times).map_err(stopped)?;
+    println!(rt; "{name}: {bytes} bytes")?;
+    if times > 1 {
+        let each = start.elapsed(rt)?.as_micros() / times as u128;
+        println!(rt; "{name}: {each} us")?;
+    }
     Ok(())
+}
+
+fn measure_counters(rt: &HostRuntime, wanted: &Wanted, rows: u32) -> io::Result<()> {
+    let view = view_of_counters(rt.alloc(), rows).map_err(no_memory)?;
+    measure(rt, wanted, "prom-counters", Format::Prometheus, &view)?;
+    measure(rt, wanted, "admin-counters", Format::Admin, &view)
+}
+
+fn measure_histograms(rt: &HostRuntime, wanted: &Wanted, rows: u32) -> io::Result<()> {
+    let view = view_of_histograms(rt.alloc(), rows).map_err(no_memory)?;
+    measure(rt, wanted, "prom-histograms", Format::Prometheus, &view)?;
+    measure(rt, wanted, "admin-histograms", Format::Admin, &view)
 }
 
 fn main(rt: HostRuntime) -> io::Result<()> {
@@ -93,15 +119,17 @@ fn main(rt: HostRuntime) -> io::Result<()> {
         Some(word) => word.as_str().parse::<u32>().unwrap_or(1).max(1),
         None => 0,
     };
-    let alloc = rt.alloc();
+    let wanted = Wanted {
+        times,
+        only: words.next(),
+    };
     let (counters, histograms) = if times == 0 {
         (FEW, FEW)
     } else {
         (COUNTERS, HISTOGRAMS)
     };
-    let counters = view_of_counters(alloc, counters).map_err(no_memory)?;
-    let histograms = view_of_histograms(alloc, histograms).map_err(no_memory)?;
-    write_views(&rt, &counters, &histograms, times.max(1))
+    measure_counters(&rt, &wanted, counters)?;
+    measure_histograms(&rt, &wanted, histograms)
 }
 
 fn stopped(_: TextFault) -> io::Error {

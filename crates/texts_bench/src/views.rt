@@ -3,9 +3,7 @@ ghost use Rattle.std.specs.Prelude.{All, IfOk, OnOk};
 ghost use Rattle.text_parts.specs.Histograms.{IsHistogram, AreHistograms, HasHistograms};
 
 use loglinear_bins::{Bins, MAX_COUNT};
-use stat_defs::{
-    BinList, Bound, CounterRow, FlushView, HistRow, List, NoMemory, Tag, Tagged, Txt,
-};
+use stat_defs::{BinList, Bound, CounterRow, FlushView, HistRow, List, NoMemory, Tag, Tagged, Txt};
 use std::alloc::Global;
 
 /// Metrics of one cluster.
@@ -29,7 +27,11 @@ fn tag_of(alloc: Global, name: &str, value: &str) -> Result<Tag, NoMemory> {
 
 /// The full name of row `i`: row by row the metrics of one cluster, then of the next.
 fn name_of(alloc: Global, i: u32) -> Result<Txt, NoMemory> {
-    let text = format!(in alloc; "cluster.service_{}.upstream_metric_{}_rq_200", i / METRICS, i % METRICS)?;
+    let text = format!(in alloc;
+        "cluster.service_{}.upstream_metric_{}_rq_200",
+        i / METRICS,
+        i % METRICS
+    )?;
     Txt::of(alloc, text.as_bytes())
 }
 
