@@ -3,7 +3,7 @@ ghost use Rattle.text_parts.specs.Histograms.{AreHistograms, HasHistograms};
 
 use super::*;
 use loglinear_bins::{Bins, MAX_COUNT};
-use stat_defs::{Bound, CounterRow, GaugeRow, HistRow, List, Tag, Tagged, Txt};
+use stat_defs::{Bound, CounterRow, GaugeRow, HistRow, List, Tag, Tagged, TextRow, Txt};
 use stats_io::MemSink;
 use std::test::Fail;
 
@@ -62,10 +62,16 @@ fn view_of(
             value: *value,
         })?;
     }
+    // A text readout has no line.
+    let mut text_rows = Vec::new(alloc);
+    text_rows.push(TextRow {
+        name: Txt::of(alloc, b"a.text")?,
+        text: Txt::of(alloc, b"shown nowhere")?,
+    })?;
     Ok(FlushView {
         counters: List::of(counter_rows),
         gauges: List::of(gauge_rows),
-        texts: List::of(Vec::new(alloc)),
+        texts: List::of(text_rows),
         histograms: List::of(histograms),
     })
 }
