@@ -45,4 +45,14 @@ impl<T> GhostList<T> {
             marker: PhantomData,
         }
     }
+
+    /// The values of this list, and one more, which the caller's proof picks by what it gives here.
+    pub fn and_for<U>(&self, given: &U) -> GhostList<T>
+        ghost item: { T }
+        ensures { result.items ≡ self.now.items ++ item ∷ [] }
+    {
+        GhostList {
+            marker: PhantomData,
+        }
+    }
 }

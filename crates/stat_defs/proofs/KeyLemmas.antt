@@ -1,5 +1,5 @@
 -- Keys are compared as the definitions compare them, and keys that compare as the same are equal.
-use Rattle.std.proofs.Common.{◌≡◌, ℕ, Bool, true, false, ◌&&◌, List, refl, sym, true≢false, nat_eq}
+use Rattle.std.proofs.Common.{◌≡◌, Bool, true, false, ◌&&◌, refl, sym, true≢false, nat_eq}
 use Rattle.std.specs.Cmp.Lexicographic.{pointwise, same_text as text_of_eq}
 use Rattle.std.proofs.lemmas.Cmp.{nat_list_eq_equiv}
 use Rattle.stat_defs.specs.declared.events.Key.{Key}

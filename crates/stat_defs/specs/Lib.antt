@@ -1,6 +1,7 @@
 pub mod Faults
 pub mod Names
 pub mod Events
+pub mod Borrowed
 pub mod Keys
 pub mod Configs
 pub mod Books

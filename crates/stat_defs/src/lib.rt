@@ -3,6 +3,7 @@
 
 mod bins;
 mod booked;
+mod borrowed;
 mod configs;
 mod events;
 mod history;
@@ -18,6 +19,7 @@ mod weighed;
 
 pub use bins::{Bin, BinCount, BinList, Bound};
 pub use booked::Booked;
+pub use borrowed::EventRef;
 pub use configs::{
     BucketSpec, Config, MAX_BOUND, MAX_BOUNDS, MAX_BUCKET_SETTINGS, MAX_FLUSH_EVERY, MAX_FLUSHES,
     MAX_PATTERN_BYTES, MAX_PATTERNS, MAX_SCOPES, MAX_TAG_RULES, MAX_TAG_VALUE_BYTES, MatchSpec,
