@@ -1,7 +1,7 @@
 #!/usr/bin/env bash
 # Runs the program over the examples and compares what it writes with the outputs that stand beside them. It prints a
 # line for each, and its status is the number of those that differ.
-cd "$(dirname "$(readlink -f "${BASH_SOURCE[0]}")")/.." || exit 1
+cd "$(dirname "$(readlink -f "${BASH_SOURCE[0]}")")/../../../.." || exit 1
 wrong=0
 try() {
   local wanted=$1
