@@ -20,6 +20,7 @@ mod telling;
 #[cfg(test)]
 mod tests;
 
+pub use flush_view::flush_view;
 use name_map::HashKey;
 pub use outcome::Outcome;
 pub use quiet::{quiet_stats, quiet_stats_with};
