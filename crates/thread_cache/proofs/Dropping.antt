@@ -5,12 +5,12 @@ use Rattle.std.specs.Map.{keys_of}
 use Rattle.stat_defs.specs.declared.events.Key.{Key}
 use Rattle.stat_defs.specs.declared.ids.ScopeId.{ScopeId}
 use Rattle.stat_defs.specs.Keys.{Held, held_under, is_through}
-use Rattle.thread_cache.specs.declared.query.CacheKey.{CacheKey}
+use Rattle.thread_cache.specs.declared.key.CacheKey.{CacheKey}
 use Rattle.thread_cache.specs.declared.scopes.ScopeEntries.{ScopeEntries}
 use Rattle.thread_cache.specs.declared.table.Slot.{Slot}
 use Rattle.thread_cache.specs.Scopes.{is_live}
 use Rattle.thread_cache.specs.Held.{held_of, held_without, shown, slot_under}
-use Rattle.thread_cache.proofs.KeyLemmas.{eq}
+use Rattle.thread_cache.specs.KeyLaws.{eq}
 use Rattle.thread_cache.proofs.Finding.{found, held_at}
 
 module _ (old new : List (ScopeId × ScopeEntries)) (released : List ScopeId)

@@ -1,5 +1,5 @@
 -- A table after an entry of a live scope was put under a key.
-use Rattle.std.proofs.Common.{◌≡◌, ℕ, ◌+◌, Bool, true, false, cond, ◌||◌, map, filter, length, if◌then◌else◌, Option, Some, None, List, [], ◌∷◌, All, refl, sym, ap, subst, ◌∙◌, true≢false, is_some, arith}
+use Rattle.std.proofs.Common.{◌≡◌, ◌+◌, Bool, true, false, cond, filter, length, if◌then◌else◌, Option, Some, None, List, [], ◌∷◌, All, refl, sym, ap, ◌∙◌, true≢false, is_some, arith}
 use Rattle.std.proofs.lemmas.List.{length-map}
 use Rattle.std.proofs.lemmas.List.Elements.{All-head, All-tail, All-cons}
 use Rattle.std.specs.List.{IsDistinct}
@@ -8,14 +8,14 @@ use Rattle.indexmap.specs.IndexMap.{insert_entry}
 use Rattle.stat_defs.specs.declared.events.Key.{Key}
 use Rattle.stat_defs.specs.declared.ids.ScopeId.{ScopeId}
 use Rattle.stat_defs.specs.Keys.{Held, held_under, same_key}
-use Rattle.thread_cache.specs.declared.query.CacheKey.{CacheKey}
+use Rattle.thread_cache.specs.declared.key.CacheKey.{CacheKey}
 use Rattle.thread_cache.specs.declared.scopes.ScopeEntries.{ScopeEntries}
 use Rattle.thread_cache.specs.declared.table.Slot.{Slot}
 use Rattle.thread_cache.specs.Keys.{key_of}
 use Rattle.thread_cache.specs.Scopes.{is_live}
 use Rattle.thread_cache.specs.Held.{held_of, held_with, shown, is_at, slot_under}
 use Rattle.stat_defs.proofs.KeyLemmas.{same_key-is}
-use Rattle.thread_cache.proofs.KeyLemmas.{eq, finds_as}
+use Rattle.thread_cache.specs.KeyLaws.{eq, finds_as}
 use Rattle.thread_cache.proofs.Rooms.{same_key_of}
 use Rattle.thread_cache.proofs.Finding.{found, held_at, one_key}
 

@@ -1,20 +1,19 @@
 -- Looking a key up in what is shown of a table.
-use Rattle.std.proofs.Common.{◌≡◌, ℕ, Bool, true, false, cond, filter, map, Option, Some, None, List, [], ◌∷◌, All, refl, sym, ap, subst, ◌∙◌, rules, find, option_map, true≢false, is_none, unwrap_or}
+use Rattle.std.proofs.Common.{◌≡◌, Bool, true, false, cond, filter, map, Option, Some, None, List, [], ◌∷◌, All, refl, sym, ap, subst, ◌∙◌, option_map, true≢false, is_none, unwrap_or}
 use Rattle.std.proofs.lemmas.List.Elements.{All-head, All-tail}
 use Rattle.std.specs.List.{AllByRecursion, IsDistinct}
-use Rattle.std.specs.Map.{keys_of, lookup}
+use Rattle.std.specs.Map.{keys_of}
 use Rattle.stat_defs.specs.declared.events.Key.{Key}
-use Rattle.stat_defs.specs.declared.history.Verdict.{Verdict}
 use Rattle.stat_defs.specs.declared.ids.ScopeId.{ScopeId}
 use Rattle.stat_defs.specs.Keys.{Held, held_under, same_key}
-use Rattle.thread_cache.specs.declared.query.CacheKey.{CacheKey}
+use Rattle.thread_cache.specs.declared.key.CacheKey.{CacheKey}
 use Rattle.thread_cache.specs.declared.scopes.ScopeEntries.{ScopeEntries}
 use Rattle.thread_cache.specs.declared.table.Slot.{Slot}
 use Rattle.thread_cache.specs.Keys.{key_of}
 use Rattle.thread_cache.specs.Scopes.{is_live}
 use Rattle.thread_cache.specs.Held.{held_of, shown, is_at, slot_under}
 use Rattle.stat_defs.proofs.KeyLemmas.{same_key-is}
-use Rattle.thread_cache.proofs.KeyLemmas.{eq, finds_as}
+use Rattle.thread_cache.specs.KeyLaws.{eq, finds_as}
 
 -- what is held under a key whose slot in the table is this one
 abbrev pub held_at : List (ScopeId × ScopeEntries) → Key → Option Slot → Option Held
@@ -89,10 +88,6 @@ module _ (scopes : List (ScopeId × ScopeEntries)) (key : Key) where
           let same : e.1 ≡ slot = some_same (sym (ap (λ t. cond t (Some e.1) (slot_under key es)) here) ∙ is) in
           subst (λ (x : Slot). is_live scopes x.scope ≡ true) same (All-head (λ e. is_live scopes e.1.scope ≡ true) e es all)
       by false there rest = rest (sym (ap (λ t. cond t (Some e.1) (slot_under key es)) there) ∙ is)
-
--- a key of the table finds its slot
-pub slot_by_key : (key : CacheKey) (table : List (CacheKey × Slot)) → lookup (eq key) table ≡ slot_under (key_of key) table
-slot_by_key key table = λ i. lookup (λ at. finds_as key at i) table
 
 pub verdict_held : (scopes : List (ScopeId × ScopeEntries)) (key : Key) (slot : Slot)
     → option_map (λ (held : Held). held.verdict) (held_at scopes key (Some slot)) ≡ cond (is_live scopes slot.scope) (Some slot.verdict) None

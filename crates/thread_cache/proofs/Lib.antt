@@ -1,6 +1,5 @@
 pub mod ScopeLemmas
 pub mod Shown
-pub mod KeyLemmas
 pub mod Finding
 pub mod Opening
 pub mod Rooms

@@ -1,10 +1,10 @@
 -- An entry more of a scope that was not dropped.
-use Rattle.std.proofs.Common.{◌≡◌, ℕ, Bool, true, false, cond, not, ◌==◌, ◌||◌, map, filter, is_some, Option, Some, None, List, [], ◌∷◌, All, refl, sym, ap, subst, ◌∙◌, true≢false}
+use Rattle.std.proofs.Common.{◌≡◌, Bool, true, false, not, ◌==◌, ◌||◌, map, is_some, Option, Some, None, List, All, refl, sym, ap, subst, ◌∙◌, true≢false}
 use Rattle.std.proofs.lemmas.Bool.{eqb-true}
 use Rattle.std.proofs.lemmas.List.Elements.{All-weaker}
 use Rattle.std.specs.Option.{option_map_or}
 use Rattle.stat_defs.specs.declared.ids.ScopeId.{ScopeId}
-use Rattle.thread_cache.specs.declared.query.CacheKey.{CacheKey}
+use Rattle.thread_cache.specs.declared.key.CacheKey.{CacheKey}
 use Rattle.thread_cache.specs.declared.scopes.ScopeEntries.{ScopeEntries}
 use Rattle.thread_cache.specs.declared.table.Slot.{Slot}
 use Rattle.thread_cache.specs.Scopes.{is_live, is_listed, is_dropped, entries_at}

@@ -1,5 +1,5 @@
 -- Scopes without those that were dropped.
-use Rattle.std.proofs.Common.{◌≡◌, ℕ, ◌==◌, Bool, true, false, not, is_some, Option, Some, None, List, [], ◌∷◌, cond, refl, sym, ap, ◌∙◌, rules}
+use Rattle.std.proofs.Common.{◌≡◌, ◌==◌, Bool, true, false, not, is_some, Option, Some, None, List, [], ◌∷◌, cond, refl, ap, ◌∙◌, rules}
 use Rattle.std.specs.Cmp.{IsEquivalence}
 use Rattle.std.specs.List.{filter, IsDistinct}
 use Rattle.std.specs.Map.{keys_of, lookup, set_value}

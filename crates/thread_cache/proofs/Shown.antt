@@ -1,8 +1,8 @@
 -- What is shown of a table.
-use Rattle.std.proofs.Common.{◌≡◌, ℕ, Bool, true, false, cond, filter, map, List, [], ◌∷◌, All, refl, sym, ap, subst, ◌∙◌, rules}
+use Rattle.std.proofs.Common.{◌≡◌, Bool, true, cond, filter, map, List, [], ◌∷◌, All, refl, ap, ◌∙◌}
 use Rattle.std.proofs.lemmas.List.Elements.{All-head, All-tail, All-weaker, filter_passes}
 use Rattle.stat_defs.specs.declared.ids.ScopeId.{ScopeId}
-use Rattle.thread_cache.specs.declared.query.CacheKey.{CacheKey}
+use Rattle.thread_cache.specs.declared.key.CacheKey.{CacheKey}
 use Rattle.thread_cache.specs.declared.scopes.ScopeEntries.{ScopeEntries}
 use Rattle.thread_cache.specs.declared.table.Slot.{Slot}
 use Rattle.thread_cache.specs.Scopes.{is_live}

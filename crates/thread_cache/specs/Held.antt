@@ -1,12 +1,12 @@
 -- What callers see of a cache (Envoy's design note on statistics: a thread's own cache of what it found).
-use Rattle.std.specs.Prelude.{Bool, not, Option, Some, None, List, [], ◌∷◌, ◌++◌, if◌then◌else◌, filter, map}
+use Rattle.std.specs.Prelude.{Bool, Option, Some, None, List, [], ◌∷◌, ◌++◌, if◌then◌else◌, filter, map}
 use Rattle.stat_defs.specs.declared.events.Key.{Key}
 use Rattle.stat_defs.specs.declared.ids.ScopeId.{ScopeId}
 use Rattle.std.specs.List.{list_any}
 use Rattle.std.specs.Map.{lookup}
 use Rattle.indexmap.specs.IndexSet.{remove_key}
 use Rattle.stat_defs.specs.Keys.{Held, held_under, same_key, is_through}
-use Rattle.thread_cache.specs.declared.query.CacheKey.{CacheKey}
+use Rattle.thread_cache.specs.declared.key.CacheKey.{CacheKey}
 use Rattle.thread_cache.specs.declared.scopes.ScopeEntries.{ScopeEntries}
 use Rattle.thread_cache.specs.declared.table.Slot.{Slot}
 use Rattle.thread_cache.specs.Keys.{key_of}

@@ -1,5 +1,5 @@
 -- What every cache keeps.
-use Rattle.std.specs.Prelude.{◌≡◌, ◌≤◌, ℕ, true, map, All}
+use Rattle.std.specs.Prelude.{◌≡◌, ◌≤◌, true, map, All}
 use Rattle.indexmap.specs.IndexMap.{spare}
 use Rattle.indexmap.specs.IndexSet.{index_set_len}
 use Rattle.thread_cache.specs.declared.cache.Cache.TheInside.{Inside}

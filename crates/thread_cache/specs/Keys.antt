@@ -1,13 +1,10 @@
--- Keys as the table keeps them. This project's own.
-use Rattle.std.specs.Prelude.{◌≤◌, vec_capacity}
+-- Keys as the table keeps them, and as they are asked for. This project's own.
 use Rattle.stat_defs.specs.declared.events.Key.{Key}
-use Rattle.stat_defs.specs.declared.events.TheConstants.{MAX_LABEL_BYTES, MAX_NAME_BYTES}
-use Rattle.thread_cache.specs.declared.query.CacheKey.{CacheKey}
+use Rattle.thread_cache.specs.declared.key.CacheKey.{CacheKey}
+use Rattle.thread_cache.specs.declared.query.Query.{Query}
 
 abbrev pub key_of : CacheKey → Key
 key_of key = record { label = key.label.items; kind = key.kind; mode = key.mode; name = key.name.items }
 
--- there is room for every label and name
-pub record HasRoom (key : CacheKey) : Type 0 where
-  pub label : MAX_LABEL_BYTES ≤ vec_capacity key.label
-  pub name : MAX_NAME_BYTES ≤ vec_capacity key.name
+abbrev pub asked : Query → Key
+asked query = record { label = query.label.now; kind = query.kind; mode = query.mode; name = query.name.now }

@@ -3,3 +3,4 @@ pub mod Scopes
 pub mod Held
 pub mod Kept
 pub mod SameHeld
+pub mod KeyLaws

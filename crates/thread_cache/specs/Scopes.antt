@@ -1,5 +1,5 @@
 -- The scopes that entries of the table have. This project's own.
-use Rattle.std.specs.Prelude.{◌≡◌, ℕ, ◌==◌, Bool, true, false, not, is_some, Option, Some, None, List}
+use Rattle.std.specs.Prelude.{◌==◌, Bool, false, not, is_some, Option, List}
 use Rattle.std.specs.Map.{lookup}
 use Rattle.std.specs.Option.{option_map_or}
 use Rattle.stat_defs.specs.declared.ids.ScopeId.{ScopeId}

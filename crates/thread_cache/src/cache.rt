@@ -1,15 +1,17 @@
 //! The entries that a seat holds.
-ghost use Rattle.std.specs.Prelude.{◌≡◌, ◌<◌, ◌≤◌, ◌+◌, ℕ, None, Some, true, false, not, is_some, filter, length, option_map, cond, All, [], ◌∷◌, map, IsTrue, IfSome, IfOk, OnOk, OnErr};
+ghost use Rattle.std.specs.Prelude.{◌≡◌, ◌+◌, None, Some, true, false, not, filter, length, option_map, cond, All, [], map};
+ghost use Rattle.std.specs.Prelude.{IsTrue, IfSome, OnOk, OnErr};
 ghost use Rattle.std.specs.List.{list_any};
 ghost use Rattle.indexmap.specs.IndexMap.{spare};
 ghost use Rattle.indexmap.specs.IndexSet.{index_set_len};
 ghost use Rattle.stat_defs.specs.declared.events.Key.{Key};
 ghost use Rattle.stat_defs.specs.Keys.{held_under, same_key, is_through};
-ghost use Rattle.thread_cache.specs.Keys.{key_of};
+ghost use Rattle.thread_cache.specs.Keys.{asked, key_of};
 ghost use Rattle.thread_cache.specs.Scopes.{is_live, is_dropped, is_listed};
 ghost use Rattle.thread_cache.specs.Held.{shown, has_room, with_room, without_room, held_with, held_without};
 
-use crate::query::{CacheKey, Query, copy_of};
+use crate::key::{CacheKey, copy_of};
+use crate::query::Query;
 use crate::scopes::{Scopes, drop_scopes, is_live};
 use crate::table::{Slot, Table, count_live, open_scope, put, slot_of, tidy};
 use indexmap::{IndexMap, IndexSet};
@@ -20,8 +22,8 @@ use std::marker::Model;
 
 type Rooms = IndexSet<CacheKey, HashKey>;
 
-/// What a worker's seat holds. Contracts see the entries, one for each key, and the keys that have room; the order of either
-/// has no meaning.
+/// What a worker's seat holds. Contracts see the entries, one for each key, and the keys that have room; the order of
+/// either has no meaning.
 #[derive(Drop)]
 pub struct Cache {
     pub(crate) table: Table,
@@ -43,6 +45,7 @@ impl Model for Cache {
 }
 
 // The verdict of a slot, if its scope is live.
+#[inline(always)]
 fn verdict_of(scopes: &Scopes, stale: u64, slot: Slot) -> Option<Verdict>
     requires { stale ≡ 0 → is_live scopes.now.entries slot.scope ≡ true }
     ensures { result ≡ cond (is_live scopes.now.entries slot.scope) (Some slot.verdict) None }
@@ -56,25 +59,28 @@ fn verdict_of(scopes: &Scopes, stale: u64, slot: Slot) -> Option<Verdict>
     None
 }
 
-// The verdict that the table has under a key, if its scope is live.
-fn look_up(table: &Table, scopes: &Scopes, stale: u64, key: &CacheKey) -> Option<Verdict>
+// The verdict that the table has under the key that is asked for, if its scope is live.
+#[inline(always)]
+fn look_up(table: &Table, scopes: &Scopes, stale: u64, query: &Query<'_>) -> Option<Verdict>
     requires { stale ≡ 0 → All (λ e. is_live scopes.now.entries e.1.scope ≡ true) table.now.entries }
-    ensures { result ≡ option_map (λ held. held.verdict) (held_under (key_of key.now) (shown scopes.now.entries table.now.entries)) }
+    ensures { result ≡ option_map (λ held. held.verdict)
+        (held_under (asked query.now) (shown scopes.now.entries table.now.entries)) }
 {
     let _all_different = table.len();
-    match slot_of(table, key) {
+    match slot_of(table, query) {
         Some(slot) => verdict_of(scopes, stale, slot),
         None => None,
     }
 }
 
-// Takes a key that has room out of those that have, as it is kept.
-fn take_room(rooms: &mut Rooms, key: &CacheKey) -> Option<CacheKey>
-    ensures rooms { map key_of rooms.new.keys ≡ without_room (key_of key.now) (map key_of rooms.old.keys) }
-    ensures taken { IfSome result (λ taken. (key_of taken ≡ key_of key.now) × (length rooms.new.keys + 1 ≡ length rooms.old.keys)) }
-    ensures none { result ≡ None → has_room (key_of key.now) (map key_of rooms.old.keys) ≡ false }
+// Takes the key that is asked for out of those that have room, as it is kept.
+fn take_room(rooms: &mut Rooms, query: &Query<'_>) -> Option<CacheKey>
+    ensures rooms { map key_of rooms.new.keys ≡ without_room (asked query.now) (map key_of rooms.old.keys) }
+    ensures taken { IfSome result (λ taken. (key_of taken ≡ asked query.now)
+        × (length rooms.new.keys + 1 ≡ length rooms.old.keys)) }
+    ensures none { result ≡ None → has_room (asked query.now) (map key_of rooms.old.keys) ≡ false }
 {
-    rooms.shift_take(key)
+    rooms.shift_take(*query)
 }
 
 impl Cache {
@@ -98,21 +104,23 @@ impl Cache {
     }
 
     /// The verdict that is held under the query's key. It takes no memory.
-    pub fn hit(&self, query: &Query) -> Option<Verdict>
-        ensures verdict { result ≡ option_map (λ held. held.verdict) (held_under query.now self.now.entries) }
-        ensures free { result ≡ None → held_under query.now self.now.entries ≡ None }
+    #[inline(always)]
+    pub fn hit(&self, query: &Query<'_>) -> Option<Verdict>
+        ensures verdict { result ≡ option_map (λ held. held.verdict) (held_under (asked query.now) self.now.entries) }
+        ensures free { result ≡ None → held_under (asked query.now) self.now.entries ≡ None }
     {
-        look_up(&self.table, &self.scopes, self.stale, &query.key)
+        look_up(&self.table, &self.scopes, self.stale, query)
     }
 
-    /// Makes room for an entry of the query's key. Room is no entry, and it stays until the key is filled. After want of memory
-    /// the cache is as it was.
-    pub fn reserve(&mut self, alloc: Global, query: &Query) -> Result<(), NoMemory>
-        ensures reserved { OnOk result (self.new ≡ record self.old { rooms = with_room query.now self.old.rooms }) }
-        ensures room { OnOk result (IsTrue (has_room query.now self.new.rooms)) }
+    /// Makes room for an entry of the query's key. Room is no entry, and it stays until the key is filled. After want of
+    /// memory the cache is as it was.
+    pub fn reserve(&mut self, alloc: Global, query: &Query<'_>) -> Result<(), NoMemory>
+        ensures reserved { OnOk result (self.new
+            ≡ record self.old { rooms = with_room (asked query.now) self.old.rooms }) }
+        ensures room { OnOk result (IsTrue (has_room (asked query.now) self.new.rooms)) }
         ensures kept { OnErr result (self.new ≡ self.old) }
     {
-        let copy = copy_of(alloc, &query.key)?;
+        let copy = copy_of(alloc, query)?;
         let more = self.rooms.len() + 1;
         self.table.reserve(more)?;
         self.scopes.reserve(more)?;
@@ -121,15 +129,15 @@ impl Cache {
     }
 
     /// Holds the verdict under the query's key, found through this scope. It takes no memory.
-    pub fn fill(&mut self, query: &Query, scope: ScopeId, verdict: Verdict)
-        requires room { IsTrue (has_room query.now self.old.rooms) }
-        requires free { held_under query.now self.old.entries ≡ None }
+    pub fn fill(&mut self, query: &Query<'_>, scope: ScopeId, verdict: Verdict)
+        requires room { IsTrue (has_room (asked query.now) self.old.rooms) }
+        requires free { held_under (asked query.now) self.old.entries ≡ None }
         ensures held { (key : Key) → held_under key self.new.entries
-            ≡ held_with (record { key = query.now; scope = scope.0; verdict = verdict }) self.old.entries key }
+            ≡ held_with (record { key = asked query.now; scope = scope.0; verdict = verdict }) self.old.entries key }
         ensures one_more { length self.new.entries ≡ length self.old.entries + 1 }
-        ensures rooms { self.new.rooms ≡ without_room query.now self.old.rooms }
+        ensures rooms { self.new.rooms ≡ without_room (asked query.now) self.old.rooms }
     {
-        let Some(key) = take_room(&mut self.rooms, &query.key) else {
+        let Some(key) = take_room(&mut self.rooms, query) else {
             return;
         };
         self.stale = open_scope(&mut self.table, &mut self.scopes, self.stale, scope);
@@ -139,7 +147,8 @@ impl Cache {
     /// Drops the entries of these scopes. It takes no memory.
     pub fn drop_released(&mut self, released: &[ScopeId])
         ensures entries { self.new.entries ≡ filter (λ held. not (is_through released.now held)) self.old.entries }
-        ensures held { (key : Key) → held_under key self.new.entries ≡ held_without released.now (held_under key self.old.entries) }
+        ensures held { (key : Key) → held_under key self.new.entries
+            ≡ held_without released.now (held_under key self.old.entries) }
         ensures rooms { self.new.rooms ≡ self.old.rooms }
     {
         let _all_different = self.table.len();

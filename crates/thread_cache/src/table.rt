@@ -1,12 +1,14 @@
 //! The table of entries, some of which have a dropped scope.
 ghost use Rattle.std.specs.Prelude.{◌≡◌, ◌<◌, ◌≤◌, ◌+◌, true, All, filter, length, slice_get, Some};
-ghost use Rattle.indexmap.specs.IndexMap.{get, spare, insert_entry, IsUnique};
+ghost use Rattle.indexmap.specs.IndexMap.{spare, insert_entry, IsUnique};
 ghost use Rattle.thread_cache.specs.Scopes.{is_live, is_listed};
-ghost use Rattle.thread_cache.specs.Held.{shown};
-ghost use Rattle.thread_cache.specs.declared.query.CacheKey.{CacheKey};
+ghost use Rattle.thread_cache.specs.Keys.{asked};
+ghost use Rattle.thread_cache.specs.Held.{shown, slot_under};
+ghost use Rattle.thread_cache.specs.declared.key.CacheKey.{CacheKey};
 ghost use Rattle.thread_cache.specs.declared.table.Slot.{Slot};
 
-use crate::query::CacheKey;
+use crate::key::CacheKey;
+use crate::query::Query;
 use crate::scopes::{Scopes, count_entry, forget_dropped, is_dropped, is_live};
 use name_map::NameMap;
 use stat_defs::{ScopeId, Verdict};
@@ -20,11 +22,12 @@ pub(crate) struct Slot {
 
 pub(crate) type Table = NameMap<CacheKey, Slot>;
 
-// What the table has under a key.
-pub(crate) fn slot_of(table: &Table, key: &CacheKey) -> Option<Slot>
-    ensures { result ≡ get ⟦<CacheKey as PartialEq>⟧.eq table.now key.now }
+// What the table has under the key that is asked for.
+#[inline(always)]
+pub(crate) fn slot_of(table: &Table, query: &Query<'_>) -> Option<Slot>
+    ensures { result ≡ slot_under (asked query.now) table.now.entries }
 {
-    match table.get(key) {
+    match table.get(*query) {
         Some(slot) => Some(*slot),
         None => None,
     }

@@ -1,29 +1,28 @@
-use Rattle.std.proofs.Common.{◌≡◌, ap, sym, ◌∙◌, option_map}
+use Rattle.std.proofs.Common.{ap, sym, ◌∙◌, option_map}
 use Rattle.stat_defs.specs.Keys.{Held}
-use Rattle.thread_cache.specs.Keys.{key_of}
-use Rattle.thread_cache.specs.Held.{slot_under}
-use Rattle.thread_cache.proofs.Finding.{found, held_at, live_where_all, slot_by_key, verdict_held}
+use Rattle.thread_cache.specs.Keys.{asked}
+use Rattle.thread_cache.proofs.Finding.{found, held_at, live_where_all, verdict_held}
 use Rattle.thread_cache.proofs.cache.look_up.Goals as goal
 
 pub verdict_of-requires : goal.verdict_of-requires
 verdict_of-requires c fresh =
-    live_where_all c.args.scopes.now.entries (key_of c.args.key.now) c.args.table.now.entries _ (c.requires fresh)
-    (sym (slot_by_key c.args.key.now c.args.table.now.entries) ∙ (sym c.slot_of.ensures ∙ c.in-Some.is))
+    live_where_all c.args.scopes.now.entries (asked c.args.query.now) c.args.table.now.entries _ (c.requires fresh)
+    (sym c.slot_of.ensures ∙ c.in-Some.is)
 
 pub returns-in-Some : goal.returns-in-Some
 returns-in-Some c =
     let scopes = c.args.scopes.now.entries in
-    let key = key_of c.args.key.now in
+    let key = asked c.args.query.now in
     let table = c.args.table.now.entries in
-    let slot = sym (slot_by_key c.args.key.now table) ∙ (sym c.slot_of.ensures ∙ c.in-Some.is) in
+    let slot = sym c.slot_of.ensures ∙ c.in-Some.is in
     c.verdict_of.ensures ∙ sym (ap (option_map (λ (held : Held). held.verdict)) (found scopes key table c.len-all_different.ensures.unique)
     ∙ (ap (λ s. option_map (λ (held : Held). held.verdict) (held_at scopes key s)) slot ∙ verdict_held scopes key _))
 
 pub returns-in-None : goal.returns-in-None
 returns-in-None c =
     let scopes = c.args.scopes.now.entries in
-    let key = key_of c.args.key.now in
+    let key = asked c.args.query.now in
     let table = c.args.table.now.entries in
-    let slot = sym (slot_by_key c.args.key.now table) ∙ (sym c.slot_of.ensures ∙ c.in-None.is) in
+    let slot = sym c.slot_of.ensures ∙ c.in-None.is in
     sym (ap (option_map (λ (held : Held). held.verdict)) (found scopes key table c.len-all_different.ensures.unique)
     ∙ ap (λ s. option_map (λ (held : Held). held.verdict) (held_at scopes key s)) slot)

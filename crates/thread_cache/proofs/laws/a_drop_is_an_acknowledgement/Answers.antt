@@ -1,4 +1,4 @@
-use Rattle.std.proofs.Common.{◌≡◌, ◌∙◌, sym, ap}
+use Rattle.std.proofs.Common.{◌∙◌, sym, ap}
 use Rattle.thread_cache.specs.Held.{held_without}
 use Rattle.thread_cache.proofs.Agreeing.{held_left}
 use Rattle.thread_cache.proofs.laws.a_drop_is_an_acknowledgement.Goals as goal

@@ -1,4 +1,4 @@
-use Rattle.std.proofs.Common.{◌≡◌, ◌∙◌, sym, ap, if◌then◌else◌, Some}
+use Rattle.std.proofs.Common.{◌∙◌, sym, ap, if◌then◌else◌, Some}
 use Rattle.stat_defs.specs.Keys.{same_key}
 use Rattle.thread_cache.proofs.Agreeing.{last_held}
 use Rattle.thread_cache.proofs.laws.a_fill_is_a_find.Goals as goal

@@ -1,4 +1,4 @@
-use Rattle.std.proofs.Common.{◌≡◌, ◌≤◌, ◌&&◌, ◌==◌, not, ℕ, take}
+use Rattle.std.proofs.Common.{◌≡◌, ◌≤◌, ◌&&◌, ◌==◌, not, take}
 use Rattle.std.specs.List.{list_any}
 use Rattle.indexmap.specs.IndexMap.{spare}
 use Rattle.stat_defs.specs.declared.ids.ScopeId.{ScopeId}

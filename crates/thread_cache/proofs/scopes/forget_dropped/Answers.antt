@@ -1,4 +1,4 @@
-use Rattle.std.proofs.Common.{rules, ◌≡◌, not, ap, ◌∙◌}
+use Rattle.std.proofs.Common.{rules, not, ap, ◌∙◌}
 use Rattle.indexmap.proofs.CallerLemmas.{filter-RetainsPairs}
 use Rattle.thread_cache.specs.Scopes.{is_live, is_listed}
 use Rattle.thread_cache.proofs.ScopeLemmas.{is_live-kept, is_listed-kept}

@@ -1,6 +1,6 @@
-use Rattle.std.proofs.Common.{rules, ◌≡◌, ◌∙◌, ◌+◌, ◌<◌, ◌≤◌, Bool, ap, sym, cond, true, false, filter, length, take, arith, subst}
+use Rattle.std.proofs.Common.{◌∙◌, ◌+◌, ◌<◌, ◌≤◌, Bool, ap, sym, cond, filter, length, take, arith, subst}
 use Rattle.std.proofs.lemmas.List.{length-map, take_all}
-use Rattle.thread_cache.specs.declared.query.CacheKey.{CacheKey}
+use Rattle.thread_cache.specs.declared.key.CacheKey.{CacheKey}
 use Rattle.thread_cache.specs.declared.table.Slot.{Slot}
 use Rattle.thread_cache.specs.Scopes.{is_live}
 use Rattle.thread_cache.specs.Held.{held_of}

@@ -1,4 +1,4 @@
-use Rattle.std.proofs.Common.{◌≡◌, ◌∙◌, sym, All, true}
+use Rattle.std.proofs.Common.{◌≡◌, ◌∙◌, sym, true}
 use Rattle.std.proofs.lemmas.List.Elements.{All-weaker}
 use Rattle.thread_cache.specs.Scopes.{is_live, is_listed}
 use Rattle.thread_cache.proofs.Opening.{shown-opened, unlisted, dropped_not_live, listed_of_live}

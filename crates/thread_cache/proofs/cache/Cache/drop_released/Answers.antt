@@ -1,4 +1,4 @@
-use Rattle.std.proofs.Common.{◌≡◌, ◌∙◌, ap, not, filter}
+use Rattle.std.proofs.Common.{◌∙◌, ap, not, filter}
 use Rattle.stat_defs.specs.Keys.{held_under}
 use Rattle.stat_defs.specs.Keys.{is_through}
 use Rattle.thread_cache.specs.Held.{held_without}

@@ -1,11 +1,11 @@
-use Rattle.std.proofs.Common.{◌≡◌, ◌∙◌, sym, ap, subst, All, true, length, None, arith, ◌+◌}
+use Rattle.std.proofs.Common.{◌≡◌, ◌∙◌, sym, ap, subst, All, true, length, arith, ◌+◌}
 use Rattle.std.specs.List.{IsDistinct}
 use Rattle.std.specs.Map.{keys_of}
 use Rattle.stat_defs.specs.Keys.{held_under}
-use Rattle.thread_cache.specs.Keys.{key_of}
+use Rattle.thread_cache.specs.Keys.{asked, key_of}
 use Rattle.thread_cache.specs.Scopes.{is_live, is_listed}
 use Rattle.thread_cache.specs.Held.{shown, held_with}
-use Rattle.thread_cache.proofs.KeyLemmas.{eq}
+use Rattle.thread_cache.specs.KeyLaws.{eq}
 use Rattle.thread_cache.proofs.Opening.{listed_of_live}
 use Rattle.thread_cache.proofs.Filling.{All-filled, held_in_filled, one_more}
 use Rattle.thread_cache.proofs.cache.Cache.fill.Goals as goal
@@ -28,7 +28,7 @@ pub returns-clause-held : goal.returns-clause-held
 returns-clause-held c key =
     let opened = c.open_scope-self-inside in
     let scopes = opened.new.scopes.entries in
-    let query : key_of c.in-Some.key ≡ c.args.query.now = c.in-Some.ensures.taken.0 ∙ c.query.view_is in
+    let query : key_of c.in-Some.key ≡ asked c.args.query.now = c.in-Some.ensures.taken.0 in
     let entries : shown scopes opened.new.table.entries ≡ c.args.self.now.entries = opened.ensures.shown ∙ (λ i. (c.self.view_is i).entries) in
     ap (λ t. held_under key (shown scopes t)) c.put.ensures.entries
     ∙ (held_in_filled c.in-Some.key _ scopes opened.ensures.opened opened.new.table.entries c.put.ensures.different
@@ -39,7 +39,7 @@ pub returns-clause-one_more : goal.returns-clause-one_more
 returns-clause-one_more c =
     let opened = c.open_scope-self-inside in
     let scopes = opened.new.scopes.entries in
-    let query : key_of c.in-Some.key ≡ c.args.query.now = c.in-Some.ensures.taken.0 ∙ c.query.view_is in
+    let query : key_of c.in-Some.key ≡ asked c.args.query.now = c.in-Some.ensures.taken.0 in
     let entries : shown scopes opened.new.table.entries ≡ c.args.self.now.entries = opened.ensures.shown ∙ (λ i. (c.self.view_is i).entries) in
     ap (λ t. length (shown scopes t)) c.put.ensures.entries
     ∙ (one_more c.in-Some.key _ scopes opened.ensures.opened opened.new.table.entries c.put.ensures.different
