@@ -12,4 +12,5 @@ mod tests;
 pub use bins::Bins;
 pub use digits::bin_of;
 pub use laws::{merge_law, record_law, values_law};
+pub use measures::{largest_whole, mark_twentieths, value_within};
 pub use place::{BIN_COUNT, MAX_COUNT};

@@ -37,7 +37,7 @@ fn width_thousandths(bin: Bin) -> u128
 }
 
 /// A thousand times the value that stands a part `rest / n` of the way through a bin.
-pub(crate) fn value_within(bin: Bin, n: u64, rest: u64) -> u128
+pub fn value_within(bin: Bin, n: u64, rest: u64) -> u128
     requires lawful { IsTrue (is_lawful bin) }
     requires some { 0 < n }
     requires part { rest ≤ MAX_COUNT }
@@ -48,7 +48,7 @@ pub(crate) fn value_within(bin: Bin, n: u64, rest: u64) -> u128
 
 /// The largest whole number in a bin.
 #[tactic(auto, unfolding(crate::specs::Bins::largest_whole))]
-fn largest_whole(bin: Bin) -> u128
+pub fn largest_whole(bin: Bin) -> u128
     requires { IsTrue (is_lawful bin) }
     ensures largest { result ≡ the_largest bin }
     ensures bound { result < 2 ^ 72 }
@@ -76,7 +76,7 @@ pub(crate) fn count_at_bound(place: usize, n: u64, bound: Bound) -> u64
 
 /// Twenty times the middle of a bin.
 #[tactic(auto, unfolding(crate::specs::Bins::mark_twentieths))]
-fn mark_twentieths(bin: Bin) -> u128
+pub fn mark_twentieths(bin: Bin) -> u128
     requires { IsTrue (is_lawful bin) }
     ensures mark { result ≡ the_mark bin }
     ensures bound { result < 2 ^ 73 }

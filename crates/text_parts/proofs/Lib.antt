@@ -2,5 +2,4 @@ pub mod Following
 pub mod Gathering
 pub mod Lines
 pub mod Pairs
-pub mod Powers
 pub mod Rising

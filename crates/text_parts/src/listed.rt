@@ -3,8 +3,8 @@ ghost use Rattle.std.specs.Prelude.{◌≡◌, ◌≤◌};
 ghost use Rattle.loglinear_bins.specs.Counts.{total, count_at_most, sum_of, value_at, quantile_of};
 ghost use Rattle.text_parts.specs.Histograms.{IsHistogram};
 
-use crate::measures::{count_at_bound, sum_at, value_within};
-use loglinear_bins::MAX_COUNT;
+use crate::measures::{count_at_bound, sum_at};
+use loglinear_bins::{MAX_COUNT, value_within};
 use stat_defs::{BinCount, Bound};
 
 /// The number of values.
@@ -52,7 +52,7 @@ fn value_at_rank(counts: &[BinCount], rank: u64) -> u128
     let mut rest = rank;
     for c in counts {
         if rest <= c.count {
-            return value_within(*c, rest);
+            return value_within(c.bin, c.count, rest);
         }
         rest -= c.count;
     }
