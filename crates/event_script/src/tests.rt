@@ -45,27 +45,19 @@ fn tell(alloc: Global, told: &mut Vec<u8>, step: &Step) -> Result<(), NoMemory> 
     Ok(())
 }
 
-// The next answer, by `next_ref` where it is to be borrowed, and by `next` where not.
-fn answer_by(
-    alloc: Global,
-    lines: &mut Lines<MemSource>,
-    borrowed: bool,
-) -> Result<Step, NoMemory> {
-    if borrowed {
+// The next answer, whose event the reader lends or gives.
+fn answer_by(alloc: Global, lines: &mut Lines<MemSource>, lent: bool) -> Result<Step, NoMemory> {
+    if lent {
         return lines.next_ref(alloc)?.to_step(alloc);
     }
     lines.next(alloc)
 }
 
 // All answers up to the end, as one text.
-fn told_by(
-    alloc: Global,
-    lines: &mut Lines<MemSource>,
-    borrowed: bool,
-) -> Result<Vec<u8>, NoMemory> {
+fn told_by(alloc: Global, lines: &mut Lines<MemSource>, lent: bool) -> Result<Vec<u8>, NoMemory> {
     let mut told = Vec::new(alloc);
     for _ in 0..100 {
-        let step = answer_by(alloc, lines, borrowed)?;
+        let step = answer_by(alloc, lines, lent)?;
         tell(alloc, &mut told, &step)?;
         if !matches!(&step, Step::Event(_)) {
             return Ok(told);
@@ -172,18 +164,12 @@ fn files(rt: HostRuntime) -> Result<(), NoMemory> {
     let mut rows = 0u64;
     for row in FILES.split(|b| *b == 2) {
         let (file, want) = parts_of(row);
-        for (piece, borrowed) in [(1, true), (7, false), (100_000, false), (100_000, true)] {
+        for (piece, lent) in [(1, true), (7, false), (100_000, true)] {
             let mut lines = lines_of(alloc, file, piece, Vec::new(alloc))?;
-            let told = told_by(alloc, &mut lines, borrowed)?;
-            assert!(rt;
-                told.as_slice() == want,
-                "row {rows} by {piece}, {borrowed}"
-            );
-            let again = told_by(alloc, &mut lines, !borrowed)?;
-            assert!(rt;
-                want.ends_with(&again),
-                "row {rows} by {piece}, {borrowed}, again"
-            );
+            let told = told_by(alloc, &mut lines, lent)?;
+            assert!(rt; told.as_slice() == want, "row {rows} by {piece}");
+            let again = told_by(alloc, &mut lines, !lent)?;
+            assert!(rt; want.ends_with(&again), "row {rows} by {piece}, again");
         }
         rows = rows.saturating_add(1);
     }
@@ -325,15 +311,11 @@ fn spelled_out(alloc: Global, row: &[u8]) -> Result<Vec<u8>, NoMemory> {
 }
 
 // How many events came, and the end.
-fn count_by(
-    alloc: Global,
-    lines: &mut Lines<MemSource>,
-    borrowed: bool,
-) -> Result<Vec<u8>, NoMemory> {
+fn count_by(alloc: Global, lines: &mut Lines<MemSource>, lent: bool) -> Result<Vec<u8>, NoMemory> {
     let mut count = 0u64;
     let mut told = Vec::new(alloc);
     for _ in 0..200_000 {
-        let step = answer_by(alloc, lines, borrowed)?;
+        let step = answer_by(alloc, lines, lent)?;
         if !matches!(&step, Step::Event(_)) {
             told.extend_from_slice(count.to_string(alloc)?.as_bytes())?;
             told.push(b' ')?;
