@@ -28,9 +28,10 @@ abbrev pub told_in : Result StepRef NoMemory → Result Step NoMemory
 told_in (Ok s) = answer_of s
 told_in (Err e) = Err e
 
--- what the reader answered, where it is the new one once nothing is borrowed from it; and an end is answered again, which
--- changes nothing
-pub record HasAnswered {S : Type 0} (state : S → SourceState) (old : Reading S) (result : Result StepRef NoMemory) (new : Reading S) : Type 0 where
+-- what the reader answered, where it is the new one once nothing is borrowed from it; and an end is answered again,
+-- which changes nothing
+pub record HasAnswered {S : Type 0} (state : S → SourceState) (old : Reading S) (result : Result StepRef NoMemory)
+    (new : Reading S) : Type 0 where
   pub answer : IsAnswer state old new (told_in result)
   pub again : (end : FileEnd) → old.ended ≡ Some end → TellsEnd (told_in result) end × (new ≡ old)
 

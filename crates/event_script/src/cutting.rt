@@ -78,7 +78,8 @@ fn said_without(line: &[u8]) -> Said<'_>
 // What a line of so many bytes says that is this event's.
 #[inline(always)]
 fn said_with(event: EventRef<'_>, count: usize) -> Said<'_>
-    ensures { (line : List ℕ) → event_in line ≡ Some (event_of event.entry) → length line ≡ count → LineSays line result }
+    ensures { (line : List ℕ) → event_in line ≡ Some (event_of event.entry) → length line ≡ count
+        → LineSays line result }
 {
     if count > MAX_LINE_BYTES {
         return Said::TooLong;
@@ -133,7 +134,8 @@ pub fn read_on<'a>(bytes: &'a [u8], stopped: Pulled, place: &mut Place) -> StepR
     ensures lawful { All IsLawful (events_answered (answer_of result)) }
     ensures ends { IfEnded (answer_of result) (λ end. EndsBy stopped end) }
     ensures reads { (events : List Event) (end : FileEnd)
-        → FollowsAnswer (answer_of result) place.new.number place.new.given (lines_until stopped (drop place.new.at bytes.now)) stopped events end
+        → FollowsAnswer (answer_of result) place.new.number place.new.given
+        (lines_until stopped (drop place.new.at bytes.now)) stopped events end
         → LinesGive place.old.number place.old.given (lines_until stopped (drop place.old.at bytes.now)) stopped
         (events_answered (answer_of result) ++ events) end }
 {

@@ -25,14 +25,8 @@ fn inc_event(text: &[u8]) -> Option<(EventRef<'_>, &[u8])>
     let Some((n, after)) = number_last(rest, u64::from(u32::MAX)) else {
         return None;
     };
-    Some((
-        EventRef::Inc {
-            label,
-            name,
-            n: n as u32,
-        },
-        after,
-    ))
+    let n = n as u32;
+    Some((EventRef::Inc { label, name, n }, after))
 }
 
 fn gauge_event(op: GaugeOp, text: &[u8]) -> Option<(EventRef<'_>, &[u8])>
@@ -73,7 +67,8 @@ fn rec_event(text: &[u8]) -> Option<(EventRef<'_>, &[u8])>
 }
 
 fn text_event(text: &[u8]) -> Option<(EventRef<'_>, &[u8])>
-    ensures { MatchOption result (LacksLine readout_in text.now) (λ p. HasLine readout_in text.now (event_of p.0) p.1.now) }
+    ensures { MatchOption result (LacksLine readout_in text.now)
+        (λ p. HasLine readout_in text.now (event_of p.0) p.1.now) }
 {
     let Some((label, name, rest)) = metric_first(text) else {
         return None;
@@ -110,7 +105,8 @@ fn open_event(text: &[u8]) -> Option<(EventRef<'_>, &[u8])>
 }
 
 fn release_event(text: &[u8]) -> Option<(EventRef<'_>, &[u8])>
-    ensures { MatchOption result (LacksLine release_in text.now) (λ p. HasLine release_in text.now (event_of p.0) p.1.now) }
+    ensures { MatchOption result (LacksLine release_in text.now)
+        (λ p. HasLine release_in text.now (event_of p.0) p.1.now) }
 {
     let Some((label, after)) = label_last(text) else {
         return None;

@@ -137,7 +137,8 @@ impl<S: Source> Lines<S> {
     fn step_ref<'a>(&'a mut self, stopped: Pulled) -> StepRef<'a>
         requires stopped { self.old.stopped ≡ Some stopped }
         requires going { self.old.ended ≡ None }
-        ensures* answer { sem 𝓛 (Rests (the_row S.row S.Source) self.entry (λ new. IsAnswer S.state self.old new (answer_of result))) }
+        ensures* answer { sem 𝓛 (Rests (the_row S.row S.Source) self.entry
+            (λ new. IsAnswer S.state self.old new (answer_of result))) }
     {
         let step = read_on(&self.bytes, stopped, &mut self.place);
         self.ended = end_of(&step);
@@ -193,8 +194,8 @@ impl<S: Source> Lines<S> {
         self.step(alloc, stopped)
     }
 
-    /// The same as [`next`](Lines::next), but the event is borrowed from the reader: nothing is copied, and memory is wanted only
-    /// to pull. The contract, where nothing is borrowed any more, is that of `next`.
+    /// The same as [`next`](Lines::next), but the event is borrowed from the reader: nothing is copied, and memory is
+    /// wanted only to pull. What `next` says of the reader, `answered` says of it once nothing is borrowed any more.
     #[inline(always)]
     pub fn next_ref<'a>(&'a mut self, alloc: Global) -> Result<StepRef<'a>, NoMemory>
         ensures* answered { sem 𝓛 (Rests (the_row S.row S.Source) self.entry (HasAnswered S.state self.old result)) }

@@ -30,17 +30,11 @@ pub enum Step {
 #[derive(Clone, Copy, Debug)]
 pub enum StepRef<'a> {
     Event(EventRef<'a>),
-    /// The file was read to its end.
     End,
-    /// The line of that number is none of an event file.
     BadLine(u64),
-    /// The line of that number has more than [`MAX_LINE_BYTES`](crate::MAX_LINE_BYTES).
     LineTooLong(u64),
-    /// The file has more than [`MAX_FILE_BYTES`](crate::MAX_FILE_BYTES).
     TooBig,
-    /// The file has more than [`MAX_EVENTS`](crate::MAX_EVENTS).
     TooMany,
-    /// The source failed.
     ReadFault,
 }
 
