@@ -1,5 +1,6 @@
 -- One answer of the reader.
-use Rattle.std.proofs.Common.{◌≡◌, ◌+◌, ℕ, length, Option, Some, None, MatchOption, List, [], ◌++◌, drop, refl, sym, ap, ◌∙◌, subst, arith, Result, Ok, IfSome, All, ◌<◌, ◌≤◌, add-zero}
+use Rattle.std.proofs.Common.{◌≡◌, ◌+◌, ℕ, length, Option, Some, None, MatchOption, List, [], ◌++◌, drop, refl, sym, ap, ◌∙◌, subst, arith, Result, Ok, Err, MatchResult, IfSome, All, ◌<◌, ◌≤◌, add-zero}
+use Rattle.std.specs.Result.{IsErr}
 use Rattle.std.proofs.KnownBytes.{Consumes-nil}
 use Rattle.stat_defs.specs.declared.events.Event.{Event}
 use Rattle.stat_defs.specs.declared.reports.FileEnd.{FileEnd}
@@ -16,6 +17,8 @@ use Rattle.event_script.specs.Answer.{IsAnswer, TellsEnd, no_answer, HasEnded, E
 use Rattle.event_script.specs.ReaderKept.{IsReaderKept}
 use Rattle.event_script.specs.Grammar.{IsLawful}
 use Rattle.stat_defs.specs.Faults.{Rose}
+use Rattle.event_script.specs.Told.{answer_of, told, IsLastEnd}
+use Rattle.event_script.specs.declared.step.StepRef.{StepRef}
 use Rattle.event_script.specs.declared.step.Step.{Step}
 use Rattle.event_script.specs.declared.step.Step.TheVariants as step
 use Rattle.std.proofs.lemmas.List.Elements.{All-nil}
@@ -50,12 +53,9 @@ module _ {S : Type 0} (state : S → SourceState) (source : S) (bytes : List ℕ
   moves_step stopped ended is none = rw (is, none) core
 
 -- a reader does not end as a file does that was not opened
-pub last_is : (stopped : Option Pulled) (ended : Option FileEnd) (end : FileEnd) (found : Option Step) → ended ≡ Some end → StoppedBy stopped end
-    → MatchOption found (end ≡ NotOpened) (λ step. TellsEnd (Ok step) end)
-    → MatchOption found (ended ≡ None) (λ step. (events_answered (Ok step) ≡ []) × (end_of (Ok step) ≡ ended))
-last_is None ended end found is by answers = absurd by
-last_is (Some stop) ended end None is by answers = absurd (subst (λ e. EndsBy stop e) answers by)
-last_is (Some stop) ended end (Some step) is by answers = (answers.0, answers.1 ∙ sym is)
+was_opened : (stopped : Option Pulled) (end : FileEnd) → StoppedBy stopped end → end ≡ NotOpened → ⊥
+was_opened None end by unopened = by
+was_opened (Some stop) end by unopened = subst (λ e. EndsBy stop e) unopened by
 
 -- nothing moves
 pub moves_none : {S : Type 0} (state : S → SourceState) (r : Reading S) → Moves state r r [] []
@@ -133,14 +133,15 @@ module _ {S : Type 0} (state : S → SourceState) (source : S) (bytes : List ℕ
     bound = kept.bound;
   }
 
-no_event : (step : Step) (fact : Type 0) → events_answered (Ok step) ≡ [] → IfEvent (Ok step) fact
-no_event (step.Event e) fact none = absurd cc
-no_event step.End fact none = tt
-no_event (step.BadLine n) fact none = tt
-no_event (step.LineTooLong n) fact none = tt
-no_event step.TooBig fact none = tt
-no_event step.TooMany fact none = tt
-no_event step.ReadFault fact none = tt
+no_event : (answer : Result Step NoMemory) (fact : Type 0) → events_answered answer ≡ [] → IfEvent answer fact
+no_event (Ok (step.Event e)) fact none = absurd cc
+no_event (Ok step.End) fact none = tt
+no_event (Ok (step.BadLine n)) fact none = tt
+no_event (Ok (step.LineTooLong n)) fact none = tt
+no_event (Ok step.TooBig) fact none = tt
+no_event (Ok step.TooMany) fact none = tt
+no_event (Ok step.ReadFault) fact none = tt
+no_event (Err e) fact none = tt
 
 module _ {S : Type 0} (state : S → SourceState) (source : S) (bytes : List ℕ) (place : Place) (taken first : ℕ) (stopped : Option Pulled) (ended : Option FileEnd)
     (kept : IsReaderKept bytes place taken first stopped ended (state source)) where
@@ -155,16 +156,40 @@ module _ {S : Type 0} (state : S → SourceState) (source : S) (bytes : List ℕ
   few_lines None is = omega (arith, ap (λ p. p.number) (kept.fresh is).at_start)
   few_lines (Some stop) is = omega (arith, kept.within, kept.numbered, kept.short stop is)
 
-  -- the end is answered again
-  pub answer_again : (step : Step) → events_answered (Ok step) ≡ [] → end_of (Ok step) ≡ ended → IsAnswer state here here (Ok step)
-  answer_again step none is = record {
+  answer_still : (answer : Result Step NoMemory) → events_answered answer ≡ [] → IfEnded answer (HasEnded state here) → IsAnswer state here here answer
+  answer_still answer none by = record {
     got = [];
     moves = rw none (moves_none state here);
     lawful = rw none (All-nil IsLawful);
-    onward = no_event step (place.number < place.number) none;
-    ended = rw is (has_last ended refl);
+    onward = no_event answer (place.number < place.number) none;
+    ended = by;
     whole = kept.at_end;
     few = kept.few;
     short = few_lines stopped refl;
     bound = kept.bound;
   }
+
+  -- the end is answered again
+  pub answer_again : (answer : Result Step NoMemory) → events_answered answer ≡ [] → end_of answer ≡ ended → IsAnswer state here here answer
+  answer_again answer none is = answer_still answer none (rw is (has_last ended refl))
+
+  -- nothing is answered
+  pub answer_none : (answer : Result Step NoMemory) → IsErr answer → IsAnswer state here here answer
+  answer_none (Ok step) none = absurd cc
+  answer_none (Err e) none = answer_still (Err e) refl tt
+
+  pub last_is : (end : FileEnd) (found : Option StepRef) → ended ≡ Some end → MatchOption found (end ≡ NotOpened) (λ step. TellsEnd (answer_of step) end)
+      → MatchOption found (ended ≡ None) (IsLastEnd state here)
+  last_is end None is unopened = absurd (was_opened stopped end (kept.by end is) unopened)
+  last_is end (Some step) is tells = record { end = end; is = is; tells = tells; answer = answer_again (answer_of step) tells.0 (tells.1 ∙ sym is) }
+
+-- the last end is told, and is the one that the reader has
+pub ends_again : {S : Type 0} (state : S → SourceState) (now : Reading S) (step : StepRef) → IsLastEnd state now step → (end : FileEnd) → now.ended ≡ Some end
+    → TellsEnd (answer_of step) end
+ends_again state now step last end ended = (last.tells.0, last.tells.1 ∙ sym last.is ∙ ended)
+
+-- an end is made the caller's own without memory
+pub own_end : (step : StepRef) (end : FileEnd) (own : Result Step NoMemory) → TellsEnd (answer_of step) end
+    → MatchResult own (λ s. s ≡ told step) (λ _. end_of (answer_of step) ≡ None) → own ≡ answer_of step
+own_end step end (Ok s) tells is = ap (λ (s : Step). Ok s) is
+own_end step end (Err e) tells none = let no = sym tells.1 ∙ none in absurd cc

@@ -1,5 +1,6 @@
 -- What the reader says of a line.
 use Rattle.std.specs.Prelude.{◌≡◌, ◌<◌, ◌≤◌, ℕ, List, ◌∷◌, length, drop}
+use Rattle.stat_defs.specs.Borrowed.{event_of}
 use Rattle.event_script.specs.Grammar.{IsPassedOver, IsLineOf, IsNoLine}
 use Rattle.event_script.specs.EventIn.{first_line}
 use Rattle.event_script.specs.Script.{lines_until}
@@ -10,7 +11,7 @@ use Rattle.event_script.specs.declared.limits.TheConstants.{MAX_LINE_BYTES}
 
 abbrev pub LineSays : List ℕ → Said → Type 0
 LineSays line Nothing = (length line ≤ MAX_LINE_BYTES) × IsPassedOver line
-LineSays line (Event e) = (length line ≤ MAX_LINE_BYTES) × IsLineOf line e
+LineSays line (Event e) = (length line ≤ MAX_LINE_BYTES) × IsLineOf line (event_of e)
 LineSays line NoLine = (length line ≤ MAX_LINE_BYTES) × IsNoLine line
 LineSays line TooLong = MAX_LINE_BYTES < length line
 

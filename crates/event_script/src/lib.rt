@@ -23,5 +23,5 @@ pub use laws::{
 };
 pub use limits::{MAX_EVENTS, MAX_FILE_BYTES, MAX_LINE_BYTES};
 pub use lines::Lines;
-pub use step::Step;
+pub use step::{Step, StepRef};
 pub use writing::write_event;

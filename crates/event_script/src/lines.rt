@@ -1,12 +1,15 @@
 //! The events of a file, one after another.
-ghost use Rattle.std.specs.Prelude.{◌≡◌, [], Some, None, Ok, IfOk, MatchOption};
+ghost use Rattle.std.specs.Prelude.{◌≡◌, Some, None, Ok, IfOk, MatchOption};
 ghost use Rattle.event_script.specs.Reader.{unread};
-ghost use Rattle.event_script.specs.Answer.{IsAnswer, TellsEnd, no_answer, events_answered, end_of};
+ghost use Rattle.std.specs.Borrow.{sem};
+ghost use Rattle.std.specs.Io.BufRead.{Rests};
+ghost use Rattle.event_script.specs.Answer.{IsAnswer, TellsEnd, no_answer};
+ghost use Rattle.event_script.specs.Told.{answer_of, HasAnswered, IsLastEnd};
 ghost use Rattle.stat_defs.specs.declared.reports.FileEnd.{FileEnd};
 
 use crate::cutting::{Place, read_on};
 use crate::limits::MAX_FILE_BYTES;
-use crate::step::{Step, end_of, step_of};
+use crate::step::{Step, StepRef, end_of, step_of};
 use stat_defs::{FileEnd, NoMemory};
 use stats_io::{Pulled, Source, pull_up_to};
 use std::alloc::Global;
@@ -53,6 +56,8 @@ impl<S: Source> Model for Lines<S> {
 }
 
 impl<S: Source> Lines<S> {
+    ghost use Rattle.event_script.specs.contracts.lines.Lines.{the_row};
+
     /// A reader that has taken nothing yet.
     pub fn new(alloc: Global, source: S) -> Result<Lines<S>, NoMemory>
         ensures { IfOk result (λ lines. lines ≡ unread source (S.state source).faults) }
@@ -112,23 +117,53 @@ impl<S: Source> Lines<S> {
         Ok(stopped)
     }
 
-    // LinesGive on to the next event, or to the end.
+    // How the source stopped, which is pulled where it has not.
+    #[inline(always)]
+    fn pulled(&mut self, alloc: Global) -> Result<Pulled, NoMemory>
+        requires { self.old.ended ≡ None }
+        ensures answer { IsAnswer S.state self.old self.new no_answer }
+        ensures stopped { IfOk result (λ stopped. self.new.stopped ≡ Some stopped) }
+        ensures ended { self.new.ended ≡ None }
+        ensures number { self.new.number ≡ self.old.number }
+    {
+        if let Some(stopped) = self.stopped {
+            return Ok(stopped);
+        }
+        self.fill(alloc)
+    }
+
+    // Reads on to the next event, or to the end.
+    #[inline(always)]
+    fn step_ref<'a>(&'a mut self, stopped: Pulled) -> StepRef<'a>
+        requires stopped { self.old.stopped ≡ Some stopped }
+        requires going { self.old.ended ≡ None }
+        ensures* answer { sem 𝓛 (Rests (the_row S.row S.Source) self.entry (λ new. IsAnswer S.state self.old new (answer_of result))) }
+    {
+        let step = read_on(&self.bytes, stopped, &mut self.place);
+        self.ended = end_of(&step);
+        step
+    }
+
+    // The same, and the event is made the caller's own, before anything changes.
     #[inline(always)]
     fn step(&mut self, alloc: Global, stopped: Pulled) -> Result<Step, NoMemory>
         requires stopped { self.old.stopped ≡ Some stopped }
         requires going { self.old.ended ≡ None }
         ensures { IsAnswer S.state self.old self.new result }
     {
-        let answer = read_on(alloc, &self.bytes, stopped, &mut self.place);
-        self.ended = end_of(&answer);
-        answer
+        let mut place = self.place;
+        let found = read_on(&self.bytes, stopped, &mut place);
+        let ended = end_of(&found);
+        let step = found.to_step(alloc)?;
+        self.place = place;
+        self.ended = ended;
+        Ok(step)
     }
 
     // The end that was answered, as it is answered again.
     #[inline(always)]
-    fn last_end(&self) -> Option<Step>
-        ensures { MatchOption result (self.now.ended ≡ None)
-            (λ step. (events_answered (Ok step) ≡ []) × (end_of (Ok step) ≡ self.now.ended)) }
+    fn last_end<'a>(&self) -> Option<StepRef<'a>>
+        ensures { MatchOption result (self.now.ended ≡ None) (IsLastEnd S.state self.now) }
     {
         let Some(end) = self.ended else {
             return None;
@@ -152,12 +187,22 @@ impl<S: Source> Lines<S> {
         ensures again { (end : FileEnd) → self.old.ended ≡ Some end → TellsEnd result end × (self.new ≡ self.old) }
     {
         if let Some(step) = self.last_end() {
+            return step.to_step(alloc);
+        }
+        let stopped = self.pulled(alloc)?;
+        self.step(alloc, stopped)
+    }
+
+    /// The same as [`next`](Lines::next), but the event is borrowed from the reader: nothing is copied, and memory is wanted only
+    /// to pull. The contract, where nothing is borrowed any more, is that of `next`.
+    #[inline(always)]
+    pub fn next_ref<'a>(&'a mut self, alloc: Global) -> Result<StepRef<'a>, NoMemory>
+        ensures* answered { sem 𝓛 (Rests (the_row S.row S.Source) self.entry (HasAnswered S.state self.old result)) }
+    {
+        if let Some(step) = self.last_end() {
             return Ok(step);
         }
-        if let Some(stopped) = self.stopped {
-            return self.step(alloc, stopped);
-        }
-        let stopped = self.fill(alloc)?;
-        self.step(alloc, stopped)
+        let stopped = self.pulled(alloc)?;
+        Ok(self.step_ref(stopped))
     }
 }

@@ -6,13 +6,12 @@ ghost use Rattle.event_script.specs.EventIn.{read_number};
 ghost use Rattle.event_script.specs.FirstLine.{HasDigits, HasMoreThan, HasLine, LacksLine};
 ghost use Rattle.event_script.specs.FirstLine as found;
 
-fn digit_of(b: u8) -> Option<u64>
-    ensures { MatchOption result (10 ≤ digit_value b) (λ d. (digit_value b < 10) × (d ≡ digit_value b)) }
+// The value of a digit, and 10 or more of any other byte.
+fn digit_of(b: u8) -> u64
+    ensures digit { result < 10 → result ≡ digit_value b }
+    ensures other { 10 ≤ result → 10 ≤ digit_value b }
 {
-    if b < b'0' || b > b'9' {
-        return None;
-    }
-    Some(u64::from(b - b'0'))
+    u64::from(b.wrapping_sub(b'0'))
 }
 
 // The number with one more digit behind it, where it is at most `most`.
@@ -34,9 +33,10 @@ fn digits_first(text: &[u8], most: u64) -> Option<(u64, usize)>
 {
     let mut n: u64 = 0;
     for (at, b) in text.iter().enumerate() {
-        let Some(digit) = digit_of(*b) else {
+        let digit = digit_of(*b);
+        if digit >= 10 {
             return Some((n, at));
-        };
+        }
         let Some(more) = with_digit(n, digit, most) else {
             return None;
         };

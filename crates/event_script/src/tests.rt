@@ -45,11 +45,27 @@ fn tell(alloc: Global, told: &mut Vec<u8>, step: &Step) -> Result<(), NoMemory> 
     Ok(())
 }
 
+// The next answer, by `next_ref` where it is to be borrowed, and by `next` where not.
+fn answer_by(
+    alloc: Global,
+    lines: &mut Lines<MemSource>,
+    borrowed: bool,
+) -> Result<Step, NoMemory> {
+    if borrowed {
+        return lines.next_ref(alloc)?.to_step(alloc);
+    }
+    lines.next(alloc)
+}
+
 // All answers up to the end, as one text.
-fn told_by(alloc: Global, lines: &mut Lines<MemSource>) -> Result<Vec<u8>, NoMemory> {
+fn told_by(
+    alloc: Global,
+    lines: &mut Lines<MemSource>,
+    borrowed: bool,
+) -> Result<Vec<u8>, NoMemory> {
     let mut told = Vec::new(alloc);
     for _ in 0..100 {
-        let step = lines.next(alloc)?;
+        let step = answer_by(alloc, lines, borrowed)?;
         tell(alloc, &mut told, &step)?;
         if !matches!(&step, Step::Event(_)) {
             return Ok(told);
@@ -156,12 +172,18 @@ fn files(rt: HostRuntime) -> Result<(), NoMemory> {
     let mut rows = 0u64;
     for row in FILES.split(|b| *b == 2) {
         let (file, want) = parts_of(row);
-        for piece in [1, 7, 100_000] {
+        for (piece, borrowed) in [(1, true), (7, false), (100_000, false), (100_000, true)] {
             let mut lines = lines_of(alloc, file, piece, Vec::new(alloc))?;
-            let told = told_by(alloc, &mut lines)?;
-            assert!(rt; told.as_slice() == want, "row {rows} by {piece}");
-            let again = told_by(alloc, &mut lines)?;
-            assert!(rt; want.ends_with(&again), "row {rows} by {piece}, again");
+            let told = told_by(alloc, &mut lines, borrowed)?;
+            assert!(rt;
+                told.as_slice() == want,
+                "row {rows} by {piece}, {borrowed}"
+            );
+            let again = told_by(alloc, &mut lines, !borrowed)?;
+            assert!(rt;
+                want.ends_with(&again),
+                "row {rows} by {piece}, {borrowed}, again"
+            );
         }
         rows = rows.saturating_add(1);
     }
@@ -229,10 +251,10 @@ fn assert_fault(
     let mut fails = Vec::new(alloc);
     fails.push(call)?;
     let mut lines = lines_of(alloc, file, piece, fails)?;
-    let told = told_by(alloc, &mut lines)?;
+    let told = told_by(alloc, &mut lines, true)?;
     assert!(rt; told.as_slice() == want, "{file:?}");
     assert_eq!(rt; lines.taken(), taken, "{file:?}");
-    let again = told_by(alloc, &mut lines)?;
+    let again = told_by(alloc, &mut lines, false)?;
     assert!(rt; want.ends_with(&again), "{file:?}, again");
     Ok(())
 }
@@ -303,11 +325,15 @@ fn spelled_out(alloc: Global, row: &[u8]) -> Result<Vec<u8>, NoMemory> {
 }
 
 // How many events came, and the end.
-fn count_by(alloc: Global, lines: &mut Lines<MemSource>) -> Result<Vec<u8>, NoMemory> {
+fn count_by(
+    alloc: Global,
+    lines: &mut Lines<MemSource>,
+    borrowed: bool,
+) -> Result<Vec<u8>, NoMemory> {
     let mut count = 0u64;
     let mut told = Vec::new(alloc);
     for _ in 0..200_000 {
-        let step = lines.next(alloc)?;
+        let step = answer_by(alloc, lines, borrowed)?;
         if !matches!(&step, Step::Event(_)) {
             told.extend_from_slice(count.to_string(alloc)?.as_bytes())?;
             told.push(b' ')?;
@@ -331,14 +357,14 @@ fn assert_limits(
     let (want, want_at_fault) = parts_of(wants);
     let file = spelled_out(alloc, short)?;
     let mut lines = lines_of(alloc, &file, piece, Vec::new(alloc))?;
-    let told = count_by(alloc, &mut lines)?;
+    let told = count_by(alloc, &mut lines, false)?;
     assert!(rt; told.as_slice() == want, "row {number} by {piece}");
-    let again = told_by(alloc, &mut lines)?;
+    let again = told_by(alloc, &mut lines, true)?;
     assert!(rt; want.ends_with(&again), "row {number} by {piece}, again");
     let mut fails = Vec::new(alloc);
     fails.push(file.len().div_ceil(piece.max(1)) as u64)?;
     let mut lines = lines_of(alloc, &file, piece, fails)?;
-    let told = count_by(alloc, &mut lines)?;
+    let told = count_by(alloc, &mut lines, true)?;
     assert!(rt;
         told.as_slice() == want_at_fault,
         "row {number} by {piece}, at a fault"

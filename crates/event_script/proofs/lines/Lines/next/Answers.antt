@@ -1,13 +1,15 @@
-use Rattle.std.proofs.Common.{ap, sym, ◌∙◌}
-use Rattle.event_script.proofs.AnswerStep.{answer_again, answer_behind}
+use Rattle.std.proofs.Common.{refl}
+use Rattle.event_script.proofs.AnswerStep.{ends_again, answer_behind, own_end}
 use Rattle.event_script.proofs.lines.Lines.next.Goals as goal
 
-pub returns-in-Some-clause-answer : goal.returns-in-Some-clause-answer
-returns-in-Some-clause-answer g c =
-    let i = c.self.inside in
-    rw (← c.self.view_is) (answer_again g.S.Source.state i.source i.bytes.items i.place i.taken i.first_faults i.stopped i.ended c.self.invariant
-    c.in-Some.step c.in-Some.ensures.0 (c.in-Some.ensures.1 ∙ ap (λ r. r.ended) (sym c.self.view_is)))
+pub returns-in-Some : goal.returns-in-Some
+returns-in-Some g c =
+    let last = c.in-Some.ensures in
+    rw (own_end c.in-Some.step last.end c.to_step.result last.tells c.to_step.ensures) record {
+      answer = last.answer;
+      again = λ end ended. (ends_again g.S.Source.state c.args.self.now c.in-Some.step last end ended, refl);
+    }
 
 pub returns-clause-answer : goal.returns-clause-answer
 returns-clause-answer g c =
-    answer_behind g.S.Source.state c.args.self.now c.fill.new.self c.step-2.new.self c.step-2.result c.fill.ensures.answer c.fill.ensures.number c.step-2.ensures
+    answer_behind g.S.Source.state c.args.self.now c.pulled.new.self c.step.new.self c.step.result c.pulled.ensures.answer c.pulled.ensures.number c.step.ensures
