@@ -1,6 +1,6 @@
 //! The seat, and its calls of the book.
 ghost use Rattle.std.specs.Prelude.{◌≡◌, ◌↔◌, ◌<◌, None, true, false, IsTrue, IfOk, OnOk, option_map, unwrap_or};
-ghost use Rattle.stat_defs.specs.Names.{IsLabel, IsLocalName};
+ghost use Rattle.stat_defs.specs.Names.{IsLocalName};
 ghost use Rattle.stat_defs.specs.Keys.{held_under};
 ghost use Rattle.stat_defs.specs.declared.events.Key.{Key as TheKey};
 ghost use Rattle.stat_defs.specs.declared.history.Call.TheVariants as call;
@@ -10,6 +10,7 @@ ghost use Rattle.book_state.specs.Follows.{tag_of, key_in};
 ghost use Rattle.book_state.specs.SeatLaws.{is_held};
 ghost use Rattle.stat_book.specs.Calls.{state_of, Logged, Answers};
 ghost use Rattle.stat_book.specs.Finds.{scope_number};
+ghost use Rattle.thread_cache.specs.Keys.{asked};
 ghost use Rattle.thread_cache.specs.Held.{has_room, held_with};
 ghost use Rattle.lone_worker.specs.Entries.{Acknowledges, Judges};
 ghost use Rattle.lone_worker.specs.Seats.{Sits, Keeps, IsHeldNow};
@@ -28,12 +29,12 @@ pub(crate) struct Seat {
     pub(crate) book: Book,
     /// What the seat holds.
     pub(crate) cache: Cache,
-    pub(crate) query: Query,
     /// The number of releases that the seat has acknowledged.
     pub(crate) tag: u64,
 }
 
 // Acknowledges all releases, of which some are not acknowledged yet.
+#[inline(never)]
 fn acknowledge_all(seat: &mut Seat, alloc: Global) -> Result<(), NoMemory>
     requires sits { Sits seat.old }
     requires due { tag_of (state_of seat.old.book) 1 < (state_of seat.old.book).releases }
@@ -48,6 +49,7 @@ fn acknowledge_all(seat: &mut Seat, alloc: Global) -> Result<(), NoMemory>
 }
 
 /// Acknowledges all releases, if some are not acknowledged yet.
+#[inline(always)]
 pub(crate) fn acknowledge(seat: &mut Seat, alloc: Global) -> Result<(), NoMemory>
     requires { Sits seat.old }
     ensures keeps { Keeps 0 seat.old seat.new }
@@ -60,25 +62,29 @@ pub(crate) fn acknowledge(seat: &mut Seat, alloc: Global) -> Result<(), NoMemory
     acknowledge_all(seat, alloc)
 }
 
-// The key of a metric, as a find takes it.
-fn key_of(label: &Txt, kind: Kind, mode: Mode, name: &Txt) -> Result<Key, NoMemory>
-    ensures { IfOk result (λ key. key ≡ key_in label.now kind mode name.now) }
+// The key that is asked for, with texts of its own, as a find takes it.
+fn key_of(alloc: Global, query: &Query<'_>) -> Result<Key, NoMemory>
+    ensures { IfOk result (λ key. key ≡ asked query.now) }
 {
     Ok(Key {
-        label: label.clone()?,
-        kind,
-        mode,
-        name: name.clone()?,
+        label: Txt::of(alloc, query.label)?,
+        kind: query.kind,
+        mode: query.mode,
+        name: Txt::of(alloc, query.name)?,
     })
 }
 
 // Holds what was found under the query's key, if it is a verdict to hold.
-fn hold(cache: &mut Cache, query: &Query, answer: FindAnswer)
-    requires room { IsTrue (has_room query.now cache.old.rooms) }
-    requires free { held_under query.now cache.old.entries ≡ None }
+fn hold(cache: &mut Cache, query: &Query<'_>, answer: FindAnswer)
+    requires room { IsTrue (has_room (asked query.now) cache.old.rooms) }
+    requires free { held_under (asked query.now) cache.old.entries ≡ None }
     requires scope { (answer.scope ≡ None) ↔ (answer.verdict ≡ verdict.NoScope) }
     ensures held { is_held answer.verdict ≡ true → (key : TheKey) → held_under key cache.new.entries
-        ≡ held_with (record { key = query.now; scope = unwrap_or (option_map scope_number answer.scope) 0; verdict = answer.verdict }) cache.old.entries key }
+        ≡ held_with (record {
+          key = asked query.now;
+          scope = unwrap_or (option_map scope_number answer.scope) 0;
+          verdict = answer.verdict;
+        }) cache.old.entries key }
     ensures passed { is_held answer.verdict ≡ false → cache.new ≡ cache.old }
 {
     let Some(scope) = answer.scope else {
@@ -91,43 +97,58 @@ fn hold(cache: &mut Cache, query: &Query, answer: FindAnswer)
 }
 
 // Finds the query's key, which is not held. A verdict to hold is held.
-fn find_anew(seat: &mut Seat, alloc: Global, key: &Key) -> Result<Verdict, NoMemory>
+#[inline(never)]
+fn find_anew(seat: &mut Seat, alloc: Global, query: &Query<'_>) -> Result<Verdict, NoMemory>
     requires sits { Sits seat.old }
-    requires name { IsLocalName key.now.name }
-    requires asked { seat.old.query ≡ key.now }
-    requires free { held_under key.now seat.old.cache.entries ≡ None }
+    requires name { IsLocalName query.now.name.now }
+    requires free { held_under (asked query.now) seat.old.cache.entries ≡ None }
     ensures keeps { Keeps 0 seat.old seat.new }
-    ensures step { IfOk result (λ verdict. Answers seat.old.book 1 (call.Find key.now) verdict seat.new.book) }
-    ensures held { IfOk result (λ verdict. IsHeldNow (state_of seat.new.book) key.now verdict) }
+    ensures step { IfOk result (λ verdict. Answers seat.old.book 1 (call.Find (asked query.now)) verdict seat.new.book) }
+    ensures held { IfOk result (λ verdict. IsHeldNow (state_of seat.new.book) (asked query.now) verdict) }
 {
-    seat.cache.reserve(alloc, &seat.query)?;
-    let answer = seat.book.find(alloc, SEAT, key)?;
-    hold(&mut seat.cache, &seat.query, answer);
+    let key = key_of(alloc, query)?;
+    seat.cache.reserve(alloc, query)?;
+    let answer = seat.book.find(alloc, SEAT, &key)?;
+    hold(&mut seat.cache, query, answer);
     Ok(answer.verdict)
 }
 
+// The verdict on the query's key: by what is held, which takes no memory, else by one find.
+#[inline(always)]
+fn judge(seat: &mut Seat, alloc: Global, query: &Query<'_>) -> Result<Verdict, NoMemory>
+    requires sits { Sits seat.old }
+    requires name { IsLocalName query.now.name.now }
+    ensures keeps { Keeps 0 seat.old seat.new }
+    ensures judged { IfOk result (λ verdict. Judges seat.old.book (asked query.now) verdict seat.new.book) }
+    ensures held { IfOk result (λ verdict. IsHeldNow (state_of seat.new.book) (asked query.now) verdict) }
+{
+    match seat.cache.hit(query) {
+        Some(verdict) => Ok(verdict),
+        None => find_anew(seat, alloc, query),
+    }
+}
+
 /// The verdict on a key: by what is held, which takes no memory, else by one find.
-pub(crate) fn judge(
+#[inline(always)]
+pub(crate) fn judge_key(
     seat: &mut Seat,
     alloc: Global,
-    label: &Txt,
+    label: &[u8],
     kind: Kind,
     mode: Mode,
-    name: &Txt,
+    name: &[u8],
 ) -> Result<Verdict, NoMemory>
     requires sits { Sits seat.old }
-    requires label { IsLabel label.now }
     requires name { IsLocalName name.now }
     ensures keeps { Keeps 0 seat.old seat.new }
     ensures judged { IfOk result (λ verdict. Judges seat.old.book (key_in label.now kind mode name.now) verdict seat.new.book) }
     ensures held { IfOk result (λ verdict. IsHeldNow (state_of seat.new.book) (key_in label.now kind mode name.now) verdict) }
 {
-    seat.query.set(label, kind, mode, name);
-    match seat.cache.hit(&seat.query) {
-        Some(verdict) => Ok(verdict),
-        None => {
-            let key = key_of(label, kind, mode, name)?;
-            find_anew(seat, alloc, &key)
-        }
-    }
+    let query = Query {
+        label,
+        kind,
+        mode,
+        name,
+    };
+    judge(seat, alloc, &query)
 }

@@ -2,7 +2,9 @@
 ghost use Rattle.std.specs.Prelude.{◌≡◌, ◌<◌, ◌++◌, [], ◌∷◌, true, false, length, IfOk, OnOk, OnErr, slice_get};
 ghost use Rattle.std.specs.Option.{IsSomeAnd};
 ghost use Rattle.stat_defs.specs.Configs.{IsConfig};
+ghost use Rattle.stat_defs.specs.Borrowed.{event_of};
 ghost use Rattle.stat_defs.specs.Events.{IsLawfulEvent};
+ghost use Rattle.stat_defs.specs.declared.events.Event.{Event as TheEvent};
 ghost use Rattle.stat_defs.specs.declared.history.Call.TheVariants as call;
 ghost use Rattle.stat_defs.specs.declared.history.Reply.TheVariants as reply;
 ghost use Rattle.book_state.specs.State.{names_in};
@@ -17,11 +19,11 @@ use crate::steps::apply;
 use ghost_list::GhostList;
 use name_map::HashKey;
 use stat_book::Book;
-use stat_defs::{Config, Entry, Event, Kind, MetricId, NoMemory, Swept, Verdict};
+use stat_defs::{Config, Entry, Event, EventRef, Kind, MetricId, NoMemory, Swept, Verdict};
 use std::alloc::Global;
 use std::marker::Model;
 use tag_rules::{Matcher, TagRules};
-use thread_cache::{Cache, Query};
+use thread_cache::Cache;
 
 /// A worker is given fewer events.
 pub const MAX_EVENTS: usize = 4_194_304;
@@ -47,6 +49,16 @@ impl Model for LoneWorker {
     ghost view = { shown };
 
     ghost invariant = { IsKept };
+}
+
+// The events, and behind them the one that is borrowed.
+#[inline(always)]
+fn with_event(events: &GhostList<Event>, event: &EventRef<'_>) -> GhostList<Event>
+    ghost item: { TheEvent }
+    requires { item ≡ event_of event.now }
+    ensures { result.items ≡ events.now.items ++ event_of event.now ∷ [] }
+{
+    events.and_for(&())
 }
 
 impl LoneWorker {
@@ -80,12 +92,10 @@ impl LoneWorker {
         ensures { IfOk result (λ worker. worker ≡ new_worker config.now) }
     {
         let book = Book::with_key(alloc, key, config, rules, matcher, 1)?;
-        let query = Query::new(alloc)?;
         Ok(LoneWorker {
             seat: Seat {
                 book,
                 cache: Cache::with_key(alloc, key),
-                query,
                 tag: 0,
             },
             ended: false,
@@ -95,8 +105,8 @@ impl LoneWorker {
         })
     }
 
-    /// Decides an event. All releases are acknowledged first. A key that the seat holds is decided by what is held, with one
-    /// look-up and without memory, and any other by one find; an accepted text is set besides.
+    /// Decides an event. All releases are acknowledged first. A key that the seat holds is decided by what is held, with
+    /// one look-up and without memory, and any other by one find; an accepted text is set besides.
     pub fn decide(&mut self, alloc: Global, event: &Event) -> Result<Verdict, NoMemory>
         requires lawful { IsLawfulEvent event.now }
         requires few { length self.old.events < MAX_EVENTS }
@@ -105,11 +115,24 @@ impl LoneWorker {
         ensures named { IfOk result (λ verdict. NamesOwn (state_of self.new.book) event.now verdict) }
         ensures err { OnErr result (IsCutShort self.old self.new) }
     {
+        self.decide_ref(alloc, &event.borrowed())
+    }
+
+    /// The same of an event whose texts are borrowed. They are copied only where the book is called.
+    #[inline(always)]
+    pub fn decide_ref(&mut self, alloc: Global, event: &EventRef<'_>) -> Result<Verdict, NoMemory>
+        requires lawful { IsLawfulEvent (event_of event.now) }
+        requires few { length self.old.events < MAX_EVENTS }
+        requires works { self.old.ended ≡ false }
+        ensures ok { IfOk result (λ verdict. Decides self.old (event_of event.now) verdict self.new) }
+        ensures named { IfOk result (λ verdict. NamesOwn (state_of self.new.book) (event_of event.now) verdict) }
+        ensures err { OnErr result (IsCutShort self.old self.new) }
+    {
         let whole = self.whole;
         self.whole = false;
         let verdict = apply(&mut self.seat, alloc, event)?;
         let _log = self.seat.book.log();
-        self.events = self.events.and(event);
+        self.events = with_event(&self.events, event);
         self.verdicts = self.verdicts.and(&verdict);
         self.whole = whole;
         Ok(verdict)
@@ -165,7 +188,6 @@ impl LoneWorker {
         let Seat {
             book,
             cache: _,
-            query: _,
             tag: _,
         } = seat;
         book.into_log()

@@ -1,6 +1,7 @@
 //! The store.
 ghost use Rattle.std.specs.Prelude.{◌≡◌, ◌<◌, length, IfOk, OnErr};
 ghost use Rattle.stat_defs.specs.Configs.{IsConfig};
+ghost use Rattle.stat_defs.specs.Borrowed.{event_of};
 ghost use Rattle.stat_defs.specs.Events.{IsLawfulEvent};
 ghost use Rattle.lone_worker.specs.declared.worker.TheConstants.{MAX_EVENTS};
 ghost use Rattle.plain_store.specs.Store.{new_store, Applied, IsCutShort, Flushes, Finishes};
@@ -12,7 +13,7 @@ use crate::sums::Sums;
 use ghost_list::GhostList;
 use lone_worker::LoneWorker;
 use name_map::HashKey;
-use stat_defs::{Config, Event, FlushRecord, LastFlush, List, NoMemory, Verdict};
+use stat_defs::{Config, Event, EventRef, FlushRecord, LastFlush, List, NoMemory, Verdict};
 use std::alloc::Global;
 use std::marker::Model;
 use tag_rules::{Matcher, TagRules};
@@ -87,10 +88,21 @@ impl PlainStore {
         ensures ok { IfOk result (λ verdict. Applied self.old event.now verdict self.new) }
         ensures err { OnErr result (IsCutShort self.old self.new) }
     {
+        self.apply_ref(alloc, &event.borrowed())
+    }
+
+    /// The same of an event whose texts are borrowed. They are copied only where the book is called.
+    #[inline(always)]
+    pub fn apply_ref(&mut self, alloc: Global, event: &EventRef<'_>) -> Result<Verdict, NoMemory>
+        requires lawful { IsLawfulEvent (event_of event.now) }
+        requires few { length self.old.worker.events < MAX_EVENTS }
+        ensures ok { IfOk result (λ verdict. Applied self.old (event_of event.now) verdict self.new) }
+        ensures err { OnErr result (IsCutShort self.old self.new) }
+    {
         let whole = self.whole;
         self.whole = false;
         let _log = self.worker.log();
-        let verdict = self.worker.decide(alloc, event)?;
+        let verdict = self.worker.decide_ref(alloc, event)?;
         let _longer_log = self.worker.log();
         let made = self.worker.made();
         sum_up(&mut self.sums, alloc, made, event, verdict)?;

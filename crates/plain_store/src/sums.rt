@@ -1,5 +1,5 @@
 //! What a store sums up between its flushes.
-ghost use Rattle.std.specs.Prelude.{◌≡◌, ◌≤◌, ◌<◌, ◌+◌, ◌^◌, ◌==◌, ℕ, if◌then◌else◌, IfOk, OnOk, vec_len};
+ghost use Rattle.std.specs.Prelude.{◌≡◌, ◌≤◌, ◌<◌, ◌+◌, ◌^◌, ◌==◌, ℕ, if◌then◌else◌, IfOk, OnOk, OnErr, vec_len};
 ghost use Rattle.ledger.specs.Gauges.{word_after};
 ghost use Rattle.plain_store.specs.Sums.{number_at, AreZero};
 
@@ -20,7 +20,8 @@ pub(crate) struct Sums {
 }
 
 // At least so many numbers. Each that was there stays, and the others are 0.
-pub(crate) fn grow(words: &mut Vec<u64>, n: usize) -> Result<(), NoMemory>
+#[inline(never)]
+fn extend(words: &mut Vec<u64>, n: usize) -> Result<(), NoMemory>
     ensures same { (id : ℕ) → number_at words.new.items id ≡ number_at words.old.items id }
     ensures room { OnOk result (n ≤ vec_len words.new) }
 {
@@ -30,13 +31,30 @@ pub(crate) fn grow(words: &mut Vec<u64>, n: usize) -> Result<(), NoMemory>
     Ok(())
 }
 
-// Adds units to the number of a metric.
-pub(crate) fn add(deltas: &mut Vec<u64>, id: MetricId, n: u32)
-    requires room { id.0 < vec_len deltas.old }
-    requires small { number_at deltas.old.items id.0 + n < 2 ^ 64 }
-    ensures { (k : ℕ) → number_at deltas.new.items k ≡ number_at deltas.old.items k + (if id.0 == k then n else 0) }
+// The same, which is one comparison where there are as many.
+#[inline(always)]
+fn grow(words: &mut Vec<u64>, n: usize) -> Result<(), NoMemory>
+    ensures same { (id : ℕ) → number_at words.new.items id ≡ number_at words.old.items id }
+    ensures room { OnOk result (n ≤ vec_len words.new) }
 {
+    if n <= words.len() {
+        return Ok(());
+    }
+    extend(words, n)
+}
+
+/// Adds units to the number of a metric, one of so many. After want of memory no number has changed.
+#[inline(always)]
+pub(crate) fn add(deltas: &mut Vec<u64>, made: usize, id: MetricId, n: u32) -> Result<(), NoMemory>
+    requires made { id.0 < made }
+    requires small { number_at deltas.old.items id.0 + n < 2 ^ 64 }
+    ensures ok { OnOk result ((k : ℕ) → number_at deltas.new.items k ≡ number_at deltas.old.items k
+        + (if id.0 == k then n else 0)) }
+    ensures err { OnErr result ((k : ℕ) → number_at deltas.new.items k ≡ number_at deltas.old.items k) }
+{
+    grow(deltas, made)?;
     deltas[id.0 as usize] += u64::from(n);
+    Ok(())
 }
 
 // The word of a gauge after a move.
@@ -50,13 +68,24 @@ fn moved(word: u64, op: GaugeOp, n: u64) -> u64
     }
 }
 
-// Moves the word of a gauge.
-pub(crate) fn move_word(words: &mut Vec<u64>, id: MetricId, op: GaugeOp, n: u64)
-    requires { id.0 < vec_len words.old }
-    ensures { (k : ℕ) → number_at words.new.items k ≡ (if id.0 == k then word_after (number_at words.old.items k) (op, n) else number_at words.old.items k) }
+/// Moves the word of a gauge, one of so many metrics. After want of memory no word has changed.
+#[inline(always)]
+pub(crate) fn move_word(
+    words: &mut Vec<u64>,
+    made: usize,
+    id: MetricId,
+    op: GaugeOp,
+    n: u64,
+) -> Result<(), NoMemory>
+    requires { id.0 < made }
+    ensures ok { OnOk result ((k : ℕ) → number_at words.new.items k
+        ≡ (if id.0 == k then word_after (number_at words.old.items k) (op, n) else number_at words.old.items k)) }
+    ensures err { OnErr result ((k : ℕ) → number_at words.new.items k ≡ number_at words.old.items k) }
 {
+    grow(words, made)?;
     let word = words[id.0 as usize];
     words[id.0 as usize] = moved(word, op, n);
+    Ok(())
 }
 
 // The number of a metric.

@@ -3,6 +3,7 @@ use Rattle.stat_defs.specs.declared.ids.ScopeId.{ScopeId}
 use Rattle.book_state.specs.SeatLaws.{is_held}
 use Rattle.book_state.proofs.Lists.{true_false}
 use Rattle.stat_book.specs.Finds.{scope_number}
+use Rattle.thread_cache.specs.Keys.{asked}
 use Rattle.thread_cache.specs.Held.{held_with}
 use Rattle.lone_worker.proofs.SeatLemmas.{not_held}
 use Rattle.lone_worker.proofs.seat.hold.Goals as goal
@@ -13,7 +14,7 @@ returns-in_default-clause-held c held = absurd (true_false (sym held ∙ ap is_h
 pub returns-in-Accepted-clause-held : goal.returns-in-Accepted-clause-held
 returns-in-Accepted-clause-held c held key =
     c.fill.ensures.held key
-    ∙ ap (λ (o : Option ScopeId). held_with (record { key = c.args.query.now; scope = unwrap_or (option_map scope_number o) 0; verdict = c.args.answer.verdict }) c.args.cache.now.entries key) (sym c.in-Some.is)
+    ∙ ap (λ (o : Option ScopeId). held_with (record { key = asked c.args.query.now; scope = unwrap_or (option_map scope_number o) 0; verdict = c.args.answer.verdict }) c.args.cache.now.entries key) (sym c.in-Some.is)
 
 pub returns-in-Accepted-clause-passed : goal.returns-in-Accepted-clause-passed
 returns-in-Accepted-clause-passed c passed = elim c.in-Accepted.is [

@@ -1,4 +1,5 @@
 use Rattle.std.proofs.Common.{arith}
+use Rattle.stat_defs.specs.Borrowed.{event_of}
 use Rattle.lone_worker.specs.Entries.{AddsEvent, Applies}
 use Rattle.lone_worker.specs.Seats.{Keeps}
 use Rattle.lone_worker.proofs.EntryLemmas.{acked_add}
@@ -13,7 +14,7 @@ returns-clause-keeps c = kept_then 1 c.args.seat.now c.acknowledge.new.seat c.de
 
 pub returns-clause-applied : goal.returns-clause-applied
 returns-clause-applied c =
-    let old = c.args.seat.now.book in let mid = c.acknowledge.new.seat.book in let new = c.decide.new.seat.book in let e = c.args.event.now in
+    let old = c.args.seat.now.book in let mid = c.acknowledge.new.seat.book in let new = c.decide.new.seat.book in let e = event_of c.args.event.now in
     if_ok c.decide.result (λ v. AddsEvent mid e v new) (λ v. Applies old e v new) (λ v adds. acked_add old mid new e v c.in_ok-acknowledge.ensures.ok adds) c.decide.ensures.added
 
 pub returns-in_err-acknowledge-clause-keeps : goal.returns-in_err-acknowledge-clause-keeps

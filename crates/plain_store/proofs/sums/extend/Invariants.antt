@@ -1,5 +1,5 @@
 use Rattle.std.proofs.Common.{◌≡◌, ◌⊎◌, ℕ, ◌≤◌, get_or, vec_len}
-use Rattle.plain_store.proofs.sums.grow.Given as goal
+use Rattle.plain_store.proofs.sums.extend.Given as goal
 
 abbrev pub invariant-loop-i : goal.invariant-loop-i
 invariant-loop-i l =
