@@ -1,15 +1,19 @@
 -- A file that is being read and applied.
-use Rattle.std.proofs.Common.{◌≡◌, ◌<◌, ◌≤◌, ◌+◌, ℕ, Ok, List, [], ◌∷◌, ◌++◌, length, length-append, sym, subst, arith}
+use Rattle.std.proofs.Common.{◌≡◌, ◌<◌, ◌≤◌, ◌+◌, ℕ, Result, Ok, List, [], ◌∷◌, ◌++◌, length, length-append, sym, subst, arith}
 use Rattle.std.proofs.lemmas.List.Elements.{recursion_from_All}
 use Rattle.stat_defs.specs.Events.{IsLawfulEvent}
 use Rattle.stat_defs.specs.declared.events.Event.{Event}
 use Rattle.stat_defs.specs.declared.history.Verdict.{Verdict}
+use Rattle.stat_defs.specs.declared.memory.NoMemory.{NoMemory}
 use Rattle.stats_io.specs.States.{SourceState}
 use Rattle.event_script.specs.declared.limits.TheConstants as file
 use Rattle.event_script.specs.Grammar.{IsLawful}
 use Rattle.event_script.specs.Reader.{Reading, Moves}
 use Rattle.event_script.specs.Answer.{IsAnswer}
+use Rattle.event_script.specs.Told.{told, answer_of, told_in}
+use Rattle.event_script.specs.declared.step.Step.{Step}
 use Rattle.event_script.specs.declared.step.Step.TheVariants as step
+use Rattle.event_script.specs.declared.step.StepRef.{StepRef}
 use Rattle.event_script.proofs.AnswerStep.{moves_none}
 use Rattle.event_script.proofs.Written.{lawful_event}
 use Rattle.event_script.proofs.Moves.{moves_trans}
@@ -39,6 +43,17 @@ module _ {S : Type 0} (state : S → SourceState) where
     given = none;
     few = omega arith;
   }
+
+  -- the answer that was told of a borrowed step
+  pub answered_step : (old new : Reading S) (result : Result StepRef NoMemory) (s : StepRef) → result ≡ Ok s
+      → IsAnswer state old new (told_in result) → IsAnswer state old new (answer_of s)
+  answered_step old new result s is answer = subst (λ (r : Result StepRef NoMemory). IsAnswer state old new (told_in r)) is answer
+
+  pub answered_event : (old new : Reading S) (result : Result StepRef NoMemory) (s : StepRef) (event : Event)
+      → result ≡ Ok s → told s ≡ step.Event event → IsAnswer state old new (told_in result)
+      → IsAnswer state old new (Ok (step.Event event))
+  answered_event old new result s event is tells answer =
+      subst (λ (t : Step). IsAnswer state old new (Ok t)) tells (answered_step old new result s is answer)
 
   -- an event that was read is lawful
   pub lawful_now : (old new : Reading S) (event : Event) → IsAnswer state old new (Ok (step.Event event))

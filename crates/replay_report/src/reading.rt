@@ -1,15 +1,18 @@
 //! Files that are read and applied, one after another.
 ghost use Rattle.std.specs.Prelude.{◌≡◌, ◌≤◌, ◌<◌, ◌+◌, ◌*◌, ◌++◌, ◌∷◌, [], ℕ, List, Ok, IfOk, OnOk, MatchResult, length, map, string_bytes};
+ghost use Rattle.stat_defs.specs.Borrowed.{event_of};
 ghost use Rattle.stat_defs.specs.Events.{IsLawfulEvent};
 ghost use Rattle.event_script.specs.Answer.{TellsEnd};
+ghost use Rattle.event_script.specs.Told.{told, answer_of};
+ghost use Rattle.event_script.specs.declared.step.Step.TheVariants as step_told;
 ghost use Rattle.event_script.specs.declared.limits.TheConstants as file;
 ghost use Rattle.lone_worker.specs.declared.worker.TheConstants as worker;
 ghost use Rattle.replay_report.specs.Applying.{IsToldBehind};
 ghost use Rattle.replay_report.specs.FileRun.{taken_at, IsSourceRun, IsFileRun, AreRuns};
 
-use event_script::{Lines, Step};
+use event_script::{Lines, StepRef};
 use plain_store::PlainStore;
-use stat_defs::{Event, FileEnd, List, NoMemory, Verdict, WorkerEnd};
+use stat_defs::{EventRef, FileEnd, List, NoMemory, Verdict, WorkerEnd};
 use stats_io::{OpenFault, Shelf, Source};
 use std::alloc::Global;
 
@@ -28,17 +31,19 @@ pub(crate) struct Runs {
 }
 
 // The event of a step, or the end of the file.
-fn event_or_end(step: Step) -> Result<Event, FileEnd>
-    ensures { MatchResult result (λ event. step ≡ Step.Event event) (λ end. TellsEnd (Ok step) end) }
+#[inline(always)]
+fn event_or_end<'a>(step: StepRef<'a>) -> Result<EventRef<'a>, FileEnd>
+    ensures { MatchResult result (λ event. told step.entry ≡ step_told.Event (event_of event))
+        (λ end. TellsEnd (answer_of step.entry) end) }
 {
     match step {
-        Step::Event(event) => Ok(event),
-        Step::End => Err(FileEnd::Whole),
-        Step::BadLine(number) => Err(FileEnd::BadLine(number)),
-        Step::LineTooLong(number) => Err(FileEnd::LineTooLong(number)),
-        Step::TooBig => Err(FileEnd::TooBig),
-        Step::TooMany => Err(FileEnd::TooMany),
-        Step::ReadFault => Err(FileEnd::ReadFault),
+        StepRef::Event(event) => Ok(event),
+        StepRef::End => Err(FileEnd::Whole),
+        StepRef::BadLine(number) => Err(FileEnd::BadLine(number)),
+        StepRef::LineTooLong(number) => Err(FileEnd::LineTooLong(number)),
+        StepRef::TooBig => Err(FileEnd::TooBig),
+        StepRef::TooMany => Err(FileEnd::TooMany),
+        StepRef::ReadFault => Err(FileEnd::ReadFault),
     }
 }
 
@@ -53,33 +58,20 @@ fn taken_at(end: FileEnd, taken: u64) -> u64
 }
 
 // Applies an event, whose verdict comes behind the earlier ones.
+#[inline(always)]
 fn tell_verdict(
     alloc: Global,
     store: &mut PlainStore,
-    event: &Event,
+    event: &EventRef<'_>,
     verdicts: &mut Vec<Verdict>,
 ) -> Result<(), NoMemory>
-    requires lawful { IsLawfulEvent event.now }
+    requires lawful { IsLawfulEvent (event_of event.now) }
     requires few { length store.old.worker.events < worker.MAX_EVENTS }
-    ensures { OnOk result (IsToldBehind store.old event.now verdicts.old.items store.new verdicts.new.items) }
+    ensures { OnOk result (IsToldBehind store.old (event_of event.now) verdicts.old.items store.new verdicts.new.items) }
 {
-    let verdict = store.apply(alloc, event)?;
+    let verdict = store.apply_ref(alloc, event)?;
     verdicts.push(verdict)?;
     Ok(())
-}
-
-// The same, and gives back the event's memory.
-fn apply_event(
-    alloc: Global,
-    store: &mut PlainStore,
-    event: Event,
-    verdicts: &mut Vec<Verdict>,
-) -> Result<(), NoMemory>
-    requires lawful { IsLawfulEvent event }
-    requires few { length store.old.worker.events < worker.MAX_EVENTS }
-    ensures { OnOk result (IsToldBehind store.old event verdicts.old.items store.new verdicts.new.items) }
-{
-    tell_verdict(alloc, store, &event, verdicts)
 }
 
 // Reads a source to its end and applies its events.
@@ -95,9 +87,9 @@ fn read_source<S: Source + Drop>(
     let mut verdicts = Vec::new(alloc);
     let mut lines = Lines::new(alloc, source)?;
     loop {
-        let step = lines.next(alloc)?;
+        let step = lines.next_ref(alloc)?;
         match event_or_end(step) {
-            Ok(event) => apply_event(alloc, store, event, &mut verdicts)?,
+            Ok(event) => tell_verdict(alloc, store, &event, &mut verdicts)?,
             Err(end) => {
                 let taken = taken_at(end, lines.taken());
                 let source = lines.into_source();
