@@ -1,5 +1,5 @@
 -- What stands in the first line of the bytes that are left.
-use Rattle.std.proofs.Common.{◌≡◌, ◌<◌, ◌≤◌, ◌^◌, ◌⊎◌, inl, inr, ⊎_elim, ℕ, Bool, true, false, Option, None, Some, List, [], ◌∷◌, ◌++◌, length, take, drop, get_or, refl, sym, ap, ◌∙◌, subst, arith, append_assoc, append-nil, add-zero, ◌&&◌, length-append}
+use Rattle.std.proofs.Common.{◌≡◌, ◌<◌, ◌≤◌, ◌^◌, ◌⊎◌, inl, inr, ⊎_elim, ℕ, Bool, true, false, Option, None, Some, MatchOption, Bor, List, [], ◌∷◌, ◌++◌, length, take, drop, get_or, refl, sym, ap, ◌∙◌, subst, arith, append_assoc, append-nil, add-zero, ◌&&◌, length-append}
 use Rattle.std.specs.List.{list_all}
 use Rattle.std.specs.Char.{digit_value}
 use Rattle.std.specs.Str.Parse.{AllDigits, digits_value}
@@ -115,6 +115,11 @@ module _ (test : ℕ → Bool) (not_newline : test 10 ≡ false) (text : List �
       by None e = refl
       by (Some x) e = absurd (given x e)
 
+  pub last_found : (most : ℕ) (found : Option (Bor (List ℕ) × Bor (List ℕ))) → MatchOption found (IsNoLast text count most) (λ p. IsLast text count most p.0.now p.1.now)
+      → MatchOption found (LacksLine (read_text test most) text) (λ p. HasLine (read_text test most) text p.0.now p.1.now)
+  last_found most None none = last_lacks most none
+  last_found most (Some p) is = last_reads most p.0.now p.1.now is
+
   pub part_reads : test 32 ≡ false → (most : ℕ) (part rest : List ℕ) → IsPart text count most part rest → HasPart (read_text test most) text part rest
   part_reads not_space most part rest is =
       let passes = part_passes test not_space text count most run part rest is in
@@ -125,6 +130,11 @@ module _ (test : ℕ → Bool) (not_newline : test 10 ≡ false) (text : List �
   part_lacks not_space most none = lacks_part (read_text test most) text (λ part rest x parted reads.
       let is = text_is test most part x reads in
       no_part test not_space text count most run none part rest (rw is.0 is.1) (rw is.0 is.2) (rw is.0 is.3) parted)
+
+  pub part_found : test 32 ≡ false → (most : ℕ) (found : Option (Bor (List ℕ) × Bor (List ℕ))) → MatchOption found (IsNoPart text count most) (λ p. IsPart text count most p.0.now p.1.now)
+      → MatchOption found (LacksPart (read_text test most) text) (λ p. HasPart (read_text test most) text p.0.now p.1.now)
+  part_found not_space most None none = part_lacks not_space most none
+  part_found not_space most (Some p) is = part_reads not_space most p.0.now p.1.now is
 
 -- the text of a readout
 module _ (text : List ℕ) (count : ℕ) (run : IsRunOf is_printable_byte text count) where

@@ -86,10 +86,7 @@ fn split_at_space(text: &[u8], at: usize, most: usize) -> Option<(&[u8], &[u8])>
 pub fn label_first(text: &[u8]) -> Option<(&[u8], &[u8])>
     ensures { MatchOption result (LacksPart read_label text.now) (λ p. HasPart read_label text.now p.0.now p.1.now) }
 {
-    let Some((label, rest)) = split_at_space(text, label_length(text), MAX_LABEL_BYTES) else {
-        return None;
-    };
-    Some((label, rest))
+    split_at_space(text, label_length(text), MAX_LABEL_BYTES)
 }
 
 // The local name that a space ends, and what stands behind that.
@@ -97,10 +94,7 @@ pub fn label_first(text: &[u8]) -> Option<(&[u8], &[u8])>
 fn name_first(text: &[u8]) -> Option<(&[u8], &[u8])>
     ensures { MatchOption result (LacksPart read_name text.now) (λ p. HasPart read_name text.now p.0.now p.1.now) }
 {
-    let Some((name, rest)) = split_at_space(text, name_length(text), MAX_NAME_BYTES) else {
-        return None;
-    };
-    Some((name, rest))
+    split_at_space(text, name_length(text), MAX_NAME_BYTES)
 }
 
 // A label and a local name, and what stands behind the space that ends that.
@@ -137,20 +131,14 @@ fn split_at_end(text: &[u8], at: usize, most: usize) -> Option<(&[u8], &[u8])>
 pub fn label_last(text: &[u8]) -> Option<(&[u8], &[u8])>
     ensures { MatchOption result (LacksLine read_label text.now) (λ p. HasLine read_label text.now p.0.now p.1.now) }
 {
-    let Some((label, after)) = split_at_end(text, label_length(text), MAX_LABEL_BYTES) else {
-        return None;
-    };
-    Some((label, after))
+    split_at_end(text, label_length(text), MAX_LABEL_BYTES)
 }
 
 // The bytes of a name that the first line is, and what stands behind it.
 pub fn name_last(text: &[u8]) -> Option<(&[u8], &[u8])>
     ensures { MatchOption result (LacksLine read_name text.now) (λ p. HasLine read_name text.now p.0.now p.1.now) }
 {
-    let Some((name, after)) = split_at_end(text, name_length(text), MAX_NAME_BYTES) else {
-        return None;
-    };
-    Some((name, after))
+    split_at_end(text, name_length(text), MAX_NAME_BYTES)
 }
 
 // The text of a readout that the first line is, and what stands behind it.

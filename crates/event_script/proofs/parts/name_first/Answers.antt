@@ -1,11 +1,8 @@
 use Rattle.std.proofs.Common.{refl}
 use Rattle.stat_defs.specs.Names.{is_name_byte}
 use Rattle.stat_defs.specs.declared.events.TheConstants.{MAX_NAME_BYTES}
-use Rattle.event_script.proofs.LineParts.{part_reads, part_lacks}
+use Rattle.event_script.proofs.LineParts.{part_found}
 use Rattle.event_script.proofs.parts.name_first.Goals as goal
 
-pub returns-in_default : goal.returns-in_default
-returns-in_default c = part_lacks is_name_byte refl c.args.text.now c.name_length.result c.name_length.ensures refl MAX_NAME_BYTES c.in_default.ensures
-
 pub returns : goal.returns
-returns c = part_reads is_name_byte refl c.args.text.now c.name_length.result c.name_length.ensures refl MAX_NAME_BYTES _ _ c.in-Some.ensures
+returns c = part_found is_name_byte refl c.args.text.now c.name_length.result c.name_length.ensures refl MAX_NAME_BYTES c.split_at_space.result c.split_at_space.ensures
