@@ -1,7 +1,8 @@
 //! A text on its way to a sink.
-ghost use Rattle.std.specs.Prelude.{◌≤◌, OnOk, OnErr};
+ghost use Rattle.std.specs.Prelude.{◌<◌, ◌≤◌, OnOk, OnErr, length};
 ghost use Rattle.stats_io.specs.Push.{WritesFront};
 ghost use Rattle.text_parts.specs.Gathered.{IsGathered};
+ghost use Rattle.text_parts.specs.declared.buffer.TheConstants.{PUSH_BYTES};
 
 use stats_io::{Sink, WriteFault, push_all};
 
@@ -12,6 +13,7 @@ pub const PUSH_BYTES: usize = 65_536;
 /// Whoever writes a text calls this after each line or few, and `push_all` at the end.
 pub fn push_full<O: Sink>(held: &mut Vec<u8>, out: &mut O) -> Result<(), WriteFault>
     ensures whole { OnOk result (IsGathered (O.state out.old) (O.state out.new) held.new.items held.old.items) }
+    ensures few { OnOk result (length held.new.items < PUSH_BYTES) }
     ensures front { OnErr result (WritesFront (O.state out.old) (O.state out.new) held.old.items) }
     ensures later { (O.state out.old).faults ≤ (O.state out.new).faults }
 {
