@@ -1,0 +1,4 @@
+mod StoreKept
+mod StoreShown
+mod LinesRead
+mod LinesFlushed

@@ -1,0 +1,54 @@
+-- Stores whose lines are applied, and which are flushed behind them.
+use Rattle.std.proofs.Common.{◌≡◌, ℕ, ◌+◌, ◌≤◌, List, [], ◌∷◌, ◌++◌, length, length-append, refl, ap, sym, ◌∙◌, subst, arith}
+use Rattle.stat_defs.specs.declared.configs.Config.{Config}
+use Rattle.stat_defs.specs.declared.history.Verdict.{Verdict}
+use Rattle.stat_defs.specs.declared.reports.FileEnd.{FileEnd}
+use Rattle.stat_defs.specs.declared.reports.FlushRecord.{FlushRecord}
+use Rattle.stats_io.specs.States.{SourceState}
+use Rattle.event_script.specs.declared.limits.TheConstants as file
+use Rattle.lone_worker.specs.declared.worker.TheConstants as worker
+use Rattle.plain_store.specs.Store.{StoreHistory, Flushes}
+use Rattle.replay_report.proofs.AppliedEvents.{more_events}
+use Rattle.library_examples.specs.Counting.{AreLinesApplied, AreLinesFlushed, AreFlushedInTurn, Stays}
+use Rattle.library_examples.proofs.StoreKept.{events, flushed}
+
+module _ {S : Type 0} (state : S → SourceState) where
+  module _ (source : S) (old new : StoreHistory) (verdicts : List Verdict) (end : FileEnd)
+      (lines : AreLinesApplied state source old new verdicts end)
+      (room : length old.worker.events + file.MAX_EVENTS ≤ worker.MAX_EVENTS) where
+    pub lines_stay : Stays old new
+    lines_stay config was =
+        let few = lines.few in
+        events config old new was lines.events verdicts lines.lawful (omega (arith, few, room)) lines.applied
+
+    pub lines_few : length new.worker.events ≤ length old.worker.events + file.MAX_EVENTS
+    lines_few =
+        let more = more_events old new lines.events verdicts lines.applied in
+        let few = lines.few in omega (arith, more, few)
+
+    pub no_flush : new.flushes ≡ old.flushes
+    no_flush = ap (λ (s : StoreHistory). s.flushes) lines.applied.applied
+
+  -- one more source, behind those whose lines were applied
+  pub in_turn_push : (sources : List S) (source : S) (old mid new : StoreHistory) (verdicts : List Verdict)
+      (end : FileEnd) → AreFlushedInTurn state sources old mid
+      → AreLinesFlushed state source mid new verdicts end → AreFlushedInTurn state (sources ++ source ∷ []) old new
+  in_turn_push [] source old mid new verdicts end before now =
+      (new, verdicts, end, subst (λ (s : StoreHistory). AreLinesFlushed state source s new verdicts end) before now, refl)
+  in_turn_push (first ∷ sources) source old mid new verdicts end before now = (
+    before.0,
+    before.1,
+    before.2,
+    before.3,
+    in_turn_push sources source before.0 mid new verdicts end before.4 now,
+  )
+
+module _ (old new : StoreHistory) (flush : FlushRecord) (flushes : Flushes old flush new) where
+  pub flush_stays : Stays old new
+  flush_stays config was = flushed config old new was flush flushes
+
+  pub same_events : length new.worker.events ≡ length old.worker.events
+  same_events = ap (λ (s : StoreHistory). length s.worker.events) flushes.rest
+
+  pub one_more_flush : new.flushes ≡ old.flushes ++ flush ∷ []
+  one_more_flush = ap (λ (s : StoreHistory). s.flushes) flushes.rest

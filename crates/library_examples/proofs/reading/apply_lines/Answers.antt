@@ -1,0 +1,33 @@
+use Rattle.std.proofs.Common.{Ok, ap}
+use Rattle.replay_report.proofs.SoFar.{so_far_none, lawful_now, room_so_far, so_far_more}
+use Rattle.library_examples.proofs.LinesRead.{lines_read}
+use Rattle.library_examples.proofs.reading.apply_lines.Goals as goal
+
+pub loop-lines-init : goal.loop-lines-init
+loop-lines-init g c =
+    so_far_none g.S.Source.state c.in_ok-lines.lines c.args.store.now c.new-verdicts.result.items
+    (ap (λ r. r.given) c.in_ok-lines.ensures) c.new-verdicts.ensures.items
+
+pub apply_event-requires-clause-lawful : goal.apply_event-requires-clause-lawful
+apply_event-requires-clause-lawful g c =
+    lawful_now g.S.Source.state c.loop-lines.lines c.next.new.self c.in-Ok.event
+    (rw c.in-Ok.ensures at c.in_ok-step.ensures.answer)
+
+pub apply_event-requires-clause-few : goal.apply_event-requires-clause-few
+apply_event-requires-clause-few g c =
+    room_so_far g.S.Source.state c.in_ok-lines.lines c.loop-lines.lines c.next.new.self c.args.store.now
+    c.loop-lines.store c.loop-lines.verdicts.items c.loop-lines.invariant c.in-Ok.event
+    (rw c.in-Ok.ensures at c.in_ok-step.ensures.answer) c.requires
+
+pub loop-lines-preserved : goal.loop-lines-preserved
+loop-lines-preserved g c =
+    so_far_more g.S.Source.state c.in_ok-lines.lines c.loop-lines.lines c.next.new.self c.args.store.now
+    c.loop-lines.store c.loop-lines.verdicts.items c.loop-lines.invariant c.in-Ok.event
+    (rw c.in-Ok.ensures at c.in_ok-step.ensures.answer) c.apply_event.new.store c.apply_event.new.verdicts.items
+    c.in_ok-apply_event-in-Ok.ensures
+
+pub returns-in-Err : goal.returns-in-Err
+returns-in-Err g c =
+    lines_read g.S.Source.state c.args.source c.in_ok-lines.lines c.loop-lines.lines c.next.new.self
+    c.args.store.now c.loop-lines.store c.loop-lines.verdicts.items c.loop-lines.invariant c.in_ok-lines.ensures
+    (Ok c.in_ok-step.step) c.in-Err.end c.in-Err.ensures c.in_ok-step.ensures.answer

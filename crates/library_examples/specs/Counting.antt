@@ -1,0 +1,71 @@
+-- What the examples count. This project's own.
+use Rattle.std.specs.Prelude.{◌≡◌, ◌≤◌, ℕ, List, [], ◌∷◌, length, All}
+use Rattle.stat_defs.specs.declared.configs.Config.{Config}
+use Rattle.stat_defs.specs.declared.events.Event.{Event}
+use Rattle.stat_defs.specs.declared.history.Verdict.{Verdict}
+use Rattle.stat_defs.specs.declared.reports.FileEnd.{FileEnd}
+use Rattle.stat_defs.specs.declared.reports.FlushRecord.{FlushRecord}
+use Rattle.stat_defs.specs.declared.reports.Report.{Report}
+use Rattle.stats_io.specs.States.{SourceState}
+use Rattle.event_script.specs.Grammar.{IsLawful}
+use Rattle.event_script.specs.Run.{IsRun}
+use Rattle.event_script.specs.declared.limits.TheConstants as file
+use Rattle.plain_store.specs.Store.{StoreHistory, new_store, Applied, Flushes}
+use Rattle.replay_report.specs.Applying.{AreApplied}
+use Rattle.library_examples.specs.StoreOf.{IsStoreOf, IsReportOfStore}
+
+-- an event was applied twice to a new store, and then came a flush, whose record this is
+pub record CountsTwice (config : Config) (e : Event) (flush : FlushRecord) : Type 0 where
+  pub first : Verdict
+  pub second : Verdict
+  pub once : StoreHistory
+  pub twice : StoreHistory
+  pub last : StoreHistory
+  pub applied : Applied (new_store config) e first once
+  pub again : Applied once e second twice
+  pub flushed : Flushes twice flush last
+
+-- a source was read to its end, and its events were applied with these verdicts
+pub record AreLinesApplied {S : Type 0} (state : S → SourceState) (source : S) (old new : StoreHistory)
+    (verdicts : List Verdict) (end : FileEnd) : Type 0 where
+  pub events : List Event
+  pub taken : ℕ
+  pub is_run : IsRun (state source).left end taken events
+  pub applied : AreApplied old events verdicts new
+  pub lawful : All IsLawful events
+  pub few : length events ≤ file.MAX_EVENTS
+
+-- so it was, and then a flush came
+pub record AreLinesFlushed {S : Type 0} (state : S → SourceState) (source : S) (old new : StoreHistory)
+    (verdicts : List Verdict) (end : FileEnd) : Type 0 where
+  pub flush : FlushRecord
+  pub between : StoreHistory
+  pub lines : AreLinesApplied state source old between verdicts end
+  pub flushed : Flushes between flush new
+
+-- a store of a configuration stays one
+abbrev pub Stays : StoreHistory → StoreHistory → Type 0
+Stays old new = (config : Config) → IsStoreOf config old → IsStoreOf config new
+
+-- the lines of each of these sources were applied in turn, and behind each came a flush
+abbrev pub AreFlushedInTurn : {S : Type 0} → (S → SourceState) → List S → StoreHistory → StoreHistory → Type 0
+AreFlushedInTurn state [] old new = new ≡ old
+AreFlushedInTurn state (source ∷ sources) old new =
+    (between : StoreHistory) × (verdicts : List Verdict) × (end : FileEnd)
+    × (AreLinesFlushed state source old between verdicts end × AreFlushedInTurn state sources between new)
+
+-- the report of a new store to which the lines of a source were applied
+pub record CountsLines {S : Type 0} (state : S → SourceState) (source : S) (config : Config) (report : Report)
+    : Type 0 where
+  pub store : StoreHistory
+  pub verdicts : List Verdict
+  pub end : FileEnd
+  pub read : AreLinesApplied state source (new_store config) store verdicts end
+  pub reported : IsReportOfStore store report
+
+-- the report of a new store that was flushed behind the lines of each of these sources
+pub record CountsInTurn {S : Type 0} (state : S → SourceState) (sources : List S) (config : Config) (report : Report)
+    : Type 0 where
+  pub store : StoreHistory
+  pub in_turn : AreFlushedInTurn state sources (new_store config) store
+  pub reported : IsReportOfStore store report

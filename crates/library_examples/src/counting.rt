@@ -1,0 +1,80 @@
+//! Stores that count.
+ghost use Rattle.std.specs.Prelude.{◌≡◌, ◌≤◌, ◌+◌, ◌*◌, IfOk, length};
+ghost use Rattle.stat_defs.specs.Configs.{IsConfig};
+ghost use Rattle.stat_defs.specs.Events.{IsLawfulEvent};
+ghost use Rattle.event_script.specs.declared.limits.TheConstants as file;
+ghost use Rattle.flush_view.specs.Showing.{IsShowable};
+ghost use Rattle.lone_worker.specs.declared.worker.TheConstants as worker;
+ghost use Rattle.plain_store.specs.Store.{new_store};
+ghost use Rattle.library_examples.specs.Counting.{CountsTwice, CountsLines, CountsInTurn};
+
+use crate::reading::{apply_lines, flush_lines};
+use crate::showing::finish_report;
+use plain_store::PlainStore;
+use stat_defs::{Config, Event, FlushRecord, Report};
+use stats_io::Source;
+use std::alloc::Global;
+use tag_rules::{Matcher, RegexMaker, TagFault, TagRules, config_law};
+
+/// A new store of this configuration. A pattern of it that is refused is told by its place among those of the tag rules
+/// or of the matcher.
+pub fn store_of(alloc: Global, config: &Config) -> Result<PlainStore, TagFault>
+    requires { IsConfig config.now }
+    ensures { IfOk result (λ store. store ≡ new_store config.now) }
+{
+    config_law();
+    let mut maker = RegexMaker::new(Vec::new(alloc));
+    let rules = TagRules::build(alloc, &mut maker, config.tags.items())?;
+    let matcher = Matcher::build(alloc, &mut maker, &config.matcher)?;
+    Ok(PlainStore::new(alloc, config, rules, matcher)?)
+}
+
+/// Applies an event twice to a new store, and flushes: the record of the flush. It has a delta for each counter and a
+/// reading for each gauge that was made, and a part for each histogram with a value.
+pub fn count_twice(alloc: Global, config: &Config, event: &Event) -> Result<FlushRecord, TagFault>
+    requires config { IsConfig config.now }
+    requires event { IsLawfulEvent event.now }
+    ensures { IfOk result (λ flush. CountsTwice config.now event.now flush) }
+{
+    let mut store = store_of(alloc, config)?;
+    store.apply(alloc, event)?;
+    store.apply(alloc, event)?;
+    Ok(store.flush(alloc)?)
+}
+
+/// Applies the events of a source's lines to a new store, and finishes it: the report of its one flush. It has no
+/// verdicts, and does not say how the source ended.
+pub fn count_lines<S: Source + Drop>(
+    alloc: Global,
+    config: &Config,
+    source: S,
+) -> Result<Report, TagFault>
+    requires { IsConfig config.now }
+    ensures counted { IfOk result (λ report. CountsLines S.state source config.now report) }
+    ensures showable { IfOk result (λ report. IsShowable config.now report) }
+{
+    let mut store = store_of(alloc, config)?;
+    apply_lines(alloc, source, &mut store)?;
+    Ok(finish_report(alloc, store, Vec::new(alloc))?)
+}
+
+/// Applies the events of each source's lines in turn to a new store, flushes behind each source, and finishes the store:
+/// the report of its flushes, of which the last has nothing that is new. It has no verdicts.
+pub fn count_in_turn<S: Source + Drop>(
+    alloc: Global,
+    config: &Config,
+    sources: Vec<S>,
+) -> Result<Report, TagFault>
+    requires config { IsConfig config.now }
+    requires few { length sources.items * file.MAX_EVENTS ≤ worker.MAX_EVENTS }
+    ensures counted { IfOk result (λ report. CountsInTurn S.state sources.items config.now report) }
+    ensures showable { IfOk result (λ report. IsShowable config.now report) }
+    ensures flushes { IfOk result (λ report. length report.flushes ≡ length sources.items + 1) }
+{
+    let mut store = store_of(alloc, config)?;
+    let mut flushes = Vec::new(alloc);
+    for source in sources {
+        flush_lines(alloc, source, &mut store, &mut flushes)?;
+    }
+    Ok(finish_report(alloc, store, flushes)?)
+}

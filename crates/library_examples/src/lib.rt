@@ -1,0 +1,14 @@
+//! The store used as a library: functions to copy from, and the law that what a store gives can be shown.
+#![tactic(auto)]
+
+mod counting;
+mod laws;
+mod reading;
+mod showing;
+#[cfg(test)]
+mod tests;
+
+pub use counting::{count_in_turn, count_lines, count_twice, store_of};
+pub use laws::stores_show;
+pub use reading::{LinesApplied, apply_lines, flush_lines};
+pub use showing::{finish_report, rules_and_buckets, shown_of};

@@ -1,0 +1,217 @@
+//! Stores of small configurations, to which event lines are applied.
+ghost use Rattle.std.specs.Prelude.{◌≡◌, ◌≤◌, ◌+◌, ◌*◌, IfOk, OnOk, length};
+ghost use Rattle.stat_defs.specs.Configs.{IsConfig};
+ghost use Rattle.event_script.specs.declared.limits.TheConstants as file;
+ghost use Rattle.flush_view.specs.Showing.{IsShowable};
+ghost use Rattle.plain_store.specs.Store.{new_store};
+
+use crate::{apply_lines, count_in_turn, count_lines, count_twice, rules_and_buckets, store_of};
+use boot_file::{read, usual};
+use report_text::{Format, OutputOptions, write_report};
+use stat_defs::{Config, Event, FileEnd, MetricId, Report, Txt, Verdict};
+use stats_io::{MemSink, MemSource, SureSource};
+use std::alloc::Global;
+use std::test::Fail;
+
+// Without tag rules.
+const NO_TAGS: &str = r#"{"stats_config":{"use_all_default_tags":false}}"#;
+
+// Without tag rules, and with a matcher.
+const CLUSTERS: &str = r#"{"stats_config":{"use_all_default_tags":false,
+    "stats_matcher":{"inclusion_list":{"patterns":[{"prefix":"cluster."}]}}}}"#;
+
+// Lines in memory, given in pieces of 4,096 bytes.
+fn lines_of(alloc: Global, lines: &[u8]) -> Result<MemSource, Fail> {
+    let bytes = lines.to_vec(alloc)?;
+    Ok(MemSource::new(String::new(alloc), bytes, 4096, Vec::new(alloc)))
+}
+
+fn config_of(alloc: Global, text: &str) -> Result<Config, Fail>
+    ensures { IfOk result (λ config. IsConfig config) }
+{
+    Ok(read(alloc, text.as_bytes())?)
+}
+
+// The verdicts on these lines in a new store.
+fn verdicts_on(alloc: Global, text: &str, lines: &[u8]) -> Result<Vec<Verdict>, Fail> {
+    let config = config_of(alloc, text)?;
+    let mut store = store_of(alloc, &config)?;
+    let applied = apply_lines(alloc, lines_of(alloc, lines)?, &mut store)?;
+    Ok(applied.verdicts)
+}
+
+// A line for each of so many numbers.
+fn numbered_lines(alloc: Global, word: &str, count: u32) -> Result<Vec<u8>, Fail> {
+    let mut lines = Vec::new(alloc);
+    for i in 0..count {
+        let line = format!(in alloc; "{word} root n{i} 1\n")?;
+        lines.extend_from_slice(line.as_bytes())?;
+    }
+    Ok(lines)
+}
+
+// So many verdicts accept metrics numbered from 0.
+fn accepted(verdicts: &[Verdict], count: u32) -> bool {
+    for i in 0..count {
+        if verdicts.get(i as usize) != Some(&Verdict::Accepted(MetricId(i))) {
+            return false;
+        }
+    }
+    true
+}
+
+#[test]
+fn requests_are_counted(rt: HostRuntime) -> Result<(), Fail> {
+    let alloc = rt.alloc();
+    let config = usual(alloc)?;
+    let mut store = store_of(alloc, &config)?;
+    let lines = b"inc root requests 3\ninc root requests 4\n".to_vec(alloc)?;
+    apply_lines(
+        alloc,
+        SureSource::new(String::new(alloc), lines, 4096),
+        &mut store,
+    )?;
+    let flush = store.flush(alloc)?;
+    let deltas = flush.deltas.items();
+    assert!(rt; deltas.len() == 1 && deltas[0].id == MetricId(0) && deltas[0].n == 7);
+    Ok(())
+}
+
+#[test]
+fn an_event_is_counted_twice(rt: HostRuntime) -> Result<(), Fail> {
+    let alloc = rt.alloc();
+    let config = usual(alloc)?;
+    let event = Event::Inc {
+        label: Txt::of(alloc, b"root")?,
+        name: Txt::of(alloc, b"requests")?,
+        n: 3,
+    };
+    let flush = count_twice(alloc, &config, &event)?;
+    let deltas = flush.deltas.items();
+    assert!(rt; flush.at == 2 && deltas.len() == 1 && deltas[0].n == 6);
+    Ok(())
+}
+
+#[test]
+fn metric_limits(rt: HostRuntime) -> Result<(), Fail> {
+    let alloc = rt.alloc();
+    let mut lines = numbered_lines(alloc, "inc", 16_385)?;
+    lines.extend_from_slice(b"rec root h 1\nset root g acc 1\ninc root n16383 1\n")?;
+    let verdicts = verdicts_on(alloc, NO_TAGS, &lines)?;
+    let behind = [
+        Verdict::NoRoom,
+        Verdict::NoRoom,
+        Verdict::NoRoom,
+        Verdict::Accepted(MetricId(16_383)),
+    ];
+    assert!(rt;
+        verdicts.len() == 16_388
+            && accepted(&verdicts, 16_384)
+            && verdicts.ends_with(behind.as_slice())
+    );
+    Ok(())
+}
+
+#[test]
+fn histogram_limits(rt: HostRuntime) -> Result<(), Fail> {
+    let alloc = rt.alloc();
+    let mut lines = numbered_lines(alloc, "rec", 1025)?;
+    lines.extend_from_slice(b"inc root new 1\nrec root n1023 1\n")?;
+    let verdicts = verdicts_on(alloc, NO_TAGS, &lines)?;
+    let behind = [
+        Verdict::OverLimit,
+        Verdict::Accepted(MetricId(1024)),
+        Verdict::Accepted(MetricId(1023)),
+    ];
+    assert!(rt;
+        verdicts.len() == 1027 && accepted(&verdicts, 1024) && verdicts.ends_with(behind.as_slice())
+    );
+    Ok(())
+}
+
+#[test]
+fn names_that_are_not_included(rt: HostRuntime) -> Result<(), Fail> {
+    let lines =
+        b"inc root cluster.x 1\ninc root server.y 1\ninc root server.y 1\nrec root cluster 1\n";
+    let verdicts = verdicts_on(rt.alloc(), CLUSTERS, lines)?;
+    let told = [
+        Verdict::Accepted(MetricId(0)),
+        Verdict::Rejected,
+        Verdict::Rejected,
+        Verdict::Rejected,
+    ];
+    assert!(rt; verdicts.as_slice() == told.as_slice());
+    Ok(())
+}
+
+// What a report is as a text.
+fn written(alloc: Global, config: &Config, report: &Report, format: Format) -> Result<MemSink, Fail>
+    requires config { IsConfig config.now }
+    requires showable { IsShowable config.now report.now }
+{
+    let (rules, buckets) = rules_and_buckets(alloc, config)?;
+    let mut out = MemSink::new(alloc, 4000, 4000, Vec::new(alloc))?;
+    let options = OutputOptions {
+        format,
+        symbols: false,
+    };
+    write_report(alloc, options, config, rules, &buckets, report, &mut out)?;
+    Ok(out)
+}
+
+// A name is gone in the first sweep, and made again behind it: each flush has one row of it. Counters start anew with
+// each flush, and gauges stay.
+#[test]
+fn a_name_that_is_made_again(rt: HostRuntime) -> Result<(), Fail> {
+    let alloc = rt.alloc();
+    let config = config_of(alloc, NO_TAGS)?;
+    let first = b"open s t\ninc s u 3\nset root g acc 9\nrelease s\ninc root a 1\n";
+    let second = b"open s t\ninc s u 4\nsub root g acc 10\n";
+    let first = lines_of(alloc, first)?;
+    let second = lines_of(alloc, second)?;
+    let third = lines_of(alloc, b"inc s u 5\n")?;
+    let report = count_in_turn(alloc, &config, vec![in alloc; first, second, third]?)?;
+    let counts = written(alloc, &config, &report, Format::Statsd)?;
+    let text = "\
+# flush 1\nenvoy.a:1|c\nenvoy.t.u:3|c\nenvoy.g:9|g\n\
+# flush 2\nenvoy.a:0|c\nenvoy.t.u:4|c\nenvoy.g:-1|g\n\
+# flush 3\nenvoy.a:0|c\nenvoy.t.u:5|c\nenvoy.g:-1|g\n\
+# last\nenvoy.a:0|c\nenvoy.t.u:0|c\nenvoy.g:-1|g\n";
+    assert_eq!(rt; counts.bytes(), text.as_bytes());
+    Ok(())
+}
+
+// The values since the flush before, and all so far. The last flush is right behind the second.
+#[test]
+fn values_and_texts_in_three_flushes(rt: HostRuntime) -> Result<(), Fail> {
+    let alloc = rt.alloc();
+    let config = config_of(alloc, NO_TAGS)?;
+    let first = lines_of(alloc, b"rec root h 7\ntext root v one\n")?;
+    let second = lines_of(alloc, b"rec root h 100\ntext root v two\n")?;
+    let report = count_in_turn(alloc, &config, vec![in alloc; first, second]?)?;
+    let shown = written(alloc, &config, &report, Format::Admin)?;
+    let text = "\
+# flush 1\nv: \"one\"\nh: P0(7,7) P25(7.1,7.1) P50(7.1,7.1) P75(7.1,7.1) P90(7.1,7.1) \
+P95(7.1,7.1) P99(7.1,7.1) P99.5(7.1,7.1) P99.9(7.1,7.1) P100(7.1,7.1)\n\
+# flush 2\nv: \"two\"\nh: P0(100,7) P25(110,7.1) P50(110,7.1) P75(110,110) P90(110,110) \
+P95(110,110) P99(110,110) P99.5(110,110) P99.9(110,110) P100(110,110)\n\
+# last\nv: \"two\"\nh: P0(nan,7) P25(nan,7.1) P50(nan,7.1) P75(nan,110) P90(nan,110) \
+P95(nan,110) P99(nan,110) P99.5(nan,110) P99.9(nan,110) P100(nan,110)\n";
+    assert_eq!(rt; shown.bytes(), text.as_bytes());
+    Ok(())
+}
+
+#[test]
+fn lines_up_to_a_fault(rt: HostRuntime) -> Result<(), Fail> {
+    let alloc = rt.alloc();
+    let config = usual(alloc)?;
+    let bytes = b"inc root a 1\ninc root b 2\nbogus\ninc root a 3\n".to_vec(alloc)?;
+    let lines = MemSource::new(String::new(alloc), bytes, 16, Vec::new(alloc));
+    let report = count_lines(alloc, &config, lines)?;
+    let shown = written(alloc, &config, &report, Format::Statsd)?;
+    assert_eq!(rt;
+        shown.bytes(),
+        b"# last\nenvoy.a:1|c\nenvoy.b:2|c\n".as_slice()
+    );
+    Ok(())
+}
