@@ -1,6 +1,7 @@
 -- The admin text of a flush (the statistics that Envoy's admin interface shows; that a counter stands before a gauge
 -- of its name, and a text as it is, is this project's own).
-use Rattle.std.specs.Prelude.{ℕ, ◌*◌, ◌==◌, Bool, if◌then◌else◌, Option, Some, None, List, [], ◌∷◌, ◌++◌, map, drop, codes}
+use Rattle.std.specs.Prelude.{ℕ, ◌*◌, ◌==◌, Bool, if◌then◌else◌, Option, Some, None, List, [], ◌∷◌, ◌++◌, map, drop}
+use Rattle.std.specs.Prelude.{codes}
 use Rattle.std.specs.List.{flat_map, join_by, take_while, prefix_len}
 use Rattle.std.specs.Fmt.{decimal, signed_decimal}
 use Rattle.std.specs.Ordering.{nat_cmp, is_le}

@@ -37,8 +37,9 @@ fn write_rows<O: Sink>(alloc: Global, rows: &[StatRow<'_>], out: &mut O) -> Resu
     Ok(())
 }
 
-/// Appends the admin text of what a flush shows. Rows keep the order of the view, which is by name, and `order_law` says how
-/// counters and gauges join. Names and texts are written as they are. The text is pushed in pieces of `PUSH_BYTES` and more.
+/// Appends the admin text of what a flush shows. Rows keep the order of the view, which is by name, and `order_law`
+/// says how counters and gauges join. Names and texts are written as they are. The text is pushed in pieces of
+/// `PUSH_BYTES` and more.
 pub fn write_admin<O: Sink>(alloc: Global, view: &FlushView, out: &mut O) -> Result<(), TextFault>
     requires { HasHistograms view.now }
     ensures answer { IsTextAnswer (O.state out.old) (O.state out.new) (admin_text view.now) result }

@@ -3,7 +3,8 @@ ghost use Rattle.std.specs.Prelude.{◌≡◌, ◌≤◌, ◌++◌, ◌∷◌, [
 ghost use Rattle.std.specs.Fmt.{decimal, signed_decimal};
 ghost use Rattle.std.specs.List.{All};
 ghost use Rattle.text_parts.specs.Histograms.{IsHistogram, AreHistograms};
-ghost use Rattle.admin_read.specs.Admin.{named, quoted, quantile_label, value_text, quantile_part, quantiles_text, stat_line};
+ghost use Rattle.admin_read.specs.Admin.{named, quoted, quantile_label, value_text, quantile_part, quantiles_text};
+ghost use Rattle.admin_read.specs.Admin.{stat_line};
 ghost use Rattle.admin_read.specs.Rows.{stat_of, CanBeRead, spaced_parts};
 
 use crate::rows::StatRow;

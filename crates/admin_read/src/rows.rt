@@ -1,7 +1,8 @@
 //! The rows of a view in the order in which they are written.
 ghost use Rattle.std.specs.Prelude.{◌≡◌, ◌≤◌, ◌++◌, ◌∷◌, [], IfOk, OnOk, map, length};
 ghost use Rattle.std.specs.List.{prefix_len};
-ghost use Rattle.admin_read.specs.Admin.{TextStat, CounterStat, GaugeStat, HistogramStat, stands_before as is_first, counters_up_to, counters_beyond, together, stats};
+ghost use Rattle.admin_read.specs.Admin.{TextStat, CounterStat, GaugeStat, HistogramStat, stands_before as is_first};
+ghost use Rattle.admin_read.specs.Admin.{counters_up_to, counters_beyond, together, stats};
 ghost use Rattle.admin_read.specs.Rows.{stat_of};
 
 use stat_defs::{CounterRow, FlushView, GaugeRow, HistRow, TextRow};

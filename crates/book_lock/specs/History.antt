@@ -1,5 +1,6 @@
 -- The history of a book under a lock, as each of the lock's seats knows it (this project's own).
-use Rattle.std.specs.Prelude.{◌≡◌, ◌≢◌, ℕ, ◌<◌, ◌≤◌, true, false, ◌==◌, List, [], ◌∷◌, ◌++◌, length, drop, filter, replicate, All}
+use Rattle.std.specs.Prelude.{◌≡◌, ◌≢◌, ℕ, ◌<◌, ◌≤◌, true, false, ◌==◌, List, [], ◌∷◌, ◌++◌, length, drop, filter}
+use Rattle.std.specs.Prelude.{replicate, All}
 use Rattle.stat_defs.specs.declared.history.Entry.{Entry}
 use Rattle.stat_defs.specs.Books.{BookHistory, releases_in}
 use Rattle.book_lock.specs.declared.view.LockKind.{LockKind}

@@ -20,7 +20,8 @@
 -- give, since the turn is 1 until then.
 -- A split or a join moves parts from view to view, and no sum over all parts and no fact of each part can
 -- tell.
-use Rattle.std.specs.Prelude.{◌≡◌, ◌≢◌, ℕ, zero, suc, ◌<◌, ◌≤◌, Bool, true, false, ◌==◌, List, [], ◌∷◌, length, slice_index, Option, Some}
+use Rattle.std.specs.Prelude.{◌≡◌, ◌≢◌, ℕ, zero, suc, ◌<◌, ◌≤◌, Bool, true, false, ◌==◌, List, [], ◌∷◌, length}
+use Rattle.std.specs.Prelude.{slice_index, Option, Some}
 use Rattle.std.specs.declared.boxed.Box.{Box}
 use mathlib.Core.Option.{some}
 use lib.ListN.{get_elem?}
@@ -32,7 +33,8 @@ use Rattle.stat_defs.specs.declared.configs.Config.{Config}
 use Rattle.stat_defs.specs.declared.configs.MatchSpec.TheVariants as matcher
 use Rattle.stat_defs.specs.Books.{BookHistory, releases_in}
 use Rattle.book_lock.specs.declared.view.LockPart.{LockPart}
-use Rattle.book_lock.specs.History.{GoesOn, SeatHistory, Finds, with_log, took, missed, published, gave, loaded, new_part}
+use Rattle.book_lock.specs.History.{GoesOn, SeatHistory, Finds, with_log, took, missed, published, gave, loaded}
+use Rattle.book_lock.specs.History.{new_part}
 
 abbrev pub View : Type 0
 View = Parts LockPart
@@ -58,7 +60,8 @@ pub record FitsLock (first : BookHistory) (seats : ℕ) (log : List Entry) (p : 
 abbrev pub in_box : {B A : Type 0} → (B → BookHistory) → Box B A → BookHistory
 in_box history_of boxed = history_of boxed.value
 
-pub record Locked {B : Type 0} (history_of : B → BookHistory) (first : BookHistory) (seats : ℕ) (s : State (Option B) View) : Type 0 where
+pub record Locked {B : Type 0} (history_of : B → BookHistory) (first : BookHistory) (seats : ℕ)
+    (s : State (Option B) View) : Type 0 where
   pub log : List Entry
   pub words : length s.words ≡ 2
   pub slots : length s.homes ≡ 1
@@ -66,7 +69,8 @@ pub record Locked {B : Type 0} (history_of : B → BookHistory) (first : BookHis
   pub turn : slice_index s.words 0 ≡ parts_total holding s.views
   pub one : parts_total holding s.views ≤ 1
   pub released : slice_index s.words 1 ≡ releases_in log
-  pub home : slice_index s.words 0 ≡ 0 → (book : B) × (get_elem? s.homes 0 ≡ some (some (Some book))) × (history_of book ≡ with_log log first)
+  pub home : slice_index s.words 0 ≡ 0 → (book : B) × (get_elem? s.homes 0 ≡ some (some (Some book)))
+      × (history_of book ≡ with_log log first)
   pub count : parts_total (λ _. 1) s.views ≡ seats
   pub numbers : (k : ℕ) → parts_total (numbered k) s.views ≤ 1
   pub each : AllParts (FitsLock first seats log) s.views
@@ -109,12 +113,14 @@ module _ {B : Type 0} where
   -- a take that finds 0 has the book out of the slot, and any other finds 1
   abbrev pub Taken : (B → BookHistory) → Step (Option B) → Sat B → ℕ → Sat B → Type 0
   Taken history_of st m r m' =
-      (r ≡ 0 → (book : B) × (m' ≡ (own_changed (took (history_of book).log) m.0, (0, Some book) ∷ m.1)) × Finds (own_part m.0) (history_of book))
+      (r ≡ 0 → (book : B) × (m' ≡ (own_changed (took (history_of book).log) m.0, (0, Some book) ∷ m.1))
+          × Finds (own_part m.0) (history_of book))
       × (r ≢ 0 → (r ≡ 1) × (m' ≡ (own_changed (missed r) m.0, m.1)))
 
   -- at a publish the book lies in the slot again, which is still the seat's
   abbrev pub Published : (B → BookHistory) → Step (Option B) → Sat B → ℕ → Sat B → Type 0
-  Published history_of st m r m' = (book : B) → m.1 ≡ (0, Some book) ∷ [] → m' ≡ (own_changed (published (history_of book).log) m.0, m.1)
+  Published history_of st m r m' = (book : B) → m.1 ≡ (0, Some book) ∷ [] → m'
+      ≡ (own_changed (published (history_of book).log) m.0, m.1)
 
   abbrev pub Given : Step (Option B) → Sat B → ℕ → Sat B → Type 0
   Given st m r m' = m' ≡ (own_changed gave m.0, rest m.1)

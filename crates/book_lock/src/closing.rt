@@ -12,7 +12,8 @@ impl<B: Booked + Drop> BookLock<B> {
     /// The book, once all seats are back.
     pub fn close(self, seats: Vec<LockSeat<B>>) -> B
         requires { AreAll (lock_id self) (seats_of self) seats.items }
-        ensures { IsOneHistory (B.history (first_book self)) (seats_of self) (map seat_part seats.items) (B.history result) }
+        ensures { IsOneHistory (B.history (first_book self)) (seats_of self) (map seat_part seats.items)
+            (B.history result) }
     {
         let all = self.gather(seats);
         let BookLock { table } = self;

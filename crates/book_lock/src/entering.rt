@@ -15,8 +15,8 @@ use std::thread::yield_now;
 /// The most pauses of the processor between two tries of one call of `enter`.
 const MAX_PAUSES: u32 = 512;
 
-// Between two tries the processor pauses, each time twice as often, so that a seat that waits seldom disturbs the one that is
-// in. Past the most pauses other threads may run. Gives the pauses of the next time.
+// Between two tries the processor pauses, each time twice as often, so that a seat that waits seldom disturbs the one
+// that is in. Past the most pauses other threads may run. Gives the pauses of the next time.
 fn pause(pauses: u32) -> u32 {
     if MAX_PAUSES < pauses {
         yield_now();

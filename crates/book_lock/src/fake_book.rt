@@ -36,7 +36,8 @@ impl FakeBook {
 
     // Refused where the room is full.
     pub(crate) fn add(&mut self, entry: Entry) -> Result<(), NoMemory>
-        ensures { MatchResult result (λ _. self.new.entries.items ≡ self.old.entries.items ++ entry ∷ []) (λ _. self.new.entries.items ≡ self.old.entries.items) }
+        ensures { MatchResult result (λ _. self.new.entries.items ≡ self.old.entries.items ++ entry ∷ [])
+            (λ _. self.new.entries.items ≡ self.old.entries.items) }
     {
         if self.entries.len() >= self.room || self.releases == u64::MAX {
             return Err(NoMemory);

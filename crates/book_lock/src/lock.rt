@@ -13,7 +13,8 @@ use std::alloc::Global;
 #[derive(Drop)]
 pub struct BookLock<B: Booked> {
     pub(crate) table: Table<Option<Box<B>>, LockView, LockKey<B>, Locking, Global>,
-    ghost sized: { (table.shared.table_id.words ≡ 2) × (table.shared.table_id.slots ≡ 1) × (0 < table.shared.key.seats) },
+    ghost sized: { (table.shared.table_id.words ≡ 2) × (table.shared.table_id.slots ≡ 1)
+        × (0 < table.shared.key.seats) },
 }
 
 /// A seat of a lock. Contracts alone see its part.

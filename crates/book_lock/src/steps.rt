@@ -15,11 +15,13 @@ pub(crate) type Top<B> = Shared<Option<Box<B>>, LockView, LockKey<B>, Locking>;
 
 // The book, where the turn was free, or the word that was found.
 pub(crate) fn take<B: Booked>(top: &Top<B>, place: &mut Place<B>) -> Result<Box<B>, u64>
-    requires table { (place.old.table_id ≡ top.now.table_id) × (top.now.table_id.words ≡ 2) × (top.now.table_id.slots ≡ 1) }
+    requires table { (place.old.table_id ≡ top.now.table_id) × (top.now.table_id.words ≡ 2)
+        × (top.now.table_id.slots ≡ 1) }
     requires rests { (length place.old.me.0.parts ≡ 1) × (place.old.me.1 ≡ []) }
     ensures table { (place.new.table_id ≡ place.old.table_id) × (place.new.id ≡ place.old.id) }
     ensures told { MatchResult result
-        (λ book. (place.new.me ≡ (own_changed (took (B.history book.value).log) place.old.me.0, (0, None) ∷ [])) × Finds (own_part place.old.me.0) (B.history book.value))
+        (λ book. (place.new.me ≡ (own_changed (took (B.history book.value).log) place.old.me.0, (0, None) ∷ []))
+            × Finds (own_part place.old.me.0) (B.history book.value))
         (λ word. (word ≡ 1) × (place.new.me ≡ (own_changed (missed word) place.old.me.0, []))) }
 {
     let found = top.compare_exchange::<Taking>(place, 0, 0, 1);
@@ -32,8 +34,10 @@ pub(crate) fn take<B: Booked>(top: &Top<B>, place: &mut Place<B>) -> Result<Box<
 
 // The number of the book's releases is published before the turn goes back with it.
 pub(crate) fn give<B: Booked + Drop>(top: &Top<B>, place: &mut Place<B>, book: Box<B>)
-    requires table { (place.old.table_id ≡ top.now.table_id) × (top.now.table_id.words ≡ 2) × (top.now.table_id.slots ≡ 1) }
-    requires holds { (length place.old.me.0.parts ≡ 1) × (place.old.me.1 ≡ (0, None) ∷ []) × ((own_part place.old.me.0).holds ≡ true) }
+    requires table { (place.old.table_id ≡ top.now.table_id) × (top.now.table_id.words ≡ 2)
+        × (top.now.table_id.slots ≡ 1) }
+    requires holds { (length place.old.me.0.parts ≡ 1) × (place.old.me.1 ≡ (0, None) ∷ [])
+        × ((own_part place.old.me.0).holds ≡ true) }
     requires book { MayLeave (own_part place.old.me.0) (B.history book.value) }
     ensures table { (place.new.table_id ≡ place.old.table_id) × (place.new.id ≡ place.old.id) }
     ensures told { place.new.me ≡ (own_changed (left (B.history book.value).log) place.old.me.0, []) }
@@ -49,7 +53,8 @@ pub(crate) fn load<B: Booked>(top: &Top<B>, place: &mut Place<B>) -> u64
     requires table { (place.old.table_id ≡ top.now.table_id) × (top.now.table_id.words ≡ 2) }
     requires rests { (length place.old.me.0.parts ≡ 1) × (place.old.me.1 ≡ []) }
     ensures table { (place.new.table_id ≡ place.old.table_id) × (place.new.id ≡ place.old.id) }
-    ensures told { (place.new.me ≡ (own_changed (loaded result) place.old.me.0, [])) × ((own_part place.old.me.0).seen ≤ result) }
+    ensures told { (place.new.me ≡ (own_changed (loaded result) place.old.me.0, []))
+        × ((own_part place.old.me.0).seen ≤ result) }
 {
     top.load::<Loading>(place, 1)
 }

@@ -47,9 +47,13 @@ fn add_and_leave(
     reply: Reply,
 ) -> Result<(), NoMemory>
     requires seat { HasBook (lock_id lock.now) seat.old × (seat_number seat.old ≡ number) }
-    requires book { MayLeave (seat_part seat.old) (record { config = blank_config; workers = 4; log = (held_book held).entries.items }) }
+    requires book { MayLeave (seat_part seat.old)
+        (record { config = blank_config; workers = 4; log = (held_book held).entries.items }) }
     ensures seat { AtRest (lock_id lock.now) seat.new × (seat_number seat.new ≡ number) }
-    ensures made { (seat_part seat.old).known ≡ (held_book held).entries.items → MatchResult result (λ _. (seat_part seat.new).made ≡ (seat_part seat.old).made ++ (record { seat = number; call = call.Ack; reply = reply }) ∷ []) (λ _. (seat_part seat.new).made ≡ (seat_part seat.old).made) }
+    ensures made { (seat_part seat.old).known ≡ (held_book held).entries.items
+        → MatchResult result (λ _. (seat_part seat.new).made ≡ (seat_part seat.old).made
+        ++ (record { seat = number; call = call.Ack; reply = reply }) ∷ [])
+        (λ _. (seat_part seat.new).made ≡ (seat_part seat.old).made) }
 {
     let added = held.book().add(entry_of(number, reply));
     lock.leave(seat, held);
@@ -65,7 +69,10 @@ fn add_reply<R: Wait>(
 ) -> Result<(), NoMemory>
     requires seat { AtRest (lock_id lock.now) seat.old × (seat_number seat.old ≡ number) }
     ensures seat { AtRest (lock_id lock.now) seat.new × (seat_number seat.new ≡ number) }
-    ensures made { MatchResult result (λ _. (seat_part seat.new).made ≡ (seat_part seat.old).made ++ (record { seat = number; call = call.Ack; reply = reply }) ∷ []) (λ _. (seat_part seat.new).made ≡ (seat_part seat.old).made) }
+    ensures made { MatchResult result
+        (λ _. (seat_part seat.new).made ≡ (seat_part seat.old).made
+        ++ (record { seat = number; call = call.Ack; reply = reply }) ∷ [])
+        (λ _. (seat_part seat.new).made ≡ (seat_part seat.old).made) }
 {
     let held = lock.enter(rt, seat);
     add_and_leave(lock, seat, held, number, reply)
@@ -169,8 +176,10 @@ fn run_four<R: Threads + Wait + Sync>(
     low: Pair,
     high: Pair,
 ) -> (Pair, Pair)
-    requires low { AtRest (lock_id lock.now) low.0 × (seat_number low.0 ≡ 0) × AtRest (lock_id lock.now) low.1 × (seat_number low.1 ≡ 1) }
-    requires high { AtRest (lock_id lock.now) high.0 × (seat_number high.0 ≡ 2) × AtRest (lock_id lock.now) high.1 × (seat_number high.1 ≡ 3) }
+    requires low { AtRest (lock_id lock.now) low.0 × (seat_number low.0 ≡ 0) × AtRest (lock_id lock.now) low.1
+        × (seat_number low.1 ≡ 1) }
+    requires high { AtRest (lock_id lock.now) high.0 × (seat_number high.0 ≡ 2) × AtRest (lock_id lock.now) high.1
+        × (seat_number high.1 ≡ 3) }
     ensures low { AtRest (lock_id lock.now) result.0.0 × AtRest (lock_id lock.now) result.0.1 }
     ensures high { AtRest (lock_id lock.now) result.1.0 × AtRest (lock_id lock.now) result.1.1 }
 {

@@ -1,5 +1,5 @@
--- What decides a find (Envoy's design note on statistics, and its configuration reference on the statistics matcher; the
--- limits and the order of the cases are this project's own).
+-- What decides a find (Envoy's design note on statistics, and its configuration reference on the statistics matcher;
+-- the limits and the order of the cases are this project's own).
 use Rattle.std.specs.Prelude.{ℕ, ◌&&◌, nat_le, Bool, true, false, Option, Some, None, List, [], length, unwrap_or}
 use Rattle.std.specs.Option.{option_map_or}
 use Rattle.std.specs.List.{slice_get}
@@ -53,4 +53,5 @@ first_case (Some _) true None false false = New
 
 abbrev pub outcome : NameRules → State → Key → Outcome
 outcome rules s key = let name = name_of s key in
-    first_case (live_scope s key.label) (rules.admits name) (known s key.kind name) (is_full s) (is_over_limit s key.kind)
+    first_case (live_scope s key.label) (rules.admits name) (known s key.kind name) (is_full s)
+        (is_over_limit s key.kind)

@@ -1,5 +1,6 @@
 -- The entries of a worker's seat are those of its events in order, and then one End. This project's own.
-use Rattle.std.specs.Prelude.{◌≡◌, ◌⊎◌, ℕ, ◌≤◌, ◌==◌, if◌then◌else◌, Option, Some, None, option_map, List, [], ◌∷◌, ◌++◌}
+use Rattle.std.specs.Prelude.{◌≡◌, ◌⊎◌, ℕ, ◌≤◌, ◌==◌, if◌then◌else◌, Option, Some, None, option_map, List, [], ◌∷◌}
+use Rattle.std.specs.Prelude.{◌++◌}
 use Rattle.std.specs.Option.{option_map_or, IsSomeAnd}
 use Rattle.stat_defs.specs.declared.ids.Kind.{Kind}
 use Rattle.stat_defs.specs.declared.ids.Kind.TheVariants as kind
@@ -30,7 +31,8 @@ pub record Own : Type 0 where
 abbrev pub own : NameRules → ℕ → State → List Entry → List Own
 own rules seat s [] = []
 own rules seat s (entry ∷ log) = let next = effect rules entry.seat entry.call entry.reply s in
-    if entry.seat == seat then record { call = entry.call; reply = entry.reply; after = next } ∷ own rules seat next log else own rules seat next log
+    if entry.seat == seat then record { call = entry.call; reply = entry.reply; after = next } ∷ own rules seat next log
+        else own rules seat next log
 
 -- the verdict that a reply tells
 abbrev pub verdict_of : Reply → Option Verdict
@@ -86,7 +88,8 @@ Makes seat s (event.OpenScope label prefix) v made = MakesOne (call.OpenScope la
 Makes seat s (event.Release label) v made = MakesOne (call.Release label) v made
 Makes seat s e v made = IsSomeAnd (event_key e) (λ key. Finds key e v (held_verdict s seat key) made)
 
--- an acknowledgement stands first where there are releases above the seat's tag, and may stand first wherever it is a step
+-- an acknowledgement stands first where there are releases above the seat's tag, and may stand first wherever it is a
+-- step
 abbrev pub MakesAcked : ℕ → State → Event → Verdict → List Own → Type 0
 MakesAcked seat s e v made =
     ((s.releases ≤ tag_of s seat) × Makes seat s e v made)
@@ -103,8 +106,8 @@ abbrev pub after_all : State → List Own → State
 after_all s [] = s
 after_all s (o ∷ made) = after_all o.after made
 
--- The events that a seat applied form a chain. Its newest link stands first, so a chain grows by a link, while the lists of
--- its events, verdicts and entries grow at their ends.
+-- The events that a seat applied form a chain. Its newest link stands first, so a chain grows by a link, while the
+-- lists of its events, verdicts and entries grow at their ends.
 abbrev pub events_of : List Applied → List Event
 events_of [] = []
 events_of (a ∷ before) = events_of before ++ a.event ∷ []
@@ -128,7 +131,8 @@ IsChain seat s [] = Unit {0}
 IsChain seat s (a ∷ before) = IsChain seat s before × MakesAcked seat (state_after s before) a.event a.verdict a.made
 
 -- these entries are those of the seat's events, with their verdicts
-pub record AreOfEvents (workers seat : ℕ) (events : List Event) (verdicts : List Verdict) (entries : List Own) : Type 0 where
+pub record AreOfEvents (workers seat : ℕ) (events : List Event) (verdicts : List Verdict)
+    (entries : List Own) : Type 0 where
   pub applied : List Applied
   pub chain : IsChain seat (empty workers) applied
   pub events_are : events ≡ events_of applied
@@ -137,10 +141,12 @@ pub record AreOfEvents (workers seat : ℕ) (events : List Event) (verdicts : Li
 
 -- the seat's entries in the log are those of its events so far
 abbrev pub FollowsSoFar : NameRules → ℕ → ℕ → List Event → List Verdict → List Entry → Type 0
-FollowsSoFar rules workers seat events verdicts log = AreOfEvents workers seat events verdicts (own rules seat (empty workers) log)
+FollowsSoFar rules workers seat events verdicts log = AreOfEvents workers seat events verdicts
+    (own rules seat (empty workers) log)
 
 -- the seat's entries in the log are those of its events, and then one End
-pub record Follows (rules : NameRules) (workers seat : ℕ) (events : List Event) (verdicts : List Verdict) (log : List Entry) : Type 0 where
+pub record Follows (rules : NameRules) (workers seat : ℕ) (events : List Event) (verdicts : List Verdict)
+    (log : List Entry) : Type 0 where
   pub entries : List Own
   pub of_events : AreOfEvents workers seat events verdicts entries
   pub last : Own

@@ -14,7 +14,8 @@ pub record LogGrows : Type 0 where
   pub replayed : (rules : NameRules) (workers : ℕ) (log : List Entry) (e : Entry)
       → replay rules workers (log ++ e ∷ []) ≡ effect rules e.seat e.call e.reply (replay rules workers log)
   pub legal : (rules : NameRules) (scopes : List ScopeSpec) (workers : ℕ) (log : List Entry) (e : Entry)
-      → Legal rules scopes workers log → fits_seat workers e ≡ true → Allowed rules e.seat e.call e.reply (replay rules workers log)
+      → Legal rules scopes workers log → fits_seat workers e ≡ true
+      → Allowed rules e.seat e.call e.reply (replay rules workers log)
       → Legal rules scopes workers (log ++ e ∷ [])
 
 -- none of these entries is the seat's
@@ -23,10 +24,12 @@ AreOfOthers seat entries = All (λ entry. seat ≢ entry.seat) entries
 
 -- entries of other seats leave a seat with its tag and its end, and all that it holds
 pub record OthersLeave : Type 0 where
-  pub seats : (rules : NameRules) (s : State) (seat : ℕ) (more : List Entry) → AreOfOthers seat more → seat_of (replay_from rules s more) seat ≡ seat_of s seat
+  pub seats : (rules : NameRules) (s : State) (seat : ℕ) (more : List Entry) → AreOfOthers seat more
+      → seat_of (replay_from rules s more) seat ≡ seat_of s seat
   pub held : (rules : NameRules) (workers seat : ℕ) (log more : List Entry) → AreOfOthers seat more
       → held_by rules workers seat (log ++ more) ≡ held_by rules workers seat log
-  pub entries : (rules : NameRules) (s : State) (seat : ℕ) (more : List Entry) → AreOfOthers seat more → own rules seat s more ≡ []
+  pub entries : (rules : NameRules) (s : State) (seat : ℕ) (more : List Entry) → AreOfOthers seat more
+      → own rules seat s more ≡ []
 
 -- the state after the seat's own last entry, and before all entries where it has none
 abbrev pub own_end : NameRules → ℕ → ℕ → List Entry → State
@@ -34,8 +37,10 @@ own_end rules workers seat log = after_all (empty workers) (own rules seat (empt
 
 -- the seat stands there as after the whole log, and there were no more releases
 pub record OwnEnds : Type 0 where
-  pub seats : (rules : NameRules) (workers seat : ℕ) (log : List Entry) → seat_of (own_end rules workers seat log) seat ≡ seat_of (replay rules workers log) seat
-  pub releases : (rules : NameRules) (workers seat : ℕ) (log : List Entry) → (own_end rules workers seat log).releases ≤ (replay rules workers log).releases
+  pub seats : (rules : NameRules) (workers seat : ℕ) (log : List Entry) → seat_of (own_end rules workers seat log) seat
+      ≡ seat_of (replay rules workers log) seat
+  pub releases : (rules : NameRules) (workers seat : ℕ) (log : List Entry)
+      → (own_end rules workers seat log).releases ≤ (replay rules workers log).releases
 
 -- an entry of the seat from a state on
 abbrev pub own_entry : NameRules → State → Entry → Own
@@ -49,18 +54,27 @@ pub record OwnGrow : Type 0 where
 
 pub record ChainGrows : Type 0 where
   -- before its first event the seat has no entry
-  pub none : (rules : NameRules) (workers seat : ℕ) (log : List Entry) → AreOfOthers seat log → FollowsSoFar rules workers seat [] [] log
+  pub none : (rules : NameRules) (workers seat : ℕ) (log : List Entry) → AreOfOthers seat log
+      → FollowsSoFar rules workers seat [] [] log
   -- entries of other seats are no event of it
-  pub others : (rules : NameRules) (workers seat : ℕ) (events : List Event) (verdicts : List Verdict) (log more : List Entry)
-      → FollowsSoFar rules workers seat events verdicts log → AreOfOthers seat more → FollowsSoFar rules workers seat events verdicts (log ++ more)
+  pub others : (rules : NameRules) (workers seat : ℕ) (events : List Event) (verdicts : List Verdict)
+      (log more : List Entry)
+      → FollowsSoFar rules workers seat events verdicts log → AreOfOthers seat more
+      → FollowsSoFar rules workers seat events verdicts (log ++ more)
   -- an event makes the seat's own entries among those that were added
-  pub events : (rules : NameRules) (workers seat : ℕ) (events : List Event) (verdicts : List Verdict) (log more : List Entry) (e : Event) (v : Verdict)
-      → FollowsSoFar rules workers seat events verdicts log → MakesAcked seat (replay rules workers log) e v (own rules seat (replay rules workers log) more)
+  pub events : (rules : NameRules) (workers seat : ℕ) (events : List Event) (verdicts : List Verdict)
+      (log more : List Entry) (e : Event) (v : Verdict)
+      → FollowsSoFar rules workers seat events verdicts log
+      → MakesAcked seat (replay rules workers log) e v (own rules seat (replay rules workers log) more)
       → FollowsSoFar rules workers seat (events ++ e ∷ []) (verdicts ++ v ∷ []) (log ++ more)
   -- the last is an End
-  pub ended : (rules : NameRules) (workers seat : ℕ) (events : List Event) (verdicts : List Verdict) (log more : List Entry) (last : Own)
-      → FollowsSoFar rules workers seat events verdicts log → own rules seat (replay rules workers log) more ≡ last ∷ [] → last.call ≡ call.End
+  pub ended : (rules : NameRules) (workers seat : ℕ) (events : List Event) (verdicts : List Verdict)
+      (log more : List Entry) (last : Own)
+      → FollowsSoFar rules workers seat events verdicts log → own rules seat (replay rules workers log) more ≡ last ∷ []
+      → last.call ≡ call.End
       → Follows rules workers seat events verdicts (log ++ more)
   -- entries of other seats may stand behind it
-  pub left : (rules : NameRules) (workers seat : ℕ) (events : List Event) (verdicts : List Verdict) (log more : List Entry)
-      → Follows rules workers seat events verdicts log → AreOfOthers seat more → Follows rules workers seat events verdicts (log ++ more)
+  pub left : (rules : NameRules) (workers seat : ℕ) (events : List Event) (verdicts : List Verdict)
+      (log more : List Entry)
+      → Follows rules workers seat events verdicts log → AreOfOthers seat more
+      → Follows rules workers seat events verdicts (log ++ more)

@@ -1,5 +1,6 @@
 -- What a log comes to: its state, whether it is legal, and what each seat holds. This project's own.
-use Rattle.std.specs.Prelude.{◌≡◌, ℕ, suc, ◌==◌, ◌&&◌, if◌then◌else◌, nat_le, Bool, true, false, List, [], ◌∷◌, ◌++◌, replicate}
+use Rattle.std.specs.Prelude.{◌≡◌, ℕ, suc, ◌==◌, ◌&&◌, if◌then◌else◌, nat_le, Bool, true, false, List, [], ◌∷◌, ◌++◌}
+use Rattle.std.specs.Prelude.{replicate}
 use Rattle.std.specs.List.{list_all}
 use Rattle.stat_defs.specs.declared.history.Call.{Call}
 use Rattle.stat_defs.specs.declared.history.Call.TheVariants as call
@@ -11,12 +12,14 @@ use Rattle.book_state.specs.Step.{effect, Allowed}
 
 -- no scope, no metric, and a seat for each worker
 abbrev pub empty : ℕ → State
-empty workers = record { scopes = []; metrics = []; releases = 0; seats = replicate workers (record { tag = 0; held = []; ended = false }) }
+empty workers = record { scopes = []; metrics = []; releases = 0; seats = replicate workers
+    (record { tag = 0; held = []; ended = false }) }
 
 -- the openings of the configuration's scopes, in order, from this number on
 abbrev pub openings : ℕ → List ScopeSpec → List Entry
 openings id [] = []
-openings id (scope ∷ scopes) = record { seat = 0; call = call.OpenScope scope.label scope.prefix; reply = reply.Opened (record { 0 = id }) } ∷ openings (suc id) scopes
+openings id (scope ∷ scopes) = record { seat = 0; call = call.OpenScope scope.label scope.prefix; reply = reply.Opened
+    (record { 0 = id }) } ∷ openings (suc id) scopes
 
 abbrev pub is_sweep : Call → Bool
 is_sweep call.Sweep = true
@@ -24,7 +27,8 @@ is_sweep _ = false
 
 -- whose entry it is: seat 0 sweeps, and the workers, from 1, make every other call
 abbrev pub fits_seat : ℕ → Entry → Bool
-fits_seat workers entry = if is_sweep entry.call then entry.seat == 0 else (nat_le 1 entry.seat && nat_le entry.seat workers)
+fits_seat workers entry = if is_sweep entry.call then entry.seat == 0
+    else (nat_le 1 entry.seat && nat_le entry.seat workers)
 
 -- the state that the entries of a log give, one after the other
 abbrev pub replay_from : NameRules → State → List Entry → State

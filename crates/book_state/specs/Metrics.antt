@@ -1,5 +1,6 @@
 -- The metrics as they are stored: of each metric's bearers their number. This project's own.
-use Rattle.std.specs.Prelude.{◌≡◌, ℕ, ◌+◌, ◌-◌, nat_le, if◌then◌else◌, Bool, true, false, Option, None, Some, List, [], ◌∷◌, map, filter, slice_get, length}
+use Rattle.std.specs.Prelude.{◌≡◌, ℕ, ◌+◌, ◌-◌, nat_le, if◌then◌else◌, Bool, true, false, Option, None, Some, List, []}
+use Rattle.std.specs.Prelude.{◌∷◌, map, filter, slice_get, length}
 use Rattle.std.specs.Option.{option_map_or}
 use Rattle.stat_defs.specs.declared.ids.MetricId.{MetricId}
 use Rattle.stat_defs.specs.declared.ids.Mode.{Mode}
@@ -38,7 +39,8 @@ found_again mode new row = record {
 abbrev pub with_text : List ℕ → MetricRow → MetricRow
 with_text text row = record row { metric = record row.metric { text = text } }
 
--- the release was acknowledged by all, where the least tag of a worker that has not ended is this; None where all have ended
+-- the release was acknowledged by all, where the least tag of a worker that has not ended is this; None where all have
+-- ended
 abbrev pub is_past : Option ℕ → ℕ → Bool
 is_past None release = true
 is_past (Some tag) release = nat_le release tag
@@ -50,12 +52,14 @@ is_overdue least Live = false
 is_overdue least Gone = false
 
 abbrev pub swept_row : Option ℕ → MetricRow → MetricRow
-swept_row least row = if is_overdue least row.metric.life then record row { metric = record row.metric { life = Gone } } else row
+swept_row least row = if is_overdue least row.metric.life then record row { metric = record row.metric { life = Gone } }
+    else row
 
 -- the names that are not gone, with the numbers of their metrics, from this number on
 abbrev pub names_from : ℕ → List Metric → List (NameKey × ℕ)
 names_from id [] = []
-names_from id (m ∷ ms) = if is_gone m.life then names_from (id + 1) ms else (record { kind = m.kind; name = m.name }, id) ∷ names_from (id + 1) ms
+names_from id (m ∷ ms) = if is_gone m.life then names_from (id + 1) ms
+    else (record { kind = m.kind; name = m.name }, id) ∷ names_from (id + 1) ms
 
 -- the metric of this number is overdue
 abbrev pub overdue_at : Option ℕ → List MetricRow → ℕ → Bool

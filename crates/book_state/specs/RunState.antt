@@ -40,7 +40,8 @@ pub record IsHeld (scopes : List Scope) (metrics : List Row) (tag : ℕ) (h : He
 pub record IsSeat (scopes : List Scope) (metrics : List Row) (releases : ℕ) (seat : Seat) : Type 0 where
   pub tag : seat.tag ≤ releases
   pub ended : seat.ended ≡ true → seat.held ≡ []
-  pub held : (i : ℕ) (h : Held) (id : MetricId) → slice_get seat.held i ≡ Some h → h.verdict ≡ Accepted id → IsHeld scopes metrics seat.tag h id.0
+  pub held : (i : ℕ) (h : Held) (id : MetricId) → slice_get seat.held i ≡ Some h → h.verdict ≡ Accepted id
+      → IsHeld scopes metrics seat.tag h id.0
 
 -- tokens have equal numbers exactly where they are equal
 abbrev pub Apart : (List ℕ → ℕ → Type 0) → Type 0

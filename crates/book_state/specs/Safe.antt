@@ -35,11 +35,13 @@ pub record IsSafe (s : State) : Type 0 where
 -- a number that is drawn for a new token is in use by no name
 abbrev pub DrawsUnused : State → Call → Reply → Type 0
 DrawsUnused s (call.Find key) (reply.Made id numbers) = (at : ℕ) (t : List ℕ) (n : ℕ)
-    → slice_get (zip (tokens (name_of s key)) numbers) at ≡ Some (t, n) → ((k : ℕ) → Uses s t k → ⊥) → InUse (Uses s) n → ⊥
+    → slice_get (zip (tokens (name_of s key)) numbers) at ≡ Some (t, n) → ((k : ℕ) → Uses s t k → ⊥) → InUse (Uses s) n
+    → ⊥
 DrawsUnused s _ _ = Unit {0}
 
 pub record SymbolsSafe (rules : NameRules) (workers : ℕ) (log : List Entry) : Type 0 where
   -- after any number of entries
   pub states : (k : ℕ) → IsSafe (replay rules workers (take k log))
   -- and at the entry after them
-  pub draws : (k : ℕ) (entry : Entry) → slice_get log k ≡ Some entry → DrawsUnused (replay rules workers (take k log)) entry.call entry.reply
+  pub draws : (k : ℕ) (entry : Entry) → slice_get log k ≡ Some entry
+      → DrawsUnused (replay rules workers (take k log)) entry.call entry.reply

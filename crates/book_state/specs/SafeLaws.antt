@@ -13,7 +13,8 @@ use Rattle.book_state.specs.Safe.{IsSafe, SymbolsSafe}
 
 -- an accepted verdict names a metric that was made, of the key's kind
 abbrev pub NamesMetric : State → Key → Verdict → Type 0
-NamesMetric s key (Accepted id) = (id.0 < length s.metrics) × (id.0 < MAX_METRICS) × IsSomeAnd (slice_get s.metrics id.0) (λ row. row.metric.kind ≡ key.kind)
+NamesMetric s key (Accepted id) = (id.0 < length s.metrics) × (id.0 < MAX_METRICS)
+    × IsSomeAnd (slice_get s.metrics id.0) (λ row. row.metric.kind ≡ key.kind)
 NamesMetric s key _ = Unit {0}
 
 -- each verdict that a seat holds does
@@ -22,11 +23,13 @@ HoldsMetrics s = All (λ (seat : Seat). All (λ h. NamesMetric s h.key h.verdict
 
 -- what is true of a state after every legal log, and after each beginning of one
 abbrev pub AfterLegal : (State → Type 0) → Type 0
-AfterLegal Is = (rules : NameRules) (scopes : List ScopeSpec) (workers : ℕ) (log : List Entry) → Legal rules scopes workers log
+AfterLegal Is = (rules : NameRules) (scopes : List ScopeSpec) (workers : ℕ) (log : List Entry)
+    → Legal rules scopes workers log
     → Is (replay rules workers log) × ((k : ℕ) → Is (replay rules workers (take k log)))
 
 pub record LegalIsSafe : Type 0 where
-  pub symbols : (rules : NameRules) (scopes : List ScopeSpec) (workers : ℕ) (log : List Entry) → Legal rules scopes workers log → SymbolsSafe rules workers log
+  pub symbols : (rules : NameRules) (scopes : List ScopeSpec) (workers : ℕ) (log : List Entry)
+      → Legal rules scopes workers log → SymbolsSafe rules workers log
   pub safe : AfterLegal IsSafe
   pub metrics : AfterLegal HoldsMetrics
 
@@ -39,5 +42,6 @@ pub record IsSameMetric (row row' : Row) : Type 0 where
 
 -- in any log, legal or not
 abbrev pub MetricsStay : Type 0
-MetricsStay = (rules : NameRules) (workers : ℕ) (log more : List Entry) (id : ℕ) (row : Row) → slice_get (replay rules workers log).metrics id ≡ Some row
+MetricsStay = (rules : NameRules) (workers : ℕ) (log more : List Entry) (id : ℕ) (row : Row)
+    → slice_get (replay rules workers log).metrics id ≡ Some row
     → IsSomeAnd (slice_get (replay rules workers (log ++ more)).metrics id) (IsSameMetric row)

@@ -4,7 +4,8 @@ use Rattle.stat_defs.specs.declared.history.Entry.{Entry}
 use Rattle.book_state.specs.State.{symbols_in}
 use Rattle.book_state.specs.Log.{openings, replay}
 use Rattle.book_state.specs.Safe.{SymbolsSafe}
-use Rattle.book_state.specs.Worked.{plain, root_alone, opens, releases, makes, finds, acks, sweeps, ends, to_second_sweep}
+use Rattle.book_state.specs.Worked.{plain, root_alone, opens, releases, makes, finds, acks, sweeps, ends}
+use Rattle.book_state.specs.Worked.{to_second_sweep}
 
 -- number 1 is given to a second token
 abbrev pub given_twice : List Entry

@@ -17,4 +17,5 @@ pub record Kept (b : Inside) : Type 0 where
   -- the index lists the live labels with the numbers of their scopes
   pub indexed : (label : List ℕ) → get (pointwise nat_eq) b.live label ≡ live_in (map scope_of_view (shown b)) label
   -- no two live scopes have one label
-  pub found : (i : ℕ) (scope : ScopeView) → slice_get (shown b) i ≡ Some scope → scope.live ≡ true → live_in (map scope_of_view (shown b)) scope.label ≡ Some i
+  pub found : (i : ℕ) (scope : ScopeView) → slice_get (shown b) i ≡ Some scope → scope.live ≡ true
+      → live_in (map scope_of_view (shown b)) scope.label ≡ Some i

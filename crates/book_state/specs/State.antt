@@ -1,6 +1,7 @@
--- The state of a book as plain lists, and what is asked of it (Envoy's design note on statistics: scopes, shared metrics,
--- symbols; retired metrics and worker seats are this project's own).
-use Rattle.std.specs.Prelude.{◌≡◌, ℕ, zero, suc, ◌+◌, ◌&&◌, ◌||◌, nat_eq, nat_le, not, Bool, true, false, Option, Some, None, List, [], ◌∷◌, map, slice_get, count_by, if◌then◌else◌}
+-- The state of a book as plain lists, and what is asked of it (Envoy's design note on statistics: scopes, shared
+-- metrics, symbols; retired metrics and worker seats are this project's own).
+use Rattle.std.specs.Prelude.{◌≡◌, ℕ, zero, suc, ◌+◌, ◌&&◌, ◌||◌, nat_eq, nat_le, not, Bool, true, false, Option, Some}
+use Rattle.std.specs.Prelude.{None, List, [], ◌∷◌, map, slice_get, count_by, if◌then◌else◌}
 use Rattle.std.specs.Option.{option_map_or}
 use Rattle.std.specs.List.{list_all, list_any, position_from, flat_map, zip}
 use Rattle.stat_defs.specs.declared.ids.Kind.{Kind}
@@ -59,7 +60,8 @@ metrics_of s = map (λ row. row.metric) s.metrics
 
 -- the metric of this kind and full name that is not gone
 abbrev pub known_in : List Metric → Kind → List ℕ → Option ℕ
-known_in metrics kind name = position_from (λ metric. not (is_gone metric.life) && (same_kind kind metric.kind && same_text name metric.name)) 0 metrics
+known_in metrics kind name = position_from
+    (λ metric. not (is_gone metric.life) && (same_kind kind metric.kind && same_text name metric.name)) 0 metrics
 
 abbrev pub known : State → Kind → List ℕ → Option ℕ
 known s kind name = known_in (metrics_of s) kind name
@@ -74,7 +76,8 @@ histograms_made s = histograms_in (metrics_of s)
 -- the metrics of which this holds, in the order of their numbers
 abbrev pub ids_from : (Metric → Bool) → ℕ → List Metric → List MetricId
 ids_from holds id [] = []
-ids_from holds id (metric ∷ metrics) = if holds metric then record { 0 = id } ∷ ids_from holds (id + 1) metrics else ids_from holds (id + 1) metrics
+ids_from holds id (metric ∷ metrics) = if holds metric then record { 0 = id } ∷ ids_from holds (id + 1) metrics
+    else ids_from holds (id + 1) metrics
 
 -- those that are not gone
 abbrev pub names_of : List Metric → List MetricId

@@ -1,7 +1,8 @@
--- One step of a book: which reply may be given to a seat's call, and the state after it. Only the symbol numbers of a made
--- metric are free, and they stand in its reply. (Envoy's design note on statistics; retired metrics, acknowledgements and
--- sweeps are this project's own.)
-use Rattle.std.specs.Prelude.{◌≡◌, ◌⊎◌, ℕ, zero, suc, ◌+◌, ◌<◌, ◌&&◌, ◌==◌, if◌then◌else◌, not, Bool, true, false, None, Some, IsSome, IsNone, List, [], ◌∷◌, ◌++◌, map, filter, slice_get, length, count_by}
+-- One step of a book: which reply may be given to a seat's call, and the state after it. Only the symbol numbers of a
+-- made metric are free, and they stand in its reply. (Envoy's design note on statistics; retired metrics,
+-- acknowledgements and sweeps are this project's own.)
+use Rattle.std.specs.Prelude.{◌≡◌, ◌⊎◌, ℕ, zero, suc, ◌+◌, ◌<◌, ◌&&◌, ◌==◌, if◌then◌else◌, not, Bool, true, false, None}
+use Rattle.std.specs.Prelude.{Some, IsSome, IsNone, List, [], ◌∷◌, ◌++◌, map, filter, slice_get, length, count_by}
 use Rattle.std.specs.List.{list_any}
 use Rattle.std.specs.Option.{option_map_or, IsSomeAnd}
 use Rattle.stat_defs.specs.declared.ids.Kind.TheVariants.{Text}
@@ -21,8 +22,10 @@ use Rattle.stat_defs.specs.declared.history.Reply.TheVariants as reply
 use Rattle.stat_defs.specs.Names.{tokens}
 use Rattle.symbol_table.specs.Drawing.{DrawsAll}
 use Rattle.stat_defs.specs.Keys.{held_under}
-use Rattle.book_state.specs.State.{NameRules, Scope, Row, Seat, State, same_kind, metrics_of, ids_from, live_scope, Uses, seat_of, all_acknowledged, bears}
-use Rattle.book_state.specs.Finding.{Outcome, NoScope, Rejected, Known, NoRoom, OverLimit, New, outcome, scope_of, name_of}
+use Rattle.book_state.specs.State.{NameRules, Scope, Row, Seat, State, same_kind, metrics_of, ids_from, live_scope}
+use Rattle.book_state.specs.State.{Uses, seat_of, all_acknowledged, bears}
+use Rattle.book_state.specs.Finding.{Outcome, NoScope, Rejected, Known, NoRoom, OverLimit, New, outcome, scope_of}
+use Rattle.book_state.specs.Finding.{name_of}
 
 -- the list with f at one place
 abbrev pub change_at : {X : Type 0} → (X → X) → ℕ → List X → List X
@@ -39,7 +42,8 @@ on_metric f id s = record s { metrics = change_at f id s.metrics }
 
 -- the seat holds a verdict under a key besides
 abbrev pub hold : Key → ℕ → Verdict → Seat → Seat
-hold key scope verdict seat = record seat { held = seat.held ++ record { key = key; scope = scope; verdict = verdict } ∷ [] }
+hold key scope verdict seat = record
+    seat { held = seat.held ++ record { key = key; scope = scope; verdict = verdict } ∷ [] }
 
 abbrev pub closed : Scope → Scope
 closed scope = record scope { live = false }
@@ -51,7 +55,8 @@ left_to tag metric (b ∷ bs) = record { metric = metric; bearers = b ∷ bs }
 
 -- a released scope bears nothing any more
 abbrev pub released : ℕ → ℕ → Row → Row
-released scope tag row = if bears scope row then left_to tag row.metric (filter (λ b. not (scope == b)) row.bearers) else row
+released scope tag row = if bears scope row then left_to tag row.metric (filter (λ b. not (scope == b)) row.bearers)
+    else row
 
 -- the first mode other than `Uninit` stands for good
 abbrev pub first_mode : Mode → Mode → Mode
@@ -68,7 +73,8 @@ found scope mode row = record {
 -- a metric with the next number, the empty text and one bearer
 abbrev pub made : NameRules → State → Key → List ℕ → Row
 made rules s key numbers = let name = name_of s key in record {
-  metric = record { name = name; kind = key.kind; mode = key.mode; numbers = numbers; tagged = rules.tagged name; text = []; life = Live };
+  metric = record { name = name; kind = key.kind; mode = key.mode; numbers = numbers; tagged = rules.tagged name;
+      text = []; life = Live };
   bearers = scope_of s key ∷ [];
 }
 
@@ -79,7 +85,8 @@ overdue seats Live = false
 overdue seats Gone = false
 
 abbrev pub swept : List Seat → Row → Row
-swept seats row = if overdue seats row.metric.life then record row { metric = record row.metric { life = Gone } } else row
+swept seats row = if overdue seats row.metric.life then record row { metric = record row.metric { life = Gone } }
+    else row
 
 -- the metrics that a sweep makes gone, in the order of their numbers
 abbrev pub overdue_in : State → List MetricId
@@ -95,20 +102,24 @@ acknowledged scopes tag seat = record seat { tag = tag; held = filter (λ h. is_
 abbrev pub ended : Seat → Seat
 ended seat = record seat { held = []; ended = true }
 
--- the state after a seat's call and its reply; what a case does not name stays, and a reply that is not named changes nothing
+-- the state after a seat's call and its reply; what a case does not name stays, and a reply that is not named changes
+-- nothing
 abbrev pub effect : NameRules → ℕ → Call → Reply → State → State
-effect rules seat (call.OpenScope label prefix) (reply.Opened id) s = record s { scopes = s.scopes ++ record { label = label; prefix = prefix; live = true } ∷ [] }
+effect rules seat (call.OpenScope label prefix)
+    (reply.Opened id) s = record s { scopes = s.scopes ++ record { label = label; prefix = prefix; live = true } ∷ [] }
 effect rules seat (call.Release label) (reply.Released id) s = record s {
   scopes = change_at closed id.0 s.scopes;
   metrics = map (released id.0 (s.releases + 1)) s.metrics;
   releases = s.releases + 1;
 }
 effect rules seat (call.Find key) (reply.Made id numbers) s =
-    on_seat (hold key (scope_of s key) (verdict.Accepted id)) seat (record s { metrics = s.metrics ++ made rules s key numbers ∷ [] })
+    on_seat (hold key (scope_of s key) (verdict.Accepted id)) seat
+        (record s { metrics = s.metrics ++ made rules s key numbers ∷ [] })
 effect rules seat (call.Find key) (reply.Found id) s =
     on_seat (hold key (scope_of s key) (verdict.Accepted id)) seat (on_metric (found (scope_of s key) key.mode) id.0 s)
 effect rules seat (call.Find key) reply.Rejected s = on_seat (hold key (scope_of s key) verdict.Rejected) seat s
-effect rules seat (call.SetText id text) reply.TextSet s = on_metric (λ row. record row { metric = record row.metric { text = text } }) id.0 s
+effect rules seat (call.SetText id text) reply.TextSet s = on_metric
+    (λ row. record row { metric = record row.metric { text = text } }) id.0 s
 effect rules seat call.Ack (reply.Acked tag) s = on_seat (acknowledged s.scopes tag) seat s
 effect rules seat call.Sweep (reply.Swept n) s = record s { metrics = map (swept s.seats) s.metrics }
 effect rules seat call.End reply.Ended s = on_seat ended seat s
@@ -143,20 +154,24 @@ Tells s key _ _ = ⊥
 -- the reply may be given to the seat's call in this state
 abbrev pub Allowed : NameRules → ℕ → Call → Reply → State → Type 0
 -- seat 0 opens the configuration's scopes
-Allowed rules seat (call.OpenScope label prefix) (reply.Opened id) s = ((seat ≡ 0) ⊎ Works s seat) × (live_scope s label ≡ None) × (id.0 ≡ length s.scopes)
+Allowed rules seat (call.OpenScope label prefix) (reply.Opened id) s = ((seat ≡ 0) ⊎ Works s seat)
+    × (live_scope s label ≡ None) × (id.0 ≡ length s.scopes)
 Allowed rules seat (call.OpenScope label prefix) reply.LabelTaken s = Works s seat × IsSome (live_scope s label)
 Allowed rules seat (call.Release label) (reply.Released id) s = Works s seat × (live_scope s label ≡ Some id.0)
 Allowed rules seat (call.Release label) reply.NoScope s = Works s seat × (live_scope s label ≡ None)
 -- a seat finds only what it does not hold
-Allowed rules seat (call.Find key) reply s = Working s seat (λ row. IsNone (held_under key row.held)) × Tells s key (outcome rules s key) reply
+Allowed rules seat (call.Find key) reply s = Working s seat (λ row. IsNone (held_under key row.held))
+    × Tells s key (outcome rules s key) reply
 Allowed rules seat (call.SetText id text) reply.TextSet s = Working s seat (λ row. holds_text id.0 row ≡ true)
 -- a seat acknowledges only what it has not acknowledged yet
 Allowed rules seat call.Ack (reply.Acked tag) s = Working s seat (λ row. row.tag < s.releases) × (tag ≡ s.releases)
-Allowed rules seat call.Sweep (reply.Swept n) s = (seat ≡ 0) × (n ≡ count_by (λ row. overdue s.seats row.metric.life) s.metrics)
+Allowed rules seat call.Sweep (reply.Swept n) s = (seat ≡ 0)
+    × (n ≡ count_by (λ row. overdue s.seats row.metric.life) s.metrics)
 Allowed rules seat call.End reply.Ended s = Works s seat
 Allowed rules seat _ _ s = ⊥
 
 -- from the old state the book may give this reply to the seat's call, and goes on to the new one
-pub record BookStep (rules : NameRules) (old : State) (seat : ℕ) (call : Call) (reply : Reply) (new : State) : Type 0 where
+pub record BookStep (rules : NameRules) (old : State) (seat : ℕ) (call : Call) (reply : Reply)
+    (new : State) : Type 0 where
   pub allowed : Allowed rules seat call reply old
   pub after : new ≡ effect rules seat call reply old

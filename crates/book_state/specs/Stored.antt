@@ -1,5 +1,6 @@
 -- The state of a book as it is stored. This project's own.
-use Rattle.std.specs.Prelude.{◌≡◌, ℕ, ◌≤◌, ◌^◌, ◌||◌, nat_le, Bool, true, Some, List, [], ◌∷◌, ◌++◌, length, map, All, slice_get}
+use Rattle.std.specs.Prelude.{◌≡◌, ℕ, ◌≤◌, ◌^◌, ◌||◌, nat_le, Bool, true, Some, List, [], ◌∷◌, ◌++◌, length, map, All}
+use Rattle.std.specs.Prelude.{slice_get}
 use Rattle.std.specs.List.{flat_map}
 use Rattle.stat_defs.specs.Names.{IsLocalName, IsScopePrefix}
 use Rattle.stat_defs.specs.declared.configs.TagSpec.{TagSpec}
@@ -118,4 +119,5 @@ numbers_in _ = []
 
 -- a live metric with the empty text
 abbrev pub fresh_metric : List TagSpec → Key → List ℕ → List ℕ → Metric
-fresh_metric tags key name numbers = record { name = name; kind = key.kind; mode = key.mode; numbers = numbers; tagged = tagged tags name; text = []; life = Live }
+fresh_metric tags key name numbers = record { name = name; kind = key.kind; mode = key.mode; numbers = numbers;
+    tagged = tagged tags name; text = []; life = Live }

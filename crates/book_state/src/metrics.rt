@@ -1,5 +1,6 @@
 //! The metrics of a book, with an index of the names that are not gone.
-ghost use Rattle.std.specs.Prelude.{◌≡◌, ◌<◌, ◌+◌, ◌^◌, ◌++◌, ◌∷◌, [], None, length, map, All, IfOk, OnOk, OnErr, slice_get, false, not, filter, if◌then◌else◌};
+ghost use Rattle.std.specs.Prelude.{◌≡◌, ◌<◌, ◌+◌, ◌^◌, ◌++◌, ◌∷◌, [], None, length, map, All, IfOk, OnOk, OnErr};
+ghost use Rattle.std.specs.Prelude.{slice_get, false, not, filter, if◌then◌else◌};
 ghost use Rattle.stat_defs.specs.declared.ids.Kind.TheVariants.{Histogram};
 ghost use Rattle.std.specs.Option.{IsSomeAnd};
 ghost use Rattle.indexmap.specs.IndexMap.{get, spare};
@@ -7,7 +8,8 @@ ghost use Rattle.book_state.specs.declared.limits.TheConstants.{MAX_METRICS};
 ghost use Rattle.book_state.specs.State.{known_in, histograms_in, names_of, ids_from, is_gone, same_kind};
 ghost use Rattle.book_state.specs.Step.{change_at};
 ghost use Rattle.book_state.specs.Scopes.{bearing};
-ghost use Rattle.book_state.specs.Metrics.{metric_of, change_all, lose, found_again, with_text, is_overdue, overdue_among, gone_at, swept_row, IsNamed};
+ghost use Rattle.book_state.specs.Metrics.{metric_of, change_all, lose, found_again, with_text, is_overdue};
+ghost use Rattle.book_state.specs.Metrics.{overdue_among, gone_at, swept_row, IsNamed};
 
 use crate::scopes::ScopeTable;
 use crate::tables::{NameKey, NameTable};
@@ -101,10 +103,11 @@ impl MetricTable {
         ids_in(alloc, self.known.values().as_slice())
     }
 
-    /// The retired metrics whose releases all have acknowledged, in the order of their numbers, where `least` is the least tag of
-    /// a worker that has not ended.
+    /// The retired metrics whose releases all have acknowledged, in the order of their numbers, where `least` is the
+    /// least tag of a worker that has not ended.
     pub fn overdue(&self, alloc: Global, least: Option<u64>) -> Result<Vec<MetricId>, NoMemory>
-        ensures { IfOk result (λ ids. ids.items ≡ ids_from (λ metric. is_overdue least metric.life) 0 (map metric_of self.now)) }
+        ensures { IfOk result (λ ids. ids.items
+            ≡ ids_from (λ metric. is_overdue least metric.life) 0 (map metric_of self.now)) }
     {
         overdue_in(alloc, &self.rows, self.known.values().as_slice(), least)
     }
@@ -139,7 +142,8 @@ impl MetricTable {
 
     /// Makes a metric live again, which one more bearer has found where `new` says so.
     pub fn find_again(&mut self, id: u32, mode: Mode, new: bool)
-        requires { IsSomeAnd (slice_get self.old id) (λ row. (is_gone row.metric.life ≡ false) × (row.bearers + 1 < 2 ^ 64)) }
+        requires { IsSomeAnd (slice_get self.old id)
+            (λ row. (is_gone row.metric.life ≡ false) × (row.bearers + 1 < 2 ^ 64)) }
         ensures { self.new ≡ change_at (found_again mode new) id self.old }
     {
         find_row(&mut self.rows[id as usize], mode, new);

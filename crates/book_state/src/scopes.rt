@@ -1,5 +1,6 @@
 //! The scopes of a book, with an index of the labels that are live.
-ghost use Rattle.std.specs.Prelude.{◌≡◌, ◌<◌, ◌^◌, ◌++◌, ◌∷◌, [], length, map, not, IfOk, OnOk, OnErr, Some, None, slice_get, nat_eq};
+ghost use Rattle.std.specs.Prelude.{◌≡◌, ◌<◌, ◌^◌, ◌++◌, ◌∷◌, [], length, map, not, IfOk, OnOk, OnErr, Some, None};
+ghost use Rattle.std.specs.Prelude.{slice_get, nat_eq};
 ghost use Rattle.std.specs.Option.{IsSomeAnd};
 ghost use Rattle.std.specs.Cmp.Lexicographic.{pointwise};
 ghost use Rattle.indexmap.specs.IndexMap.{get, Updates, IsUnchanged};
@@ -121,7 +122,8 @@ impl ScopeTable {
     pub fn bear(&mut self, id: u32, metric: u32) -> Result<bool, NoMemory>
         requires { id < length self.old }
         ensures bears { OnOk result (self.new ≡ change_at (bearing metric) id self.old) }
-        ensures new { IfOk result (λ new. IsSomeAnd (slice_get self.old id) (λ scope. new ≡ not (has metric scope.bears))) }
+        ensures new { IfOk result (λ new. IsSomeAnd (slice_get self.old id)
+            (λ scope. new ≡ not (has metric scope.bears))) }
         ensures err { OnErr result (self.new ≡ self.old) }
     {
         bear_at(&mut self.rows, id as usize, metric)
@@ -163,8 +165,10 @@ fn empty_row(alloc: Global, rows: &mut Vec<ScopeRow>, at: usize) -> IndexSet<u32
 // Lets the scope at a place bear a metric besides.
 fn bear_at(rows: &mut Vec<ScopeRow>, at: usize, metric: u32) -> Result<bool, NoMemory>
     requires { at < length rows.old.items }
-    ensures bears { OnOk result (map row_shown rows.new.items ≡ change_at (bearing metric) at (map row_shown rows.old.items)) }
-    ensures new { IfOk result (λ new. IsSomeAnd (slice_get (map row_shown rows.old.items) at) (λ scope. new ≡ not (has metric scope.bears))) }
+    ensures bears { OnOk result (map row_shown rows.new.items
+        ≡ change_at (bearing metric) at (map row_shown rows.old.items)) }
+    ensures new { IfOk result (λ new. IsSomeAnd (slice_get (map row_shown rows.old.items) at)
+        (λ scope. new ≡ not (has metric scope.bears))) }
     ensures err { OnErr result (map row_shown rows.new.items ≡ map row_shown rows.old.items) }
 {
     let row = &mut rows[at];

@@ -48,7 +48,8 @@ pub fn tag_at(seats: &[SeatRow], seat: u32) -> u64
 /// A seat has acknowledged so many releases.
 pub fn set_tag(seats: &mut Vec<SeatRow>, seat: u32, tag: u64)
     requires { (1 ≤ seat) × (seat ≤ length seats.old.items) }
-    ensures rows { map seat_row seats.new.items ≡ change_at (λ row. (tag, row.1)) (seat - 1) (map seat_row seats.old.items) }
+    ensures rows { map seat_row seats.new.items
+        ≡ change_at (λ row. (tag, row.1)) (seat - 1) (map seat_row seats.old.items) }
     ensures count { length seats.new.items ≡ length seats.old.items }
 {
     seats[seat as usize - 1].tag = tag;
@@ -57,7 +58,8 @@ pub fn set_tag(seats: &mut Vec<SeatRow>, seat: u32, tag: u64)
 /// A seat has ended.
 pub fn end_seat(seats: &mut Vec<SeatRow>, seat: u32)
     requires { (1 ≤ seat) × (seat ≤ length seats.old.items) }
-    ensures rows { map seat_row seats.new.items ≡ change_at (λ row. (row.0, true)) (seat - 1) (map seat_row seats.old.items) }
+    ensures rows { map seat_row seats.new.items
+        ≡ change_at (λ row. (row.0, true)) (seat - 1) (map seat_row seats.old.items) }
     ensures count { length seats.new.items ≡ length seats.old.items }
 {
     seats[seat as usize - 1].ended = true;

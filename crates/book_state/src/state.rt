@@ -26,8 +26,8 @@ use std::alloc::Global;
 use std::marker::Model;
 use tag_rules::TagRules;
 
-/// The scopes, metrics and seats of a book. Contracts see it as its tag rules, as the state that its entries gave, and as the
-/// list of the scopes released so far. What a seat holds is seen by contracts alone and takes no memory.
+/// The scopes, metrics and seats of a book. Contracts see it as its tag rules, as the state that its entries gave, and
+/// as the list of the scopes released so far. What a seat holds is seen by contracts alone and takes no memory.
 #[derive(Drop)]
 pub struct BookState {
     rules: TagRules,

@@ -1,6 +1,6 @@
--- What the bytes of a bootstrap say of statistics: the configuration, or the first fault (Envoy's statistics configuration
--- reference; the order of faults is this project's own). The parts are looked at in the order of the lines below, the
--- members of a list in order, and a part's own parts in the order of its definition.
+-- What the bytes of a bootstrap say of statistics: the configuration, or the first fault (Envoy's statistics
+-- configuration reference; the order of faults is this project's own). The parts are looked at in the order of the
+-- lines below, the members of a list in order, and a part's own parts in the order of its definition.
 use Rattle.std.specs.Prelude.{List, ℕ, map, codes, Option, None, Some, Result, Ok, Err}
 use Rattle.stat_defs.specs.declared.configs.Config.{Config}
 use Rattle.stat_defs.specs.declared.configs.MatchSpec.{MatchSpec}

@@ -1,8 +1,9 @@
--- How the store is run: the key `stats_run`, which is this project's own. `scopes` has at most 64 objects with the texts
--- `label` and `prefix`. A label has 1 to 32 letters, digits and low lines; all are different and none is `root`, and of
--- two equal ones the later is wrong. A prefix has 0 to 255 printable bytes without spaces, of which one final dot is
--- dropped; absent is empty.
-use Rattle.std.specs.Prelude.{ℕ, ◌+◌, ◌==◌, Bool, not, ◌&&◌, ◌++◌, nat_le, length, List, [], ◌∷◌, codes, Option, Some, None, Result, Ok, Err, if◌then◌else◌}
+-- How the store is run: the key `stats_run`, which is this project's own. `scopes` has at most 64 objects with the
+-- texts `label` and `prefix`. A label has 1 to 32 letters, digits and low lines; all are different and none is `root`,
+-- and of two equal ones the later is wrong. A prefix has 0 to 255 printable bytes without spaces, of which one final
+-- dot is dropped; absent is empty.
+use Rattle.std.specs.Prelude.{ℕ, ◌+◌, ◌==◌, Bool, not, ◌&&◌, ◌++◌, nat_le, length, List, [], ◌∷◌, codes, Option, Some}
+use Rattle.std.specs.Prelude.{None, Result, Ok, Err, if◌then◌else◌}
 use Rattle.std.specs.List.{list_all, list_any}
 use lib.Pointwise.{pointwise}
 use Rattle.stat_defs.specs.declared.configs.ScopeSpec.{ScopeSpec}

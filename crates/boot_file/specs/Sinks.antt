@@ -1,7 +1,8 @@
--- The prefix of StatsD lines (Envoy's reference on `StatsdSink`; the bytes allowed in it are this project's own): read of
--- the first member of `stats_sinks` whose name is that of the StatsD sink, a text of 1 to 255 printable bytes without
--- spaces; absent or empty is `envoy`. Other members of the list, whatever they are, are passed over.
-use Rattle.std.specs.Prelude.{ℕ, ◌+◌, ◌==◌, Bool, false, List, [], ◌∷◌, codes, Option, Some, None, Result, Ok, Err, if◌then◌else◌}
+-- The prefix of StatsD lines (Envoy's reference on `StatsdSink`; the bytes allowed in it are this project's own): read
+-- of the first member of `stats_sinks` whose name is that of the StatsD sink, a text of 1 to 255 printable bytes
+-- without spaces; absent or empty is `envoy`. Other members of the list, whatever they are, are passed over.
+use Rattle.std.specs.Prelude.{ℕ, ◌+◌, ◌==◌, Bool, false, List, [], ◌∷◌, codes, Option, Some, None, Result, Ok, Err}
+use Rattle.std.specs.Prelude.{if◌then◌else◌}
 use lib.Pointwise.{pointwise}
 use Rattle.serde_json.specs.Data.{Items, no_items, item, Data, string, array}
 use Rattle.boot_values.specs.declared.fault.BootFault.{BootFault}

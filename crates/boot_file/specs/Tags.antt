@@ -1,8 +1,9 @@
--- The tag rules (Envoy's reference on `TagSpecifier`; the choice of default rules and the limits are this project's own).
--- A member of `stats_tags` has a text `tag_name` of 1 to 255 printable bytes without spaces, and either a text `regex`
--- of 1 to 1,024 bytes or a text `fixed_value` of 0 to 255 printable bytes. With neither it takes the default rule of its
--- name. Whatever is wrong with member i is told as the bad tag i.
-use Rattle.std.specs.Prelude.{ℕ, ◌+◌, ◌==◌, Bool, true, false, ◌&&◌, ◌++◌, nat_le, length, List, [], ◌∷◌, codes, Option, Some, None, Result, Ok, Err, if◌then◌else◌}
+-- The tag rules (Envoy's reference on `TagSpecifier`; the choice of default rules and the limits are this project's
+-- own). A member of `stats_tags` has a text `tag_name` of 1 to 255 printable bytes without spaces, and either a text
+-- `regex` of 1 to 1,024 bytes or a text `fixed_value` of 0 to 255 printable bytes. With neither it takes the default
+-- rule of its name. Whatever is wrong with member i is told as the bad tag i.
+use Rattle.std.specs.Prelude.{ℕ, ◌+◌, ◌==◌, Bool, true, false, ◌&&◌, ◌++◌, nat_le, length, List, [], ◌∷◌, codes, Option}
+use Rattle.std.specs.Prelude.{Some, None, Result, Ok, Err, if◌then◌else◌}
 use Rattle.std.specs.List.{list_all}
 use lib.Pointwise.{pointwise}
 use Rattle.stat_defs.specs.declared.configs.TheConstants.{MAX_PATTERN_BYTES, MAX_TAG_RULES, MAX_TAG_VALUE_BYTES}
@@ -11,7 +12,8 @@ use Rattle.stat_defs.specs.declared.events.TheConstants.{MAX_NAME_BYTES}
 use Rattle.stat_defs.specs.Names.{is_name_byte, is_printable_byte}
 use Rattle.serde_json.specs.Data.{Items, no_items, item, Data, string}
 use Rattle.boot_file.specs.declared.default_tags.DefaultTag.{DefaultTag}
-use Rattle.boot_file.specs.declared.default_tags.DefaultTag.TheVariants.{ResponseCode, ResponseCodeClass, ClusterName, ConnManagerPrefix}
+use Rattle.boot_file.specs.declared.default_tags.DefaultTag.TheVariants.{ResponseCode, ResponseCodeClass, ClusterName}
+use Rattle.boot_file.specs.declared.default_tags.DefaultTag.TheVariants.{ConnManagerPrefix}
 use Rattle.boot_file.specs.declared.default_tags.PlacedTag.{PlacedTag}
 use Rattle.boot_values.specs.declared.fault.BootFault.{BootFault}
 use Rattle.boot_values.specs.declared.fault.BootFault.TheVariants.{BadTag}
@@ -55,7 +57,8 @@ called name =
     if pointwise ◌==◌ name (name_of ConnManagerPrefix) then Some ConnManagerPrefix else None
 
 abbrev pub defaults_where : Bool → List PlacedTag
-defaults_where true = placed ResponseCode ∷ placed ResponseCodeClass ∷ placed ClusterName ∷ placed ConnManagerPrefix ∷ []
+defaults_where true = placed ResponseCode ∷ placed ResponseCodeClass ∷ placed ClusterName ∷ placed ConnManagerPrefix
+    ∷ []
 defaults_where false = []
 
 -- a member of `stats_tags`
@@ -109,6 +112,7 @@ tags_from i found (item d ds) = and_then (tag_at i d) (λ tag. tags_from (i + 1)
 -- the rules in force: the default ones, where `use_all_default_tags` is true, and then those of `stats_tags`
 unfoldable pub tags_of : Option Data → Result (List PlacedTag) BootFault
 tags_of section =
-    and_then (switch_at (codes "stats_config.use_all_default_tags") (member section (codes "use_all_default_tags"))) (λ all.
+    and_then (switch_at (codes "stats_config.use_all_default_tags") (member section (codes "use_all_default_tags")))
+        (λ all.
     and_then (items_at (codes "stats_config.stats_tags") MAX_TAG_RULES (member section (codes "stats_tags"))) (λ list.
     tags_from 0 (defaults_where all) list))

@@ -1,5 +1,6 @@
 //! The bootstrap as a whole.
-ghost use Rattle.std.specs.Prelude.{◌≡◌, ◌≢◌, ◌<◌, ◌≤◌, ◌+◌, ◌^◌, codes, length, map, All, Option, Some, None, Ok, Err, MatchResult, IfOk, IfErr, option_map};
+ghost use Rattle.std.specs.Prelude.{◌≡◌, ◌≢◌, ◌<◌, ◌≤◌, ◌+◌, ◌^◌, codes, length, map, All, Option, Some, None, Ok, Err};
+ghost use Rattle.std.specs.Prelude.{MatchResult, IfOk, IfErr, option_map};
 ghost use Rattle.std.specs.List.{AllZip};
 ghost use Rattle.serde_json.specs.View.{view};
 ghost use Rattle.stat_defs.specs.Configs.{IsConfig, IsTagSpec, HasPath};
@@ -61,9 +62,10 @@ fn boot_of(alloc: Global, top: &Value) -> Result<Config, BootFault>
     })
 }
 
-/// Reads the bytes of a bootstrap, a JSON text in UTF-8: the configuration, or the first fault. What concerns statistics
-/// stands in `stats_config`, `stats_sinks` and `stats_run`; a null counts as absent, and other keys are passed over. No
-/// pattern is built here. How many bytes are too many is for the caller to say: time and memory are linear in them.
+/// Reads the bytes of a bootstrap, a JSON text in UTF-8: the configuration, or the first fault. What concerns
+/// statistics stands in `stats_config`, `stats_sinks` and `stats_run`; a null counts as absent, and other keys are
+/// passed over. No pattern is built here. How many bytes are too many is for the caller to say: time and memory are
+/// linear in them.
 pub fn read(alloc: Global, bytes: &[u8]) -> Result<Config, BootFault>
     ensures gives { Agrees result (boot bytes.now) }
     ensures lawful { IfOk result (λ c. IsConfig c) }

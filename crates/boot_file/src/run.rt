@@ -1,5 +1,6 @@
 //! How the store is run.
-ghost use Rattle.std.specs.Prelude.{◌≡◌, ◌≢◌, ◌<◌, ◌≤◌, ◌^◌, codes, Option, Some, None, Ok, Err, MatchResult, IfOk, option_map};
+ghost use Rattle.std.specs.Prelude.{◌≡◌, ◌≢◌, ◌<◌, ◌≤◌, ◌^◌, codes, Option, Some, None, Ok, Err, MatchResult, IfOk};
+ghost use Rattle.std.specs.Prelude.{option_map};
 ghost use Rattle.serde_json.specs.View.{view};
 ghost use Rattle.stat_defs.specs.Configs.{AreScopes};
 ghost use Rattle.boot_values.specs.Agrees.{Agrees};

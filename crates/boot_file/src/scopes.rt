@@ -1,12 +1,14 @@
 //! The scopes that are open from the start.
-ghost use Rattle.std.specs.Prelude.{◌≡◌, ◌==◌, ◌≢◌, ◌<◌, ◌≤◌, ◌+◌, ◌^◌, ◌++◌, codes, [], ◌∷◌, length, Option, Some, None, Ok, Err, false, IsTrue, MatchResult, IfOk, option_map};
+ghost use Rattle.std.specs.Prelude.{◌≡◌, ◌==◌, ◌≢◌, ◌<◌, ◌≤◌, ◌+◌, ◌^◌, ◌++◌, codes, [], ◌∷◌, length, Option, Some};
+ghost use Rattle.std.specs.Prelude.{None, Ok, Err, false, IsTrue, MatchResult, IfOk, option_map};
 ghost use Rattle.std.specs.List.{list_all};
 ghost use Rattle.serde_json.specs.View.{view, items_view};
 ghost use Rattle.stat_defs.specs.Configs.{IsScopeSpec, AreScopes};
 ghost use Rattle.stat_defs.specs.Names as names;
 ghost use Rattle.stat_defs.specs.Names.{IsLabel, IsScopePrefix};
 ghost use Rattle.boot_values.specs.Agrees.{Agrees};
-ghost use Rattle.boot_file.specs.Scopes.{is_label, is_scope_prefix, is_taken, label_at, prefix_at, scope_at, root, scopes_from, scopes_of};
+ghost use Rattle.boot_file.specs.Scopes.{is_label, is_scope_prefix, is_taken, label_at, prefix_at, scope_at, root};
+ghost use Rattle.boot_file.specs.Scopes.{scopes_from, scopes_of};
 
 use crate::tags::has_name_bytes;
 use boot_values::{BootFault, Place, bad_part, items_at, member};

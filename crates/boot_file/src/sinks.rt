@@ -1,9 +1,11 @@
 //! The prefix of StatsD lines.
-ghost use Rattle.std.specs.Prelude.{◌≡◌, ◌≢◌, ◌<◌, ◌≤◌, ◌^◌, codes, length, [], Option, Some, None, Ok, Err, MatchResult, IfOk, option_map};
+ghost use Rattle.std.specs.Prelude.{◌≡◌, ◌≢◌, ◌<◌, ◌≤◌, ◌^◌, codes, length, [], Option, Some, None, Ok, Err};
+ghost use Rattle.std.specs.Prelude.{MatchResult, IfOk, option_map};
 ghost use Rattle.serde_json.specs.View.{view, items_view};
 ghost use Rattle.stat_defs.specs.Names.{IsLocalName};
 ghost use Rattle.boot_values.specs.Agrees.{Agrees};
-ghost use Rattle.boot_file.specs.Sinks.{is_statsd, typed_config_at, prefix_text_at, prefix_at, sink_at, prefix_from, prefix_of};
+ghost use Rattle.boot_file.specs.Sinks.{is_statsd, typed_config_at, prefix_text_at, prefix_at, sink_at, prefix_from};
+ghost use Rattle.boot_file.specs.Sinks.{prefix_of};
 
 use crate::tags::is_local_name;
 use boot_values::{BootFault, Place, bad_key, bad_part, is_section, member};

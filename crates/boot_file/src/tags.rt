@@ -1,5 +1,6 @@
 //! The tag rules in force.
-ghost use Rattle.std.specs.Prelude.{◌≡◌, ◌≢◌, ◌<◌, ◌≤◌, ◌+◌, ◌^◌, codes, length, [], All, Option, Some, None, Ok, Err, IsTrue, MatchResult, IfOk, option_map};
+ghost use Rattle.std.specs.Prelude.{◌≡◌, ◌≢◌, ◌<◌, ◌≤◌, ◌+◌, ◌^◌, codes, length, [], All, Option, Some, None, Ok, Err};
+ghost use Rattle.std.specs.Prelude.{IsTrue, MatchResult, IfOk, option_map};
 ghost use Rattle.std.specs.List.{list_all};
 ghost use Rattle.serde_json.specs.View.{view, items_view};
 ghost use Rattle.stat_defs.specs.Configs.{IsRule};
@@ -7,7 +8,9 @@ ghost use Rattle.stat_defs.specs.Names as names;
 ghost use Rattle.stat_defs.specs.Names.{is_printable_byte, IsLocalName};
 ghost use Rattle.boot_values.specs.Agrees.{Agrees};
 ghost use Rattle.boot_file.specs.Lawful.{IsPlacedTag};
-ghost use Rattle.boot_file.specs.Tags.{called, placed, defaults_where, is_local_name, is_regex_text, is_fixed_text, tag_name_at, default_at, regex_at, fixed_at, rule_at, tag_at, tags_from, tags_of};
+ghost use Rattle.boot_file.specs.Tags.{called, placed, defaults_where, is_local_name, is_regex_text, is_fixed_text};
+ghost use Rattle.boot_file.specs.Tags.{tag_name_at, default_at, regex_at, fixed_at, rule_at, tag_at, tags_from};
+ghost use Rattle.boot_file.specs.Tags.{tags_of};
 
 use crate::default_tags::{DefaultTag, PlacedTag, called, placed};
 use boot_values::{BootFault, Place, items_at, member, path_of, switch_at};

@@ -50,7 +50,8 @@ pub record IsSourceFault {S : Type 0} (source : S → SourceState) (name : List 
   pub origin : (source later).origin ≡ name
   pub rose : Rose 0 (source later).faults
 
-module _ {S : Type 0} (source : S → SourceState) (content : Option (List ℕ)) (name : List ℕ) (before after : ShelfState) where
+module _ {S : Type 0} (source : S → SourceState) (content : Option (List ℕ)) (name : List ℕ)
+    (before after : ShelfState) where
   -- the opening of the file failed, or a source of it
   abbrev pub IsUnreadable : Type 0
   IsUnreadable = (name ≢ codes "-") × (IsUnopened name before after ⊎ (IsSourceFault source name × (after ≡ before)))

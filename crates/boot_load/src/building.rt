@@ -4,7 +4,8 @@ ghost use Rattle.stat_defs.specs.Configs.{IsConfig};
 ghost use Rattle.boot_values.specs.Paths.{indexed};
 ghost use Rattle.tag_rules.specs.Admission.{IsReadable, patterns_of};
 ghost use Rattle.tag_rules.specs.Tagging.{IsReadableRule};
-ghost use Rattle.boot_load.specs.Asked.{paths_in, matcher_paths, of_tags, of_matcher, of_buckets, of_store, of_views, asked};
+ghost use Rattle.boot_load.specs.Asked.{paths_in, matcher_paths, of_tags, of_matcher, of_buckets, of_store, of_views};
+ghost use Rattle.boot_load.specs.Asked.{asked};
 ghost use Rattle.boot_load.specs.Build.{BuildsAll, HasPathIn, IsTold, boot_with};
 
 use crate::fault::LoadFault;
@@ -137,7 +138,8 @@ fn build_store<K: PatternMaker>(
     maker: &mut K,
 ) -> Result<(TagRules, Matcher), LoadFault>
     requires { IsConfig config.now }
-    ensures { BuildsAll (of_store config.now) (config.now.tags, config.now.matcher) (K.memory maker.old) (K.memory maker.new) result }
+    ensures { BuildsAll (of_store config.now) (config.now.tags, config.now.matcher) (K.memory maker.old)
+        (K.memory maker.new) result }
 {
     config_law();
     let rules = rules_of(alloc, maker, config.tag_paths.items(), config.tags.items())?;
@@ -152,7 +154,8 @@ fn build_views<K: PatternMaker>(
     maker: &mut K,
 ) -> Result<(Buckets, TagRules), LoadFault>
     requires { IsConfig config.now }
-    ensures { BuildsAll (of_views config.now) (config.now.buckets, config.now.tags) (K.memory maker.old) (K.memory maker.new) result }
+    ensures { BuildsAll (of_views config.now) (config.now.buckets, config.now.tags) (K.memory maker.old)
+        (K.memory maker.new) result }
 {
     config_law();
     let buckets = buckets_of(alloc, maker, config.buckets.items())?;

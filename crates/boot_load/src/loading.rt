@@ -12,8 +12,8 @@ use stats_io::Shelf;
 use std::alloc::Global;
 use tag_rules::{Buckets, Matcher, PatternMaker, TagRules};
 
-/// What a bootstrap says of statistics, with its patterns built. The tag rules stand there twice: a store of statistics takes
-/// `rules` and `matcher` for good, and `view_rules` are those of the views of its flushes.
+/// What a bootstrap says of statistics, with its patterns built. The tag rules stand there twice: a store of statistics
+/// takes `rules` and `matcher` for good, and `view_rules` are those of the views of its flushes.
 #[derive(Drop)]
 pub struct Boot {
     pub config: Config,
@@ -23,8 +23,8 @@ pub struct Boot {
     pub view_rules: TagRules,
 }
 
-/// Reads the bootstrap of that name, `-` for the usual one, and builds its patterns: those of the tag rules, of the matcher, of
-/// the bucket settings, and of the tag rules once more, in this order.
+/// Reads the bootstrap of that name, `-` for the usual one, and builds its patterns: those of the tag rules, of the
+/// matcher, of the bucket settings, and of the tag rules once more, in this order.
 pub fn load<K: PatternMaker, F: Shelf>(
     alloc: Global,
     name: &str,
@@ -46,7 +46,8 @@ pub fn load<K: PatternMaker, F: Shelf>(
 fn config_of<F: Shelf>(alloc: Global, name: &str, shelf: &mut F) -> Result<Config, LoadFault>
     ensures read { MatchResult result
         (λ config. IsConfigured (F.holds shelf.old name.now) name.now config × (F.state shelf.new ≡ F.state shelf.old))
-        (λ fault. IsUnread F.S.state (F.holds shelf.old name.now) name.now (F.state shelf.old) (F.state shelf.new) fault) }
+        (λ fault. IsUnread F.S.state (F.holds shelf.old name.now) name.now (F.state shelf.old)
+            (F.state shelf.new) fault) }
     ensures lawful { IfOk result (λ config. IsConfig config) }
     ensures usual { name.now ≡ codes "-" → shelf.new ≡ shelf.old }
     ensures contents { (other : List ℕ) → F.holds shelf.new other ≡ F.holds shelf.old other }

@@ -21,7 +21,8 @@ fn shelf_of(alloc: Global, bytes: Vec<u8>, piece: usize, fails: Vec<u64>) -> Res
     Ok(MemShelf::new(vec![in alloc; file]?, Vec::new(alloc)))
 }
 
-// What is said of the bootstrap of that name, and nothing where it was loaded. The maker refuses the calls of those numbers.
+// What is said of the bootstrap of that name, and nothing where it was loaded. The maker refuses the calls of those
+// numbers.
 fn said(
     alloc: Global,
     name: &str,

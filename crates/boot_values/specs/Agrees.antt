@@ -1,4 +1,5 @@
--- How an answer of a reader stands to its definition: want of memory is free, and all else is exact. This project's own.
+-- How an answer of a reader stands to its definition: want of memory is free, and all else is exact. This project's
+-- own.
 use Rattle.std.specs.Prelude.{◌≡◌, ◌≢◌, Result, Ok, Err}
 use Rattle.boot_values.specs.declared.fault.BootFault.{BootFault}
 use Rattle.boot_values.specs.declared.fault.BootFault.TheVariants.{NoMemory}

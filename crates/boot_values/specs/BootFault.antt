@@ -1,7 +1,8 @@
 -- The texts of the faults of a bootstrap, without a path. This project's own.
 use Rattle.std.specs.Prelude.{ℕ, List, codes}
 use Rattle.boot_values.specs.declared.fault.BootFault.{BootFault}
-use Rattle.boot_values.specs.declared.fault.BootFault.TheVariants.{NotJson, BadKey, BadTag, BadBucket, OutOfRange, NoMemory}
+use Rattle.boot_values.specs.declared.fault.BootFault.TheVariants.{NotJson, BadKey, BadTag, BadBucket, OutOfRange}
+use Rattle.boot_values.specs.declared.fault.BootFault.TheVariants.{NoMemory}
 
 abbrev pub boot_fault_text : BootFault → List ℕ
 boot_fault_text NotJson = codes "not json"

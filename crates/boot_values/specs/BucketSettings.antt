@@ -1,8 +1,9 @@
--- The bounds of histograms (Envoy's reference on `HistogramBucketSettings`; the limits are this project's own): at most 16
--- objects with the pattern `match` and the list `buckets` of 1 to 64 whole numbers from 1 to 1,000,000,000,000, all
+-- The bounds of histograms (Envoy's reference on `HistogramBucketSettings`; the limits are this project's own): at most
+-- 16 objects with the pattern `match` and the list `buckets` of 1 to 64 whole numbers from 1 to 1,000,000,000,000, all
 -- different, in any order. Whatever is wrong with `buckets` is told with its path. A bound is kept as twice its number,
 -- and the bounds of a setting stand rising.
-use Rattle.std.specs.Prelude.{ℕ, ◌+◌, ◌*◌, ◌==◌, ◌&&◌, ◌++◌, not, nat_le, nat_lt, List, [], ◌∷◌, codes, Option, Some, None, Result, Ok, Err, if◌then◌else◌}
+use Rattle.std.specs.Prelude.{ℕ, ◌+◌, ◌*◌, ◌==◌, ◌&&◌, ◌++◌, not, nat_le, nat_lt, List, [], ◌∷◌, codes, Option, Some}
+use Rattle.std.specs.Prelude.{None, Result, Ok, Err, if◌then◌else◌}
 use Rattle.std.specs.List.{list_any, count_by, insert}
 use Rattle.stat_defs.specs.declared.bins.Bound.{Bound}
 use Rattle.stat_defs.specs.declared.configs.TheConstants.{MAX_BOUND, MAX_BOUNDS, MAX_BUCKET_SETTINGS}
@@ -37,7 +38,8 @@ with_bound found bound = insert found (count_by (λ b. nat_lt b.halves bound.hal
 
 abbrev pub bounds_from : ℕ → List Bound → Items → Result (List Bound) BootFault
 bounds_from i found no_items = Ok found
-bounds_from i found (item d ds) = and_then (bound_of i found (natural_of d)) (λ bound. bounds_from i (with_bound found bound) ds)
+bounds_from i found (item d ds) = and_then (bound_of i found (natural_of d))
+    (λ bound. bounds_from i (with_bound found bound) ds)
 
 unfoldable pub bounds_of : ℕ → Option Data → Result (List Bound) BootFault
 bounds_of i (Some (array ds)) = if nat_le 1 (item_count ds) && nat_le (item_count ds) MAX_BOUNDS

@@ -5,7 +5,8 @@
 use Rattle.std.specs.Prelude.{ℕ, List, ◌++◌, codes}
 use Rattle.std.specs.Fmt.{decimal}
 use Rattle.boot_values.specs.declared.place.Place.{Place}
-use Rattle.boot_values.specs.declared.place.Place.TheVariants.{Default, Tag, Excluded, Included, Setting, Match, Sink, Scope}
+use Rattle.boot_values.specs.declared.place.Place.TheVariants.{Default, Tag, Excluded, Included, Setting, Match, Sink}
+use Rattle.boot_values.specs.declared.place.Place.TheVariants.{Scope}
 
 -- member i of a list, and a part of it
 abbrev pub indexed : List ℕ → ℕ → List ℕ → List ℕ

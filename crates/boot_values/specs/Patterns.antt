@@ -1,8 +1,9 @@
 -- A pattern over names (Envoy's reference on `StringMatcher`; the limit is this project's own): an object with exactly
--- one of the texts `exact`, `prefix`, `suffix` and `contains` and the object `safe_regex`, which has a text `regex`. Its
--- text has at most 1,024 bytes. `ignore_case` may stand beside it and must be false. It is looked at in this order: the
--- choice of its member, the object of `safe_regex`, the text, `ignore_case`.
-use Rattle.std.specs.Prelude.{ℕ, nat_le, length, Bool, true, false, List, [], codes, Option, Some, None, Result, Ok, Err, if◌then◌else◌}
+-- one of the texts `exact`, `prefix`, `suffix` and `contains` and the object `safe_regex`, which has a text `regex`.
+-- Its text has at most 1,024 bytes. `ignore_case` may stand beside it and must be false. It is looked at in this order:
+-- the choice of its member, the object of `safe_regex`, the text, `ignore_case`.
+use Rattle.std.specs.Prelude.{ℕ, nat_le, length, Bool, true, false, List, [], codes, Option, Some, None, Result, Ok}
+use Rattle.std.specs.Prelude.{Err, if◌then◌else◌}
 use Rattle.stat_defs.specs.declared.configs.TheConstants.{MAX_PATTERN_BYTES}
 use Rattle.stat_defs.specs.declared.configs.Pattern.{Pattern}
 use Rattle.stat_defs.specs.declared.configs.Pattern.TheVariants as pattern
@@ -40,13 +41,17 @@ regex_text_at place None = Err (BadKey (path_of place (codes ".safe_regex")))
 regex_text_at place (Some regex) = text_at place (codes ".safe_regex.regex") (Some regex)
 
 unfoldable pub shaped_at : Place → Data → Shape → Result Pattern BootFault
-shaped_at place d Exact = and_then (text_at place (codes ".exact") (member (Some d) (codes "exact"))) (λ t. Ok (pattern.Exact t))
-shaped_at place d Prefix = and_then (text_at place (codes ".prefix") (member (Some d) (codes "prefix"))) (λ t. Ok (pattern.Prefix t))
-shaped_at place d Suffix = and_then (text_at place (codes ".suffix") (member (Some d) (codes "suffix"))) (λ t. Ok (pattern.Suffix t))
+shaped_at place d Exact = and_then (text_at place (codes ".exact") (member (Some d) (codes "exact")))
+    (λ t. Ok (pattern.Exact t))
+shaped_at place d Prefix = and_then (text_at place (codes ".prefix") (member (Some d) (codes "prefix")))
+    (λ t. Ok (pattern.Prefix t))
+shaped_at place d Suffix = and_then (text_at place (codes ".suffix") (member (Some d) (codes "suffix")))
+    (λ t. Ok (pattern.Suffix t))
 shaped_at place d Contains = and_then (text_at place (codes ".contains") (member (Some d) (codes "contains")))
     (λ t. Ok (pattern.Contains t))
 shaped_at place d SafeRegex =
-    and_then (regex_text_at place (member (member (Some d) (codes "safe_regex")) (codes "regex"))) (λ t. Ok (pattern.SafeRegex t))
+    and_then (regex_text_at place (member (member (Some d) (codes "safe_regex")) (codes "regex")))
+        (λ t. Ok (pattern.SafeRegex t))
 
 abbrev pub is_case_kept : Option Data → Bool
 is_case_kept None = true
@@ -56,7 +61,8 @@ is_case_kept (Some _) = false
 abbrev pub chosen_at : Place → Data → Option Shape → Result Pattern BootFault
 chosen_at place d None = Err (BadKey (path_of place []))
 chosen_at place d (Some shape) = and_then (shaped_at place d shape) (λ p.
-    if is_case_kept (member (Some d) (codes "ignore_case")) then Ok p else Err (BadKey (path_of place (codes ".ignore_case"))))
+    if is_case_kept (member (Some d) (codes "ignore_case")) then Ok p
+        else Err (BadKey (path_of place (codes ".ignore_case"))))
 
 unfoldable pub pattern_at : Place → Data → Result Pattern BootFault
 pattern_at place d = chosen_at place d (shape_of d)

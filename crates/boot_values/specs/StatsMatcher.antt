@@ -1,7 +1,8 @@
--- Which names are admitted (Envoy's reference on `StatsMatcher`; the limit is this project's own): an object with exactly
--- one of `reject_all`, `exclusion_list` and `inclusion_list`. A list is an object whose `patterns` has 0 to 32 patterns,
--- and none where it is absent. Where `stats_matcher` is absent all names are admitted.
-use Rattle.std.specs.Prelude.{ℕ, ◌+◌, ◌++◌, Bool, true, false, List, [], ◌∷◌, codes, Option, Some, None, Result, Ok, Err}
+-- Which names are admitted (Envoy's reference on `StatsMatcher`; the limit is this project's own): an object with
+-- exactly one of `reject_all`, `exclusion_list` and `inclusion_list`. A list is an object whose `patterns` has 0 to 32
+-- patterns, and none where it is absent. Where `stats_matcher` is absent all names are admitted.
+use Rattle.std.specs.Prelude.{ℕ, ◌+◌, ◌++◌, Bool, true, false, List, [], ◌∷◌, codes, Option, Some, None, Result, Ok}
+use Rattle.std.specs.Prelude.{Err}
 use Rattle.stat_defs.specs.declared.configs.TheConstants.{MAX_PATTERNS}
 use Rattle.stat_defs.specs.declared.configs.Pattern.{Pattern}
 use Rattle.stat_defs.specs.declared.configs.MatchSpec.{MatchSpec}

@@ -1,6 +1,7 @@
 -- The values of a bootstrap. It is a JSON text (RFC 8259) as the library `serde_json` reads it: UTF-8, nested at most
 -- 127 deep; an object has each key once, with its last value. Keys that no definition names are passed over.
-use Rattle.std.specs.Prelude.{ℕ, suc, ◌&&◌, nat_le, Bool, true, false, List, Option, Some, None, option_and_then, is_some, Result, Ok, Err, if◌then◌else◌}
+use Rattle.std.specs.Prelude.{ℕ, suc, ◌&&◌, nat_le, Bool, true, false, List, Option, Some, None, option_and_then}
+use Rattle.std.specs.Prelude.{is_some, Result, Ok, Err, if◌then◌else◌}
 use Rattle.std.specs.Str.{is_utf8}
 use Rattle.serde_json.specs.Data.{Items, no_items, item, Data, null, boolean, number, array, object, unsigned, negative}
 use Rattle.serde_json.specs.Read as json

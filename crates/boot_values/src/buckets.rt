@@ -1,11 +1,13 @@
 //! The bounds of histograms.
-ghost use Rattle.std.specs.Prelude.{◌≡◌, ◌≢◌, ◌<◌, ◌≤◌, ◌+◌, ◌*◌, ◌^◌, ◌==◌, nat_lt, codes, length, map, [], All, Option, Some, None, Ok, Err, false, MatchResult, IfOk, option_map};
+ghost use Rattle.std.specs.Prelude.{◌≡◌, ◌≢◌, ◌<◌, ◌≤◌, ◌+◌, ◌*◌, ◌^◌, ◌==◌, nat_lt, codes, length, map, [], All};
+ghost use Rattle.std.specs.Prelude.{Option, Some, None, Ok, Err, false, MatchResult, IfOk, option_map};
 ghost use Rattle.std.specs.List.{list_any, count_by};
 ghost use Rattle.std.specs.List.Sorted.{IsStrictlyIncreasing};
 ghost use Rattle.serde_json.specs.View.{view, items_view};
 ghost use Rattle.stat_defs.specs.Configs.{IsPatternText, IsBucketSpec, IsWholeBound, text_of};
 ghost use Rattle.boot_values.specs.Agrees.{Agrees};
-ghost use Rattle.boot_values.specs.BucketSettings.{natural_of, bound_of, with_bound, bounds_from, bounds_of, match_at, setting_at, settings_from, settings_of};
+ghost use Rattle.boot_values.specs.BucketSettings.{natural_of, bound_of, with_bound, bounds_from, bounds_of, match_at};
+ghost use Rattle.boot_values.specs.BucketSettings.{setting_at, settings_from, settings_of};
 
 use crate::fault::BootFault;
 use crate::json::{items_at, member};
@@ -130,8 +132,8 @@ fn settings_in(alloc: Global, list: &[Value]) -> Result<Vec<BucketSpec>, BootFau
     Ok(found)
 }
 
-/// The bucket settings that a `histogram_bucket_settings` says, in its order, where absent is none; the bounds of each rise.
-/// The first fault is told, `BadKey`, `BadBucket` or `OutOfRange` with its path below
+/// The bucket settings that a `histogram_bucket_settings` says, in its order, where absent is none; the bounds of each
+/// rise. The first fault is told, `BadKey`, `BadBucket` or `OutOfRange` with its path below
 /// `stats_config.histogram_bucket_settings`, or `NoMemory`. No pattern is built.
 #[tactic(auto, unfolding(crate::specs::BucketSettings::settings_of))]
 pub fn settings_of(alloc: Global, found: Option<&Value>) -> Result<List<BucketSpec>, BootFault>

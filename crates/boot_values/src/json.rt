@@ -1,7 +1,9 @@
 //! Values of a bootstrap.
-ghost use Rattle.std.specs.Prelude.{◌≡◌, ◌≢◌, ◌<◌, ◌≤◌, ◌^◌, length, Option, Ok, Err, MatchResult, IfOk, None, Some, option_map};
+ghost use Rattle.std.specs.Prelude.{◌≡◌, ◌≢◌, ◌<◌, ◌≤◌, ◌^◌, length, Option, Ok, Err, MatchResult, IfOk, None, Some};
+ghost use Rattle.std.specs.Prelude.{option_map};
 ghost use Rattle.serde_json.specs.View.{view, items_view};
-ghost use Rattle.boot_values.specs.Values.{json_of, member, has, is_section, section_at, switch_at, whole_at, items_at, item_count};
+ghost use Rattle.boot_values.specs.Values.{json_of, member, has, is_section, section_at, switch_at, whole_at, items_at};
+ghost use Rattle.boot_values.specs.Values.{item_count};
 ghost use Rattle.boot_values.specs.Agrees.{Agrees};
 
 use crate::fault::BootFault;
@@ -122,7 +124,8 @@ pub fn whole_at(
 }
 
 /// The members of a list, at most so many, where absent is empty: `BadKey` with this path for a value that is no list,
-/// `OutOfRange` with this path for a longer one, and `NoMemory`. The members are not looked at, and a null keeps its place.
+/// `OutOfRange` with this path for a longer one, and `NoMemory`. The members are not looked at, and a null keeps its
+/// place.
 #[tactic(auto, using(crate::proofs::Facts::item_count_of_view))]
 pub fn items_at<'v>(
     alloc: Global,

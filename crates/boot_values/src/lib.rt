@@ -1,7 +1,7 @@
 //! The values of a bootstrap, read one by one.
 //!
-//! A value, a section, a switch, a whole number and a list are each their definition, or the fault with the path of what is
-//! wrong. The matcher of names and the bucket settings stand on their own, and are read whole.
+//! A value, a section, a switch, a whole number and a list are each their definition, or the fault with the path of
+//! what is wrong. The matcher of names and the bucket settings stand on their own, and are read whole.
 #![tactic(auto)]
 
 mod buckets;

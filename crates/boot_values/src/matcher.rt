@@ -1,9 +1,11 @@
 //! Which names are admitted.
-ghost use Rattle.std.specs.Prelude.{◌≡◌, ◌≢◌, ◌<◌, ◌≤◌, ◌^◌, codes, length, [], All, Option, Some, None, Ok, Err, MatchResult, IfOk, option_map};
+ghost use Rattle.std.specs.Prelude.{◌≡◌, ◌≢◌, ◌<◌, ◌≤◌, ◌^◌, codes, length, [], All, Option, Some, None, Ok, Err};
+ghost use Rattle.std.specs.Prelude.{MatchResult, IfOk, option_map};
 ghost use Rattle.serde_json.specs.View.{view, items_view};
 ghost use Rattle.stat_defs.specs.Configs.{IsPatternText, IsMatchSpec, IsPatternList, text_of};
 ghost use Rattle.boot_values.specs.Agrees.{Agrees};
-ghost use Rattle.boot_values.specs.StatsMatcher.{choice_of, reject_at, name_of, path_of_side, path_of_patterns, place_in, spec_of, patterns_from, list_at, matcher_of};
+ghost use Rattle.boot_values.specs.StatsMatcher.{choice_of, reject_at, name_of, path_of_side, path_of_patterns};
+ghost use Rattle.boot_values.specs.StatsMatcher.{place_in, spec_of, patterns_from, list_at, matcher_of};
 
 use crate::fault::BootFault;
 use crate::json::{has, items_at, member, section_at};
@@ -124,8 +126,8 @@ fn list_at(alloc: Global, side: Side, found: Option<&Value>) -> Result<MatchSpec
     Ok(spec_of(side, patterns))
 }
 
-/// The matcher that a `stats_matcher` says; where it is absent all names are admitted. The first fault is told, `BadKey` or
-/// `OutOfRange` with its path below `stats_config.stats_matcher`, or `NoMemory`. No pattern is built.
+/// The matcher that a `stats_matcher` says; where it is absent all names are admitted. The first fault is told,
+/// `BadKey` or `OutOfRange` with its path below `stats_config.stats_matcher`, or `NoMemory`. No pattern is built.
 #[tactic(auto, unfolding(crate::specs::StatsMatcher::matcher_of))]
 pub fn matcher_of(alloc: Global, found: Option<&Value>) -> Result<MatchSpec, BootFault>
     ensures gives { Agrees result (matcher_of (option_map (λ v. view v.now) found.entry)) }

@@ -1,9 +1,11 @@
 //! Patterns over names.
-ghost use Rattle.std.specs.Prelude.{◌≡◌, ◌≢◌, ◌<◌, ◌≤◌, ◌^◌, codes, length, [], Option, Some, None, Ok, Err, IfOk, option_map};
+ghost use Rattle.std.specs.Prelude.{◌≡◌, ◌≢◌, ◌<◌, ◌≤◌, ◌^◌, codes, length, [], Option, Some, None, Ok, Err, IfOk};
+ghost use Rattle.std.specs.Prelude.{option_map};
 ghost use Rattle.serde_json.specs.View.{view};
 ghost use Rattle.stat_defs.specs.Configs.{IsPatternText, text_of};
 ghost use Rattle.boot_values.specs.Agrees.{Agrees};
-ghost use Rattle.boot_values.specs.Patterns.{only_of, shape_of, text_at, regex_text_at, shaped_at, is_case_kept, pattern_at};
+ghost use Rattle.boot_values.specs.Patterns.{only_of, shape_of, text_at, regex_text_at, shaped_at, is_case_kept};
+ghost use Rattle.boot_values.specs.Patterns.{pattern_at};
 
 use crate::fault::BootFault;
 use crate::json::{has, member};

@@ -34,8 +34,9 @@ fn indexed(alloc: Global, list: &str, i: usize, part: &str, rest: &str) -> Resul
     Ok(Txt::of_vec(text.into_bytes()))
 }
 
-/// The path of a part of the member at a place, as `stats_run.scopes[2].label` for the part `.label`; of the whole member
-/// for an empty part. The part is taken as it stands, with its dot. There is an error only where memory is wanting.
+/// The path of a part of the member at a place, as `stats_run.scopes[2].label` for the part `.label`; of the whole
+/// member for an empty part. The part is taken as it stands, with its dot. There is an error only where memory is
+/// wanting.
 pub fn path_of(alloc: Global, place: Place, part: &str) -> Result<Txt, NoMemory>
     ensures { IfOk result (λ t. t ≡ path_of place part.now) }
 {
@@ -98,8 +99,8 @@ pub(crate) fn out_of_range(alloc: Global, path: &str) -> BootFault
     }
 }
 
-/// The fault of a part, in a list, of the wrong type or shape: `BadKey` with the part's path, or `NoMemory` where there was
-/// none for the path.
+/// The fault of a part, in a list, of the wrong type or shape: `BadKey` with the part's path, or `NoMemory` where there
+/// was none for the path.
 pub fn bad_part(alloc: Global, place: Place, part: &str) -> BootFault
     ensures { result ≢ BootFault.NoMemory → result ≡ BootFault.BadKey (path_of place part.now) }
 {
@@ -121,7 +122,8 @@ pub(crate) fn long_part(alloc: Global, place: Place, part: &str) -> BootFault
 
 /// The fault of the bounds of a bucket setting.
 pub(crate) fn bad_bucket(alloc: Global, i: usize) -> BootFault
-    ensures { result ≢ BootFault.NoMemory → result ≡ BootFault.BadBucket (path_of (Place.Setting i) (codes ".buckets")) }
+    ensures { result ≢ BootFault.NoMemory → result
+        ≡ BootFault.BadBucket (path_of (Place.Setting i) (codes ".buckets")) }
 {
     match path_of(alloc, Place::Setting(i), ".buckets") {
         Ok(path) => BootFault::BadBucket(path),

@@ -1,5 +1,6 @@
 -- The commands, and the words that say them. This project's own.
-use Rattle.std.specs.Prelude.{◌≤◌, ◌^◌, ◌-◌, ◌==◌, ◌||◌, ◌&&◌, ℕ, Bool, true, false, not, if◌then◌else◌, nat_le, Option, None, Some, is_some, List, [], ◌∷◌, length, map, codes, string_bytes}
+use Rattle.std.specs.Prelude.{◌≤◌, ◌^◌, ◌-◌, ◌==◌, ◌||◌, ◌&&◌, ℕ, Bool, true, false, not, if◌then◌else◌, nat_le, Option}
+use Rattle.std.specs.Prelude.{None, Some, is_some, List, [], ◌∷◌, length, map, codes, string_bytes}
 use Rattle.std.specs.Str.{bytes_eq}
 use Rattle.std.specs.Option.{unwrap_or}
 use Rattle.std.specs.List.{list_all, filter_map}

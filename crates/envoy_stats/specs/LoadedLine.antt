@@ -13,4 +13,5 @@ totals_line tags patterns buckets scopes =
 -- the line on a bootstrap that says this: the tag rules in force, the matcher's patterns, and the scopes with `root`
 abbrev pub loaded_line : Config → List ℕ
 loaded_line config =
-    totals_line (length config.tags) (length (patterns_of config.matcher)) (length config.buckets) (length config.scopes)
+    totals_line (length config.tags) (length (patterns_of config.matcher)) (length config.buckets)
+        (length config.scopes)

@@ -1,12 +1,14 @@
 -- How a call ends, and what it leaves. This project's own.
-use Rattle.std.specs.Prelude.{◌≡◌, ◌≢◌, ◌⊎◌, ◌↔◌, ◌==◌, if◌then◌else◌, ℕ, Option, Some, None, Ok, Err, List, [], ◌∷◌, map, codes}
+use Rattle.std.specs.Prelude.{◌≡◌, ◌≢◌, ◌⊎◌, ◌↔◌, ◌==◌, if◌then◌else◌, ℕ, Option, Some, None, Ok, Err, List, [], ◌∷◌}
+use Rattle.std.specs.Prelude.{map, codes}
 use Rattle.std.specs.Io.KnownBytes.{Appends}
 use Rattle.std.specs.IoError.{error_kind}
 use Rattle.std.specs.declared.io.Error.{Error}
 use Rattle.std.specs.declared.io.ErrorKind.TheVariants.{OutOfMemory}
 use Rattle.stat_defs.specs.Faults.{Rose}
 use Rattle.stat_defs.specs.declared.reports.FileEnd.{FileEnd}
-use Rattle.stat_defs.specs.declared.reports.FileEnd.TheVariants.{Whole, BadLine, LineTooLong, TooBig, TooMany, ReadFault, NotOpened}
+use Rattle.stat_defs.specs.declared.reports.FileEnd.TheVariants.{Whole, BadLine, LineTooLong, TooBig, TooMany}
+use Rattle.stat_defs.specs.declared.reports.FileEnd.TheVariants.{ReadFault, NotOpened}
 use Rattle.stat_defs.specs.declared.reports.Report.{Report}
 use Rattle.stats_io.specs.States.{SinkState}
 use Rattle.stats_io.specs.Push.{AppendsFront, WritesWhole, WritesFront}
@@ -18,7 +20,8 @@ use Rattle.boot_load.specs.BootLine.{boot_line}
 use Rattle.replay_report.specs.ReplayReport.{IsReplayOf}
 use Rattle.report_text.specs.ReportText.{report_text}
 use Rattle.report_text.specs.declared.options.OutputOptions.{OutputOptions}
-use Rattle.envoy_stats.specs.declared.status.TheConstants.{DONE, NO_COMMAND, BAD_BOOT, BAD_FILE, UNREADABLE, UNWRITTEN, NO_MEMORY}
+use Rattle.envoy_stats.specs.declared.status.TheConstants.{DONE, NO_COMMAND, BAD_BOOT, BAD_FILE, UNREADABLE, UNWRITTEN}
+use Rattle.envoy_stats.specs.declared.status.TheConstants.{NO_MEMORY}
 use Rattle.envoy_stats.specs.Command.{Command, Replay, Check, Bins, command}
 use Rattle.envoy_stats.specs.World.{World, Sight}
 use Rattle.envoy_stats.specs.BinLines.{bin_lines}
@@ -56,8 +59,8 @@ ends_of report = map (λ end. end.end) report.ends
 abbrev pub IsSaid : SinkState → SinkState → List ℕ → Type 0
 IsSaid before after text = ¬ Rose before.faults after.faults → Appends before.written after.written text
 
--- All of the text was written, and the status is this one. Or a push failed behind a front of the text, which has a status of
--- its own.
+-- All of the text was written, and the status is this one. Or a push failed behind a front of the text, which has a
+-- status of its own.
 abbrev pub IsWritten : SinkState → SinkState → List ℕ → ℕ → ℕ → Type 0
 IsWritten before after text whole status =
     ((status ≡ whole) × WritesWhole before after text) ⊎ ((status ≡ UNWRITTEN) × WritesFront before after text)
@@ -68,7 +71,8 @@ pub record IsPrinted (out_before out_after err_before err_after : SinkState) (te
   pub said : IsSaid err_before err_after (write_line status)
 
 -- memory was wanting before anything was written, and that was said
-pub record IsUnstarted {O : Type 0} (out_before out_after : O) (err_before err_after : SinkState) (status : ℕ) : Type 0 where
+pub record IsUnstarted {O : Type 0} (out_before out_after : O) (err_before err_after : SinkState)
+    (status : ℕ) : Type 0 where
   pub status_is : status ≡ NO_MEMORY
   pub unwritten : out_after ≡ out_before
   pub said : IsSaid err_before err_after out_of_memory
@@ -102,7 +106,8 @@ module _ {K F S O E : Type 0} (see : Sight K F S O E) (before after : World K F 
     -- all patterns of the bootstrap were made, and the line on it was written; for `-` no file was opened
     pub record IsChecked (status : ℕ) : Type 0 where
       pub loaded : Boot
-      pub boot_loaded : Loads see.source (see.holds before.shelf boot) boot (see.shelf before.shelf) (see.shelf after.shelf)
+      pub boot_loaded : Loads see.source (see.holds before.shelf boot) boot (see.shelf before.shelf)
+          (see.shelf after.shelf)
           (see.maker before.maker) (see.maker after.maker) (Ok loaded)
       pub usual : boot ≡ codes "-" → after.shelf ≡ before.shelf
       pub printed : IsPrinted (see.out before.out) (see.out after.out) (see.err before.err) (see.err after.err)
@@ -119,7 +124,8 @@ module _ {K F S O E : Type 0} (see : Sight K F S O E) (before after : World K F 
       pub between : F
       pub boot_loaded : Loads see.source (see.holds before.shelf boot) boot (see.shelf before.shelf) (see.shelf between)
           (see.maker before.maker) (see.maker after.maker) (Ok loaded)
-      pub replayed : IsReplayOf see.shelf see.source (see.holds before.shelf) loaded.config names between after.shelf report
+      pub replayed : IsReplayOf see.shelf see.source
+          (see.holds before.shelf) loaded.config names between after.shelf report
 
     -- the text of that report was written
     pub record IsReplayed (status : ℕ) (report : Report) : Type 0 where
@@ -154,8 +160,8 @@ module _ {K F S O E : Type 0} (see : Sight K F S O E) (before after : World K F 
     pub shelf : after.shelf ≡ before.shelf
     pub printed : Prints see.out before.out after.out (see.err before.err) (see.err after.err) (bin_lines values) status
 
-  -- What a call with these words does: the contract of `quiet_stats`. Status 1 is that of words that are no command, and
-  -- each command has what it comes to; a report comes of a replay alone.
+  -- What a call with these words does: the contract of `quiet_stats`. Status 1 is that of words that are no command,
+  -- and each command has what it comes to; a report comes of a replay alone.
   pub record IsCall (words : List (List ℕ)) (status : ℕ) (report : Option Report) : Type 0 where
     pub usage_status : (status ≡ NO_COMMAND) ↔ (command words ≡ None)
     pub refused : command words ≡ None → (report ≡ None) × IsRefused

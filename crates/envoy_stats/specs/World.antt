@@ -22,7 +22,8 @@ pub record Sight (K F S O E : Type 0) : Type 0 where
   pub out : O → SinkState
   pub err : E → SinkState
 
-abbrev pub sight : {K F S O E : Type 0} → (K → Memory) → (F → List ℕ → Option (List ℕ)) → (F → ShelfState) → (S → SourceState)
+abbrev pub sight : {K F S O E : Type 0} → (K → Memory) → (F → List ℕ → Option (List ℕ)) → (F → ShelfState)
+    → (S → SourceState)
     → (O → SinkState) → (E → SinkState) → Sight K F S O E
 sight maker holds shelf source out err =
     record { maker = maker; holds = holds; shelf = shelf; source = source; out = out; err = err }

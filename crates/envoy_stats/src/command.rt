@@ -2,7 +2,9 @@
 ghost use Rattle.std.specs.Prelude.{◌≡◌, ◌≢◌, ◌<◌, ◌⊎◌, is_some, length, map, option_map, slice_index, string_bytes};
 ghost use Rattle.std.specs.Bool.{MatchBool};
 ghost use Rattle.std.specs.List.{list_all};
-ghost use Rattle.envoy_stats.specs.Command.{is_file_word, is_boot_word, value_in, are_files, are_values, format_in, front_as, past_symbols, past_format, options_in, over_files, behind_replay, behind_check, behind_bins, command, spoken_as};
+ghost use Rattle.envoy_stats.specs.Command.{is_file_word, is_boot_word, value_in, are_files, are_values, format_in};
+ghost use Rattle.envoy_stats.specs.Command.{front_as, past_symbols, past_format, options_in, over_files, behind_replay};
+ghost use Rattle.envoy_stats.specs.Command.{behind_check, behind_bins, command, spoken_as};
 
 use replay_report::MAX_FILES;
 use report_text::{Format, OutputOptions};

@@ -36,7 +36,8 @@ fn refuse_words<E: Sink>(err: &mut E) -> Outcome
 ///
 /// - Status 0: every file was read to its end, or the command has none, and all was written.
 /// - Status 1: the words are no command. Nothing was opened or written.
-/// - Status 2: the bootstrap was read, or is `-`, and is at fault, or one of its patterns was refused. Nothing was written.
+/// - Status 2: the bootstrap was read, or is `-`, and is at fault, or one of its patterns was refused. Nothing was
+///   written.
 /// - Status 3: the first file that was not read whole has a line of no meaning or past a limit. What stands before is
 ///   applied.
 /// - Status 4: that file could not be opened or read on; the whole lines before that are applied. Or the bootstrap

@@ -8,8 +8,9 @@ use std::process::Abort;
 use std::test::Fail;
 use tag_rules::RegexMaker;
 
-// Commands and what comes of them: rows parted by the byte 2, in each the words, the files `f1` and on, up to three, parted
-// by the byte 3, the number of the pull that fails in each if one does, the status and the two outputs, parted by the byte 1.
+// Commands and what comes of them: rows parted by the byte 2, in each the words, the files `f1` and on, up to three,
+// parted by the byte 3, the number of the pull that fails in each if one does, the status and the two outputs, parted
+// by the byte 1.
 const ROWS: &[u8] = b"\
 replay - f1\x01\x01\x010\x01# last\n# worker 1: 0 accepted, 0 dropped\n\x01\x02\
 replay - f1\x01inc root a 0\n\x01\x010\x01# last\n# worker 1: 1 accepted, 0 dropped\n\x01\x02\
@@ -103,8 +104,8 @@ fn shelf_of(alloc: Global, file: &[u8], failing_pull: u64) -> Result<MemShelf, F
     Ok(MemShelf::new(vec![in alloc; file]?, Vec::new(alloc)))
 }
 
-// Calls the top call under a key of its own; the program's stored run is under one that is drawn. It has no clauses, so that no
-// test's proof carries those of the top call.
+// Calls the top call under a key of its own; the program's stored run is under one that is drawn. It has no clauses, so
+// that no test's proof carries those of the top call.
 fn call<K: PatternMaker, F: Shelf, O: Sink, E: Sink>(
     alloc: Global,
     words: &[String],
@@ -135,8 +136,8 @@ pub(crate) fn play_with(
     })
 }
 
-// Calls the top call over that shelf and a maker whose call of that number fails, with an output sink of pieces of that length
-// whose push of that number fails.
+// Calls the top call over that shelf and a maker whose call of that number fails, with an output sink of pieces of that
+// length whose push of that number fails.
 fn play(
     alloc: Global,
     words: &str,

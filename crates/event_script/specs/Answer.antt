@@ -1,5 +1,6 @@
 -- What the reader answers.
-use Rattle.std.specs.Prelude.{◌≡◌, ◌<◌, ◌≤◌, ◌+◌, All, ℕ, List, [], ◌∷◌, Option, Some, None, IfSome, MatchOption, Result, Ok, Err}
+use Rattle.std.specs.Prelude.{◌≡◌, ◌<◌, ◌≤◌, ◌+◌, All, ℕ, List, [], ◌∷◌, Option, Some, None, IfSome, MatchOption}
+use Rattle.std.specs.Prelude.{Result, Ok, Err}
 use Rattle.std.specs.Io.KnownBytes.{IsAtEnd}
 use Rattle.stat_defs.specs.declared.events.Event.{Event}
 use Rattle.stat_defs.specs.declared.reports.FileEnd.{FileEnd}
@@ -75,10 +76,11 @@ pub record HasEnded {S : Type 0} (state : S → SourceState) (now : Reading S) (
 abbrev pub no_answer : Result Step NoMemory
 no_answer = Err (record {})
 
--- An answer of a reader: some bytes were taken, and what comes behind the answer is what was to come. An event is lawful and
--- has a line of its own, and an end has its cause. Where the source ended nothing of it is left. Events, lines and bytes stay
--- within their limits, and one pull at most goes past that of the bytes.
-pub record IsAnswer {S : Type 0} (state : S → SourceState) (old new : Reading S) (answer : Result Step NoMemory) : Type 0 where
+-- An answer of a reader: some bytes were taken, and what comes behind the answer is what was to come. An event is
+-- lawful and has a line of its own, and an end has its cause. Where the source ended nothing of it is left. Events,
+-- lines and bytes stay within their limits, and one pull at most goes past that of the bytes.
+pub record IsAnswer {S : Type 0} (state : S → SourceState) (old new : Reading S)
+    (answer : Result Step NoMemory) : Type 0 where
   pub got : List ℕ
   pub moves : Moves state old new got (events_answered answer)
   pub lawful : All IsLawful (events_answered answer)

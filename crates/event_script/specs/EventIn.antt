@@ -1,6 +1,7 @@
 -- The event of a line, found part by part. What it finds is what the lines of events say; this is how the reader goes
 -- about it.
-use Rattle.std.specs.Prelude.{◌^◌, ◌==◌, ◌&&◌, nat_le, ◌-◌, ℕ, Bool, if◌then◌else◌, Option, None, Some, option_map, option_and_then, List, [], ◌∷◌, length, find, codes}
+use Rattle.std.specs.Prelude.{◌^◌, ◌==◌, ◌&&◌, nat_le, ◌-◌, ℕ, Bool, if◌then◌else◌, Option, None, Some, option_map}
+use Rattle.std.specs.Prelude.{option_and_then, List, [], ◌∷◌, length, find, codes}
 use Rattle.std.specs.List.{list_all}
 use Rattle.std.specs.Str.{bytes_eq}
 use Rattle.std.specs.Str.Parse.{digits_value}
@@ -38,7 +39,8 @@ part_then read more text = option_and_then (λ p. option_and_then (λ x. more x 
 
 -- a text of 1 to so many bytes that pass a test
 abbrev pub read_text : (ℕ → Bool) → ℕ → List ℕ → Option (List ℕ)
-read_text test most text = if nat_le 1 (length text) && nat_le (length text) most && list_all test text then Some text else None
+read_text test most text = if nat_le 1 (length text) && nat_le (length text) most && list_all test text then Some text
+    else None
 
 abbrev pub read_label : List ℕ → Option (List ℕ)
 read_label = read_text is_label_byte MAX_LABEL_BYTES
@@ -49,7 +51,8 @@ read_name = read_text is_name_byte MAX_NAME_BYTES
 -- a number of at most that
 abbrev pub read_number : ℕ → List ℕ → Option ℕ
 read_number most text =
-    if nat_le (digits_value 10 text) most && bytes_eq text (decimal (digits_value 10 text)) then Some (digits_value 10 text) else None
+    if nat_le (digits_value 10 text) most
+        && bytes_eq text (decimal (digits_value 10 text)) then Some (digits_value 10 text) else None
 
 abbrev pub read_readout : List ℕ → Option (List ℕ)
 read_readout text = if list_all is_printable_byte text then Some text else None
@@ -81,20 +84,24 @@ abbrev pub metric_in : (List ℕ → List ℕ → List ℕ → Option Event) →
 metric_in more text = part_then read_label (λ label. part_then read_name (λ name. more label name)) text
 
 abbrev pub inc_in : List ℕ → Option Event
-inc_in text = metric_in (λ label name rest. option_map (λ n. event.Inc label name n) (read_number (2 ^ 32 - 1) rest)) text
+inc_in text = metric_in (λ label name rest. option_map (λ n. event.Inc label name n) (read_number (2 ^ 32 - 1) rest))
+    text
 
 abbrev pub gauge_in : GaugeOp → List ℕ → Option Event
 gauge_in op text = metric_in (λ label name. part_then read_mode
     (λ mode rest. option_map (λ n. event.Gauge label name mode op n) (read_number (2 ^ 63 - 1) rest))) text
 
 abbrev pub rec_in : List ℕ → Option Event
-rec_in text = metric_in (λ label name rest. option_map (λ v. event.Rec label name v) (read_number (2 ^ 64 - 1) rest)) text
+rec_in text = metric_in (λ label name rest. option_map (λ v. event.Rec label name v) (read_number (2 ^ 64 - 1) rest))
+    text
 
 abbrev pub readout_in : List ℕ → Option Event
-readout_in text = metric_in (λ label name rest. option_map (λ readout. event.SetText label name readout) (read_readout rest)) text
+readout_in text = metric_in (λ label name rest. option_map (λ readout. event.SetText label name readout)
+    (read_readout rest)) text
 
 abbrev pub open_in : List ℕ → Option Event
-open_in text = part_then read_label (λ label rest. option_map (λ given. event.OpenScope label (given_prefix given)) (read_name rest)) text
+open_in text = part_then read_label
+    (λ label rest. option_map (λ given. event.OpenScope label (given_prefix given)) (read_name rest)) text
 
 abbrev pub release_in : List ℕ → Option Event
 release_in text = option_map (λ label. event.Release label) (read_label text)

@@ -1,5 +1,6 @@
 -- What the reader finds in the first line of the bytes that are left.
-use Rattle.std.specs.Prelude.{◌≡◌, ◌≢◌, ◌<◌, ◌≤◌, ◌==◌, ℕ, Bool, true, false, Option, None, Some, List, [], ◌∷◌, ◌++◌, length, take, drop, slice_index}
+use Rattle.std.specs.Prelude.{◌≡◌, ◌≢◌, ◌<◌, ◌≤◌, ◌==◌, ℕ, Bool, true, false, Option, None, Some, List, [], ◌∷◌, ◌++◌}
+use Rattle.std.specs.Prelude.{length, take, drop, slice_index}
 use Rattle.std.specs.Char.{digit_value}
 use Rattle.std.specs.Str.Parse.{AllDigits, digits_value}
 use Rattle.stat_defs.specs.declared.events.Event.{Event}
@@ -16,7 +17,8 @@ LacksPart {X} read text = (more : X → List ℕ → Option Event) → part_then
 
 -- a label and a local name stand first, and these bytes behind their spaces
 pub record HasMetric (text label name rest : List ℕ) : Type 0 where
-  pub found : (more : List ℕ → List ℕ → List ℕ → Option Event) → metric_in more (first_line text) ≡ more label name (first_line rest)
+  pub found : (more : List ℕ → List ℕ → List ℕ → Option Event) → metric_in more (first_line text)
+      ≡ more label name (first_line rest)
   pub behind : behind_line text ≡ behind_line rest
 
 abbrev pub LacksMetric : List ℕ → Type 0

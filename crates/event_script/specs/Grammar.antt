@@ -1,5 +1,6 @@
 -- The lines of an event file. This project's own.
-use Rattle.std.specs.Prelude.{◌≡◌, ◌≢◌, ◌<◌, ◌≤◌, ◌^◌, ◌==◌, ℕ, if◌then◌else◌, List, [], ◌∷◌, ◌++◌, length, slice_index, codes}
+use Rattle.std.specs.Prelude.{◌≡◌, ◌≢◌, ◌<◌, ◌≤◌, ◌^◌, ◌==◌, ℕ, if◌then◌else◌, List, [], ◌∷◌, ◌++◌, length, slice_index}
+use Rattle.std.specs.Prelude.{codes}
 use Rattle.std.specs.List.{flat_map, ends_with}
 use Rattle.std.specs.Str.{bytes_eq}
 use Rattle.std.specs.Fmt.{decimal}
@@ -87,7 +88,8 @@ given_for (b ∷ bs) = if ends_with ◌==◌ (b ∷ bs) (46 ∷ []) then (b ∷ 
 -- the line that is written for an event
 abbrev pub line_for : Event → List ℕ
 line_for (Inc label name n) = codes "inc " ++ (label ++ 32 ∷ (name ++ 32 ∷ decimal n))
-line_for (Gauge label name mode op n) = op_word op ++ 32 ∷ (label ++ 32 ∷ (name ++ 32 ∷ (mode_word mode ++ 32 ∷ decimal n)))
+line_for (Gauge label name mode op n) = op_word op ++ 32
+    ∷ (label ++ 32 ∷ (name ++ 32 ∷ (mode_word mode ++ 32 ∷ decimal n)))
 line_for (Rec label name v) = codes "rec " ++ (label ++ 32 ∷ (name ++ 32 ∷ decimal v))
 line_for (SetText label name text) = codes "text " ++ (label ++ 32 ∷ (name ++ 32 ∷ text))
 line_for (OpenScope label prefix) = codes "open " ++ (label ++ 32 ∷ given_for prefix)

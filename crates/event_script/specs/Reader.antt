@@ -26,7 +26,8 @@ pub record Reading (S : Type 0) : Type 0 where
 
 -- nothing was taken from the source yet, whose count of faults is this
 abbrev pub unread : {S : Type 0} → S → ℕ → Reading S
-unread source faults = record { source = source; number = 1; given = 0; offset = 0; pending = []; taken = 0; first_faults = faults; stopped = None; ended = None }
+unread source faults = record { source = source; number = 1; given = 0; offset = 0; pending = []; taken = 0;
+    first_faults = faults; stopped = None; ended = None }
 
 -- the events and the end that are still to come, where these bytes are still to be taken and the source then stops so
 abbrev pub Comes : {S : Type 0} → Reading S → List ℕ → Pulled → List Event → FileEnd → Type 0
@@ -44,14 +45,16 @@ MayFollow (Some End) more last = (more ≡ []) × (last ≡ End)
 MayFollow (Some Failed) more last = (more ≡ []) × (last ≡ Failed)
 MayFollow (Some TooMany) more last = Unit {0}
 
--- From old to new these bytes were taken from the source and these events given, and what comes from new on is what was to
--- come behind them.
-pub record Moves {S : Type 0} (state : S → SourceState) (old new : Reading S) (got : List ℕ) (events : List Event) : Type 0 where
+-- From old to new these bytes were taken from the source and these events given, and what comes from new on is what was
+-- to come behind them.
+pub record Moves {S : Type 0} (state : S → SourceState) (old new : Reading S) (got : List ℕ)
+    (events : List Event) : Type 0 where
   pub consumed : Consumes (state old.source).left (state new.source).left got
   pub later : IsLater (state old.source) (state new.source)
   pub first : new.first_faults ≡ old.first_faults
   pub taken : new.taken ≡ old.taken + length got
   pub given : new.given ≡ old.given + length events
-  pub follows : (more : List ℕ) (last : Pulled) → MayFollow new.stopped more last → MayFollow old.stopped (got ++ more) last
+  pub follows : (more : List ℕ) (last : Pulled) → MayFollow new.stopped more last
+      → MayFollow old.stopped (got ++ more) last
   pub answers : (more : List ℕ) (last : Pulled) (others : List Event) (end : FileEnd) → MayFollow new.stopped more last
       → Comes new more last others end → Comes old (got ++ more) last (events ++ others) end

@@ -17,7 +17,8 @@ pub record IsFresh (bytes : List ℕ) (place : Place) (taken : ℕ) (ended : Opt
   pub all : taken ≡ length bytes
   pub none_ended : ended ≡ None
 
-pub record IsReaderKept (bytes : List ℕ) (place : Place) (taken first : ℕ) (stopped : Option Pulled) (ended : Option FileEnd) (source : SourceState) : Type 0 where
+pub record IsReaderKept (bytes : List ℕ) (place : Place) (taken first : ℕ) (stopped : Option Pulled)
+    (ended : Option FileEnd) (source : SourceState) : Type 0 where
   pub within : place.at ≤ length bytes
   pub numbered : place.number ≤ place.at + 1
   pub few : place.given ≤ MAX_EVENTS

@@ -2,12 +2,13 @@
 use Rattle.std.specs.Prelude.{◌≡◌, ◌≤◌, ℕ, Option, List, [], length, take}
 use Rattle.stat_defs.specs.declared.events.Event.{Event}
 use Rattle.stat_defs.specs.declared.reports.FileEnd.{FileEnd}
-use Rattle.stat_defs.specs.declared.reports.FileEnd.TheVariants.{Whole, BadLine, LineTooLong, TooBig, TooMany, ReadFault, NotOpened}
+use Rattle.stat_defs.specs.declared.reports.FileEnd.TheVariants.{Whole, BadLine, LineTooLong, TooBig, TooMany}
+use Rattle.stat_defs.specs.declared.reports.FileEnd.TheVariants.{ReadFault, NotOpened}
 use Rattle.stats_io.specs.Told.{MayBe}
 use Rattle.event_script.specs.Script.{File, FileToFault}
 
--- The events that were read of a file of this content, how it ended, and how many bytes were taken before a read fault. Where
--- the content is not told, they are those of some list of bytes.
+-- The events that were read of a file of this content, how it ended, and how many bytes were taken before a read fault.
+-- Where the content is not told, they are those of some list of bytes.
 abbrev pub IsRun : Option (List ℕ) → FileEnd → ℕ → List Event → Type 0
 IsRun content NotOpened taken events = events ≡ []
 IsRun content ReadFault taken events =

@@ -1,5 +1,6 @@
 -- The events and the end of an event file. This project's own.
-use Rattle.std.specs.Prelude.{◌≡◌, ◌<◌, ◌≤◌, ◌+◌, ◌-◌, ◌⊎◌, ℕ, ◌==◌, nat_lt, Bool, if◌then◌else◌, List, [], ◌∷◌, length, take}
+use Rattle.std.specs.Prelude.{◌≡◌, ◌<◌, ◌≤◌, ◌+◌, ◌-◌, ◌⊎◌, ℕ, ◌==◌, nat_lt, Bool, if◌then◌else◌, List, [], ◌∷◌, length}
+use Rattle.std.specs.Prelude.{take}
 use Rattle.std.specs.List.{slice_split}
 use Rattle.stat_defs.specs.declared.events.Event.{Event}
 use Rattle.stat_defs.specs.declared.reports.FileEnd.{FileEnd}
@@ -9,8 +10,8 @@ use Rattle.stats_io.specs.declared.pulling.Pulled.TheVariants.{End, TooMany, Fai
 use Rattle.event_script.specs.declared.limits.TheConstants.{MAX_FILE_BYTES, MAX_LINE_BYTES, MAX_EVENTS}
 use Rattle.event_script.specs.Grammar.{IsPassedOver, IsLineOf, IsNoLine}
 
--- A piece of so many bytes behind which no newline stands is a line at the end of the file, where it is not empty. Where the
--- bytes stopped before that end, it is one only if it has more bytes than a line may have.
+-- A piece of so many bytes behind which no newline stands is a line at the end of the file, where it is not empty.
+-- Where the bytes stopped before that end, it is one only if it has more bytes than a line may have.
 abbrev pub is_line : Pulled → ℕ → Bool
 is_line End count = nat_lt 0 count
 is_line TooMany count = nat_lt MAX_LINE_BYTES count
@@ -32,7 +33,8 @@ end_by End = file.Whole
 end_by TooMany = file.TooBig
 end_by Failed = file.ReadFault
 
--- The event comes, and then what comes behind it; or it is one too many, since so many stand before it, and ends the file.
+-- The event comes, and then what comes behind it; or it is one too many, since so many stand before it, and ends the
+-- file.
 abbrev pub GivesEvent : Event → ℕ → (List Event → Type 0) → List Event → FileEnd → Type 0
 GivesEvent e given Behind events end =
     ((rest : List Event) × (given < MAX_EVENTS) × (events ≡ e ∷ rest) × Behind rest)
@@ -49,7 +51,8 @@ LinesGive number given (line ∷ lines) stop events end =
     ((MAX_LINE_BYTES < length line) × (events ≡ []) × (end ≡ file.LineTooLong number))
     ⊎ ((length line ≤ MAX_LINE_BYTES) × (
     (IsPassedOver line × LinesGive (number + 1) given lines stop events end)
-    ⊎ (((e : Event) × IsLineOf line e × GivesEvent e given (λ rest. LinesGive (number + 1) (given + 1) lines stop rest end) events end)
+    ⊎ (((e : Event) × IsLineOf line e
+    × GivesEvent e given (λ rest. LinesGive (number + 1) (given + 1) lines stop rest end) events end)
     ⊎ (IsNoLine line × (events ≡ []) × (end ≡ file.BadLine number)))))
 
 -- The same of the bytes of a file behind its first `offset` ones. Past the limit of a file only the bytes within it
@@ -58,12 +61,13 @@ LinesGive number given (line ∷ lines) stop events end =
 abbrev pub FileFrom : ℕ → ℕ → ℕ → List ℕ → Pulled → List Event → FileEnd → Type 0
 FileFrom number given offset bytes stop events end =
     (offset + length bytes ≤ MAX_FILE_BYTES → LinesGive number given (lines_until stop bytes) stop events end)
-    × (MAX_FILE_BYTES < offset + length bytes → LinesGive number given (lines_until TooMany (take (MAX_FILE_BYTES - offset) bytes)) TooMany events end)
+    × (MAX_FILE_BYTES < offset + length bytes
+    → LinesGive number given (lines_until TooMany (take (MAX_FILE_BYTES - offset) bytes)) TooMany events end)
 
 -- The events and the end of a file of these bytes. Its lines are numbered from 1; the fault at the least byte ends it:
 -- the byte
--- that the file has too many; the byte that a line has too many; the newline, or the end of the file, behind a line of no
--- meaning, and behind the event that is one too many. Where two stand at one byte, the first of these ends it.
+-- that the file has too many; the byte that a line has too many; the newline, or the end of the file, behind a line of
+-- no meaning, and behind the event that is one too many. Where two stand at one byte, the first of these ends it.
 abbrev pub File : List ℕ → List Event → FileEnd → Type 0
 File bytes events end = FileFrom 1 0 0 bytes End events end
 

@@ -21,7 +21,8 @@ pub fn line_says_one_event()
 
 /// The line that is written for a lawful event says it, and is no longer than a line may be.
 pub fn written_line_says_its_event()
-    ensures { (event : Event) → IsLawful event → (length (line_for event) ≤ limits.MAX_LINE_BYTES) × IsLineOf (line_for event) event }
+    ensures { (event : Event) → IsLawful event → (length (line_for event) ≤ limits.MAX_LINE_BYTES)
+        × IsLineOf (line_for event) event }
 {}
 
 /// A file of the lines that are written for lawful events gives these events.
@@ -42,16 +43,17 @@ pub fn file_is_single_valued()
         → File bytes others other → (events ≡ others) × (end ≡ other) }
 {}
 
-/// Every file has a list of events and an end: with the law above, exactly one. The bytes from any place in a file on have them
-/// too, however they stop.
+/// Every file has a list of events and an end: with the law above, exactly one. The bytes from any place in a file on
+/// have them too, however they stop.
 pub fn every_file_has_a_reading()
     ensures whole_file { (bytes : List ℕ) → (events : List Event) × (end : FileEnd) × File bytes events end }
-    ensures from_any_place { (number given offset : ℕ) (bytes : List ℕ) (stop : Pulled) → (events : List Event) × (end : FileEnd)
+    ensures from_any_place { (number given offset : ℕ) (bytes : List ℕ) (stop : Pulled) → (events : List Event)
+        × (end : FileEnd)
         × FileFrom number given offset bytes stop events end }
 {}
 
-/// The fault at the least byte stands: one that is found before a read fault is that of the whole file, whatever else the file
-/// holds.
+/// The fault at the least byte stands: one that is found before a read fault is that of the whole file, whatever else
+/// the file holds.
 pub fn first_fault_stands()
     ensures { (bytes more : List ℕ) (events : List Event) (end : FileEnd)
         → FileFrom 1 0 0 bytes Pulled.Failed events end → end ≢ FileEnd.ReadFault

@@ -17,9 +17,9 @@ use std::marker::Model;
 
 /// The events of a file, read from a source.
 ///
-/// The first call of [`next`](Lines::next) pulls the source to its end, its first fault or the first byte that a file has too
-/// many, and keeps the bytes; the lines are cut from them as they are asked for. A contract sees a reader as a `Reading`: its
-/// source, where it stands, what it has taken, and the end that it has answered.
+/// The first call of [`next`](Lines::next) pulls the source to its end, its first fault or the first byte that a file
+/// has too many, and keeps the bytes; the lines are cut from them as they are asked for. A contract sees a reader as a
+/// `Reading`: its source, where it stands, what it has taken, and the end that it has answered.
 #[derive(Drop)]
 pub struct Lines<S: Source> {
     source: S,
@@ -52,7 +52,8 @@ impl<S: Source> Model for Lines<S> {
 
     ghost use Rattle.event_script.specs.ReaderKept.{IsReaderKept};
 
-    ghost invariant = { λ l. IsReaderKept l.bytes.items l.place l.taken l.first_faults l.stopped l.ended (S.state l.source) };
+    ghost invariant = { λ l. IsReaderKept l.bytes.items l.place l.taken l.first_faults l.stopped l.ended
+        (S.state l.source) };
 }
 
 impl<S: Source> Lines<S> {
@@ -174,14 +175,15 @@ impl<S: Source> Lines<S> {
 
     /// The next event, or how the file ended.
     ///
-    /// - The answers are the events and the end of `File` of the file's bytes, however the source cuts them, and before a read
-    ///   fault those of `FileToFault` of the bytes that were taken (`answer`, by its `moves`).
-    /// - Every event is lawful and has a line of its own, and an end has its cause: `End` comes only where the source has nothing
-    ///   left, and `ReadFault` only where its count of faults rose since [`new`](Lines::new) (`answer`, by its other fields).
+    /// - The answers are the events and the end of `File` of the file's bytes, however the source cuts them, and before
+    ///   a read fault those of `FileToFault` of the bytes that were taken (`answer`, by its `moves`).
+    /// - Every event is lawful and has a line of its own, and an end has its cause: `End` comes only where the source
+    ///   has nothing left, and `ReadFault` only where its count of faults rose since [`new`](Lines::new) (`answer`, by
+    ///   its other fields).
     /// - An end is answered again by each later call, which changes nothing (`again`).
     ///
-    /// After `NoMemory` the bytes that were taken are kept, so `taken` may have grown, and the later answers are as if that call
-    /// had not been made: `answer` holds of it with no event.
+    /// After `NoMemory` the bytes that were taken are kept, so `taken` may have grown, and the later answers are as if
+    /// that call had not been made: `answer` holds of it with no event.
     #[inline(always)]
     pub fn next(&mut self, alloc: Global) -> Result<Step, NoMemory>
         ensures answer { IsAnswer S.state self.old self.new result }

@@ -12,7 +12,8 @@ use stat_defs::{MAX_LABEL_BYTES, MAX_NAME_BYTES, Mode};
 // What stands behind those bytes, where they stand first.
 #[inline(always)]
 fn behind<'a>(text: &'a [u8], front: &[u8]) -> Option<&'a [u8]>
-    ensures { MatchOption result ((rest : List ℕ) → text.now ≢ front.now ++ rest) (λ rest. text.now ≡ front.now ++ rest.now) }
+    ensures { MatchOption result ((rest : List ℕ) → text.now ≢ front.now ++ rest)
+        (λ rest. text.now ≡ front.now ++ rest.now) }
 {
     text.strip_prefix(front)
 }
@@ -143,7 +144,8 @@ pub fn name_last(text: &[u8]) -> Option<(&[u8], &[u8])>
 
 // The text of a readout that the first line is, and what stands behind it.
 pub fn text_last(text: &[u8]) -> Option<(&[u8], &[u8])>
-    ensures { MatchOption result (LacksLine read_readout text.now) (λ p. HasLine read_readout text.now p.0.now p.1.now) }
+    ensures { MatchOption result (LacksLine read_readout text.now)
+        (λ p. HasLine read_readout text.now p.0.now p.1.now) }
 {
     let count = text_length(text);
     let after = &text[count..];

@@ -89,8 +89,8 @@ fn line_of_lengths(alloc: Global, label: usize, name: usize) -> Result<Vec<u8>, 
     Ok(line)
 }
 
-// Files and what they hold: rows parted by the byte 2, in each the file, the byte 1 and the answers, where each event stands as
-// the line that is written for it.
+// Files and what they hold: rows parted by the byte 2, in each the file, the byte 1 and the answers, where each event
+// stands as the line that is written for it.
 const FILES: &[u8] = b"\
 inc root a 3\ninc root a 4\n\x01inc root a 3|inc root a 4|end\x02\
 \x01end\x02\
@@ -286,8 +286,8 @@ fn repeated(alloc: Global, text: &[u8], count: usize) -> Result<Vec<u8>, NoMemor
     Ok(bytes)
 }
 
-// What a byte of a row stands for: 3 and 5 for 1,023 and 1,022 times `#`, 4 for 8,190 lines of the first, each of 1,024 bytes with
-// its newline, 6 for 131,072 events, and any other for itself.
+// What a byte of a row stands for: 3 and 5 for 1,023 and 1,022 times `#`, 4 for 8,190 lines of the first, each of 1,024
+// bytes with its newline, 6 for 131,072 events, and any other for itself.
 fn stands_for(alloc: Global, byte: u8) -> Result<Vec<u8>, NoMemory> {
     match byte {
         3 => bytes_of(alloc, b'#', 1_023),
@@ -354,7 +354,8 @@ fn assert_limits(
     Ok(())
 }
 
-// Rows parted by the byte 2: the file, how many events it gives and its end, and the same where the source fails behind its bytes.
+// Rows parted by the byte 2: the file, how many events it gives and its end, and the same where the source fails behind
+// its bytes.
 const LONG_LINES: &[u8] = b"\
 \x03#\n\x010 end\x010 read fault\x02\
 \x03##\n\x010 long 1\x010 long 1\x02\

@@ -1,5 +1,6 @@
 -- What is kept between the views of a report. This project's own.
-use Rattle.std.specs.Prelude.{◌≡◌, ◌<◌, ◌≤◌, ℕ, None, Some, List, fold, length, min, replicate, slice_get, slice_index, slice_range, take}
+use Rattle.std.specs.Prelude.{◌≡◌, ◌<◌, ◌≤◌, ℕ, None, Some, List, fold, length, min, replicate, slice_get, slice_index}
+use Rattle.std.specs.Prelude.{slice_range, take}
 use Rattle.std.specs.List.{flat_map}
 use Rattle.stat_defs.specs.declared.configs.Config.{Config}
 use Rattle.stat_defs.specs.declared.configs.TagSpec.{TagSpec}
@@ -15,7 +16,8 @@ use Rattle.flush_view.specs.declared.progress.Progress.{Progress}
 use Rattle.flush_view.specs.Replaying.{first_state, state_after}
 use Rattle.flush_view.specs.Rows.{Figures}
 use Rattle.flush_view.specs.Sums.{with_deltas, with_readings, with_parts}
-use Rattle.flush_view.specs.Views.{NumberedMetric, row_name, numbered_metrics, view_rules, ends_in, last_state, parts_on, merged_parts}
+use Rattle.flush_view.specs.Views.{NumberedMetric, row_name, numbered_metrics, view_rules, ends_in, last_state}
+use Rattle.flush_view.specs.Views.{parts_on, merged_parts}
 
 -- the book after the whole log of a report
 abbrev pub last_book : Config → Report → State

@@ -25,7 +25,8 @@ use Rattle.ledger.specs.Flushes.{Fits, ids_not_gone, id_of_reading}
 use Rattle.ledger.specs.Ledger.{RunPlan, HasHistory, Account, ReplayLedger, Direct}
 use Rattle.ledger.specs.OneReport.{without_ends, NoneFailed}
 use Rattle.flush_view.specs.ByName.{SortsByName}
-use Rattle.flush_view.specs.Views.{ViewRules, NumberedMetric, row_name, ends_in, state_before, last_state, metrics_shown, counter_row, histogram_row, parts_on, merged_parts, view, views}
+use Rattle.flush_view.specs.Views.{ViewRules, NumberedMetric, row_name, ends_in, state_before, last_state}
+use Rattle.flush_view.specs.Views.{metrics_shown, counter_row, histogram_row, parts_on, merged_parts, view, views}
 use Rattle.flush_view.specs.Symbols.{is_live_life}
 use Rattle.flush_view.specs.Output.{ViewText, output}
 

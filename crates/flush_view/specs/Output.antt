@@ -1,9 +1,11 @@
 -- The output of a run and of a replay. The form of its lines beginning with `#` is this project's own.
-use Rattle.std.specs.Prelude.{ℕ, suc, not, Bool, true, false, if◌then◌else◌, List, [], ◌∷◌, ◌++◌, length, map, count_by, sum_by, codes}
+use Rattle.std.specs.Prelude.{ℕ, suc, not, Bool, true, false, if◌then◌else◌, List, [], ◌∷◌, ◌++◌, length, map, count_by}
+use Rattle.std.specs.Prelude.{sum_by, codes}
 use Rattle.std.specs.List.{enumerate_from, flat_map}
 use Rattle.std.specs.Fmt.{decimal}
 use Rattle.stat_defs.specs.declared.history.Verdict.{Verdict}
-use Rattle.stat_defs.specs.declared.history.Verdict.TheVariants.{Accepted, Opened, Released, LabelTaken, NoScope, Rejected, OverLimit, NoRoom}
+use Rattle.stat_defs.specs.declared.history.Verdict.TheVariants.{Accepted, Opened, Released, LabelTaken, NoScope}
+use Rattle.stat_defs.specs.declared.history.Verdict.TheVariants.{Rejected, OverLimit, NoRoom}
 use Rattle.stat_defs.specs.declared.reports.ReadRecord.{ReadRecord}
 use Rattle.stat_defs.specs.declared.reports.Report.{Report}
 use Rattle.stat_defs.specs.declared.views.FlushView.{FlushView}

@@ -1,6 +1,7 @@
 -- What is asked of a report whose flushes are shown, and what callers see of views that are given one after another.
 -- This project's own.
-use Rattle.std.specs.Prelude.{◌≤◌, ◌<◌, ◌^◌, ℕ, suc, Bool, true, nat_lt, if◌then◌else◌, Option, List, length, map, sum_by}
+use Rattle.std.specs.Prelude.{◌≤◌, ◌<◌, ◌^◌, ℕ, suc, Bool, true, nat_lt, if◌then◌else◌, Option, List, length, map}
+use Rattle.std.specs.Prelude.{sum_by}
 use Rattle.std.specs.List.{flat_map, All, AllByRecursion}
 use Rattle.std.specs.List.Sorted.{IsNonDecreasing}
 use Rattle.stat_defs.specs.declared.bins.BinCount.{BinCount}

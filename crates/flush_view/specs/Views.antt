@@ -1,6 +1,7 @@
 -- What one flush of a report shows (Envoy's statistics overview: counters, gauges, histograms and text
 -- readouts at each flush; which of them have a row, and in which order, is this project's own).
-use Rattle.std.specs.Prelude.{◌≡◌, ℕ, suc, ◌==◌, ◌&&◌, ◌||◌, nat_lt, Bool, false, Option, Some, option_map, List, [], ◌∷◌, ◌++◌, map, filter, fold, take, slice_get, count_by, sum_by}
+use Rattle.std.specs.Prelude.{◌≡◌, ℕ, suc, ◌==◌, ◌&&◌, ◌||◌, nat_lt, Bool, false, Option, Some, option_map, List, []}
+use Rattle.std.specs.Prelude.{◌∷◌, ◌++◌, map, filter, fold, take, slice_get, count_by, sum_by}
 use Rattle.std.specs.Int.{w64, cast_signed}
 use Rattle.std.specs.List.{enumerate_from, flat_map, list_any}
 use Rattle.std.specs.Option.{option_map_or}

@@ -1,5 +1,7 @@
 //! Laws of views and outputs, which hold without any call. Each function does nothing.
-ghost use Rattle.flush_view.specs.Laws.{ViewOfEach, NoEndShown, OneOutput, IntervalOfValues, CumulativeOfAll, EndsOfWorkers, FlushesInLog, TotalsOfUnits, LastBinsOfAll, SumsRise, OneOrder, NumbersMade, NoneRetired};
+ghost use Rattle.flush_view.specs.Laws.{ViewOfEach, NoEndShown, OneOutput, IntervalOfValues, CumulativeOfAll};
+ghost use Rattle.flush_view.specs.Laws.{EndsOfWorkers, FlushesInLog, TotalsOfUnits, LastBinsOfAll, SumsRise, OneOrder};
+ghost use Rattle.flush_view.specs.Laws.{NumbersMade, NoneRetired};
 ghost use Rattle.flush_view.specs.Showing.{LedgersShow, ViewsHaveBins};
 
 /// A law: the views of all flushes are those of each flush.

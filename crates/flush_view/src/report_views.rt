@@ -61,7 +61,8 @@ fn replayed(
 ) -> Result<StateParts, NoMemory>
     requires { AreNext (first_state rules workers) log.now }
     ensures rules { IfOk result (λ parts. parts.rules ≡ rules) }
-    ensures metrics { IfOk result (λ parts. parts.metrics.items ≡ metrics_of (state_after rules workers log.now).state) }
+    ensures metrics { IfOk result (λ parts. parts.metrics.items
+        ≡ metrics_of (state_after rules workers log.now).state) }
 {
     let mut book = BookState::new(alloc, rules, workers)?;
     apply_all(alloc, &mut book, log)?;

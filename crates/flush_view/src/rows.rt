@@ -4,7 +4,8 @@ ghost use Rattle.stat_defs.specs.declared.ids.Kind.TheVariants as kind;
 ghost use Rattle.stat_defs.specs.Keys.{same_kind};
 ghost use Rattle.tag_rules.specs.Bounds.{bounds_for};
 ghost use Rattle.flush_view.specs.Views.{has_not_gone, text_row};
-ghost use Rattle.flush_view.specs.Rows.{picked, shows_counter, shows_histogram, counter_at, gauge_at, histogram_at, text_before};
+ghost use Rattle.flush_view.specs.Rows.{picked, shows_counter, shows_histogram, counter_at, gauge_at, histogram_at};
+ghost use Rattle.flush_view.specs.Rows.{text_before};
 
 use crate::copies::copy_of_tagged;
 use crate::naming::{NumberedMetric, is_of_kind};

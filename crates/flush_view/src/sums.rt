@@ -3,7 +3,8 @@ ghost use Rattle.std.specs.Prelude.{◌≡◌, ◌≤◌, ◌+◌, None, IfOk, O
 ghost use Rattle.loglinear_bins.specs.declared.place.TheConstants.{MAX_COUNT};
 ghost use Rattle.loglinear_bins.specs.Counts.{AreLawful, IsBinList, merged, total};
 ghost use Rattle.merge_round.specs.Slots.{held, bins_at, is_warm_at};
-ghost use Rattle.flush_view.specs.Sums.{added_at, with_deltas, with_readings, with_part, with_parts, HasRoomFor, HasRoomForAll};
+ghost use Rattle.flush_view.specs.Sums.{added_at, with_deltas, with_readings, with_part, with_parts, HasRoomFor};
+ghost use Rattle.flush_view.specs.Sums.{HasRoomForAll};
 
 use loglinear_bins::Bins;
 use stat_defs::{BinCount, BinList, Delta, List, MetricId, NoMemory, Part, Reading};

@@ -4,7 +4,8 @@ ghost use Rattle.book_state.specs.Follows.{key_in};
 ghost use Rattle.book_state.specs.Worked as worked;
 ghost use Rattle.ledger.specs.Worked as told;
 ghost use Rattle.flush_view.specs.Showing.{IsShowable};
-ghost use Rattle.flush_view.specs.Tried.{plain_config, tried_makes, tried_sweeps, tried_flushes, tried_part, tried_report};
+ghost use Rattle.flush_view.specs.Tried.{plain_config, tried_makes, tried_sweeps, tried_flushes, tried_part};
+ghost use Rattle.flush_view.specs.Tried.{tried_report};
 ghost use Rattle.flush_view.specs.WorkedRows.{makes_numbered, sets_readout};
 
 use crate::{ReportViews, flush_view};

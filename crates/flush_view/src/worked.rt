@@ -1,8 +1,11 @@
 //! Worked views and outputs, which are computed from the definitions. Each is a law, and its function does
 //! nothing.
 ghost use Rattle.std.specs.Prelude.{[], codes};
-ghost use Rattle.ledger.specs.Worked.{of_increments, of_subtraction, of_gauge_moves, of_released, of_shared, of_values_and_texts};
-ghost use Rattle.flush_view.specs.Worked.{IsShown, TwoShown, view_of_increments, view_of_subtraction, view_of_gauge_moves, view_of_released, view_of_shared, view_of_values_and_texts, symbols_of_values_and_texts};
+ghost use Rattle.ledger.specs.Worked.{of_increments, of_subtraction, of_gauge_moves, of_released, of_shared};
+ghost use Rattle.ledger.specs.Worked.{of_values_and_texts};
+ghost use Rattle.flush_view.specs.Worked.{IsShown, TwoShown, view_of_increments, view_of_subtraction};
+ghost use Rattle.flush_view.specs.Worked.{view_of_gauge_moves, view_of_released, view_of_shared};
+ghost use Rattle.flush_view.specs.Worked.{view_of_values_and_texts, symbols_of_values_and_texts};
 ghost use Rattle.flush_view.specs.WorkedRows.{GoneAndMadeAgain, RetiredShown, TextsAndParts, NamesInOrder};
 
 /// A worked view: two increments of one counter show 7 units, and its symbol.

@@ -12,8 +12,8 @@ mod tests;
 
 /// Values, oldest first. The list takes no memory, and its calls do nothing when they run.
 ///
-/// The items are ghost data, which nothing that runs can read. A clause on them alone says nothing of what ran: what they mean is
-/// fixed by the invariant and the clauses of the type that holds the list.
+/// The items are ghost data, which nothing that runs can read. A clause on them alone says nothing of what ran: what
+/// they mean is fixed by the invariant and the clauses of the type that holds the list.
 #[derive(Drop)]
 pub struct GhostList<T> {
     marker: PhantomData<T>,

@@ -1,5 +1,6 @@
 -- What one flush of a report shows. This project's own.
-use Rattle.std.specs.Prelude.{◌≡◌, ℕ, suc, ◌==◌, ◌&&◌, if◌then◌else◌, not, Bool, false, Some, option_map, List, length, map, take, slice_get, sum_by}
+use Rattle.std.specs.Prelude.{◌≡◌, ℕ, suc, ◌==◌, ◌&&◌, if◌then◌else◌, not, Bool, false, Some, option_map, List, length}
+use Rattle.std.specs.Prelude.{map, take, slice_get, sum_by}
 use Rattle.stat_defs.specs.declared.ids.Kind.{Kind}
 use Rattle.stat_defs.specs.declared.ids.Kind.TheVariants.{Counter, Gauge}
 use Rattle.stat_defs.specs.declared.ids.MetricId.{MetricId}
@@ -36,7 +37,8 @@ id_of_reading reading = reading.id
 
 -- A flush whose sweep stands in this log, and which took these segments, one of each worker. `last` tells whether it
 -- is the last.
-pub record Fits (rules : NameRules) (log : List Entry) (last : Bool) (segs : List (List Recording)) (flush : FlushRecord)
+pub record Fits (rules : NameRules) (log : List Entry) (last : Bool) (segs : List (List Recording))
+    (flush : FlushRecord)
     : Type 0 where
   -- the entry at its place is a sweep
   pub sweep : option_map (λ e. e.call) (slice_get log flush.at) ≡ Some call.Sweep

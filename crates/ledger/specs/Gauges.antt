@@ -1,6 +1,8 @@
 -- What the last word of a gauge can be, as far as the order of one worker's events tells it (Envoy's statistics
 -- overview: gauges are added to, subtracted from and set; words of 64 bits and their order are this project's own).
-use Rattle.std.specs.Prelude.{◌≡◌, ◌≤◌, ℕ, ◌+◌, ◌-◌, ◌%◌, ◌^◌, ◌==◌, if◌then◌else◌, not, Bool, true, false, Option, None, Some, is_some, List, [], ◌∷◌, length, map, fold, filter, sum_by, filter_map, Contains}
+use Rattle.std.specs.Prelude.{◌≡◌, ◌≤◌, ℕ, ◌+◌, ◌-◌, ◌%◌, ◌^◌, ◌==◌, if◌then◌else◌, not, Bool, true, false, Option}
+use Rattle.std.specs.Prelude.{None, Some, is_some, List, [], ◌∷◌, length, map, fold, filter, sum_by, filter_map}
+use Rattle.std.specs.Prelude.{Contains}
 use Rattle.std.specs.List.{list_all, flat_map}
 use Rattle.stat_defs.specs.declared.events.GaugeOp.{GaugeOp}
 use Rattle.stat_defs.specs.declared.events.GaugeOp.TheVariants.{Add, Sub, Set}

@@ -1,5 +1,6 @@
 -- How what a report says grows by one event, by log entries and by one flush at the end. This project's own.
-use Rattle.std.specs.Prelude.{◌≡◌, ◌≤◌, ◌<◌, ℕ, suc, ◌+◌, if◌then◌else◌, Bool, true, false, Option, None, Some, List, [], ◌∷◌, ◌++◌, length, map, filter, take, slice_get, option_to_list}
+use Rattle.std.specs.Prelude.{◌≡◌, ◌≤◌, ◌<◌, ℕ, suc, ◌+◌, if◌then◌else◌, Bool, true, false, Option, None, Some, List}
+use Rattle.std.specs.Prelude.{[], ◌∷◌, ◌++◌, length, map, filter, take, slice_get, option_to_list}
 use Rattle.std.specs.Option.{option_map_or}
 use Rattle.std.specs.List.{zip, flat_map, AllByRecursion}
 use Rattle.stat_defs.specs.declared.configs.ScopeSpec.{ScopeSpec}
@@ -21,15 +22,18 @@ use Rattle.book_state.specs.Step.{change_at}
 use Rattle.book_state.specs.Log.{openings, replay}
 use Rattle.book_state.specs.Follows.{FollowsSoFar}
 use Rattle.ledger.specs.Lists.{EachNumbered}
-use Rattle.ledger.specs.Work.{Work, Recording, events_in, verdicts_in, work_of, together, units_in, units_of, recording_in, recordings}
+use Rattle.ledger.specs.Work.{Work, Recording, events_in, verdicts_in, work_of, together, units_in, units_of}
+use Rattle.ledger.specs.Work.{recording_in, recordings}
 use Rattle.ledger.specs.Gauges.{GaugeMove, move_in, movers, all_moves, word_after, word_of_moves, gauge_word, GaugeFits}
 use Rattle.ledger.specs.Segments.{taken_from, segments, left_over, TakesLess, taken_now, segment_of, bins_by_worker}
-use Rattle.ledger.specs.Flushes.{ids_made, ids_not_gone, counters_shown, id_of_delta, id_of_reading, Fits, FitSoFar, FitAll, flushed, flushed_in}
+use Rattle.ledger.specs.Flushes.{ids_made, ids_not_gone, counters_shown, id_of_delta, id_of_reading, Fits, FitSoFar}
+use Rattle.ledger.specs.Flushes.{FitAll, flushed, flushed_in}
 use Rattle.ledger.specs.Ledger.{RunPlan, Account}
 
 -- the work of files that each have as many verdicts as events
 pub record WorkGrows : Type 0 where
-  pub event : (events : List Event) (verdicts : List Verdict) (e : Event) (v : Verdict) → length verdicts ≡ length events
+  pub event : (events : List Event) (verdicts : List Verdict) (e : Event) (v : Verdict) → length verdicts
+      ≡ length events
       → work_of (events ++ e ∷ [], verdicts ++ v ∷ []) ≡ work_of (events, verdicts) ++ (e, v) ∷ []
   pub events : (events : List Event) (verdicts : List Verdict) → length verdicts ≡ length events
       → events_in (work_of (events, verdicts)) ≡ events

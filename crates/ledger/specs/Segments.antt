@@ -1,6 +1,7 @@
 -- A worker's recordings, cut by what each flush took of them (Envoy's statistics overview: each flush interval of a
 -- histogram has values of its own; workers and segments are this project's own).
-use Rattle.std.specs.Prelude.{ℕ, zero, suc, ◌≤◌, ◌==◌, if◌then◌else◌, List, [], ◌∷◌, length, map, take, drop, sum_by, get_or}
+use Rattle.std.specs.Prelude.{ℕ, zero, suc, ◌≤◌, ◌==◌, if◌then◌else◌, List, [], ◌∷◌, length, map, take, drop, sum_by}
+use Rattle.std.specs.Prelude.{get_or}
 use Rattle.stat_defs.specs.declared.bins.BinCount.{BinCount}
 use Rattle.stat_defs.specs.declared.reports.Part.{Part}
 use Rattle.stat_defs.specs.declared.reports.FlushRecord.{FlushRecord}

@@ -20,7 +20,8 @@ use Rattle.stat_defs.specs.declared.reports.WorkerEnd.{WorkerEnd}
 use Rattle.stat_defs.specs.declared.reports.Report.{Report}
 use Rattle.event_script.specs.Grammar.{lines_for}
 use Rattle.book_state.specs.Log.{openings, replay}
-use Rattle.book_state.specs.Worked.{plain, root_alone, ends, sweeps, shared_verdicts, shared, released_verdicts, swept_last}
+use Rattle.book_state.specs.Worked.{plain, root_alone, ends, sweeps, shared_verdicts, shared, released_verdicts}
+use Rattle.book_state.specs.Worked.{swept_last}
 use Rattle.ledger.specs.Work.{Work, apart}
 use Rattle.ledger.specs.Gauges.{IsLastWord}
 use Rattle.ledger.specs.Ledger.{RunPlan, AreRead, HasHistory, AreSwept, Account, AreShown, RunLedger, ReplayLedger}

@@ -1,6 +1,7 @@
 //! Laws of ledgers, which hold without any call. Each function does nothing.
 ghost use Rattle.ledger.specs.OneReport.{OneReply, OneWay, OneReport, OneDirect};
-ghost use Rattle.ledger.specs.Laws.{WorkGrows, UnitsGrow, WordsGrow, SegmentsGrow, FitsGrow, FlushAtSweep, PartsTake, OneWorkerAccounts, NamesShown, FollowsFromOpenings};
+ghost use Rattle.ledger.specs.Laws.{WorkGrows, UnitsGrow, WordsGrow, SegmentsGrow, FitsGrow, FlushAtSweep, PartsTake};
+ghost use Rattle.ledger.specs.Laws.{OneWorkerAccounts, NamesShown, FollowsFromOpenings};
 
 /// A law: the work of a file grows by one event with its verdict, and that of a replay by one file.
 pub fn work_grows()

@@ -1,6 +1,10 @@
 //! Worked reports, which are computed from the definitions. Each is a law, and its function does nothing.
 ghost use Rattle.book_state.specs.Worked.{shared_events, released_events};
-ghost use Rattle.ledger.specs.Worked.{plain_plan, plan_of_reading, IsReported, increments, of_increments, subtraction, of_subtraction, gauge_moves as moves, of_gauge_moves, of_shared, of_released, ValuesAndTexts, with_reading, without_end, number_passed_over, ended_late, unit_lost, FirstAloneBroken, SecondAloneBroken, ThirdAloneBroken, FourthAloneBroken, FifthAloneBroken, TwoWorkers, GaugeCases};
+ghost use Rattle.ledger.specs.Worked.{plain_plan, plan_of_reading, IsReported, increments, of_increments, subtraction};
+ghost use Rattle.ledger.specs.Worked.{of_subtraction, gauge_moves as moves, of_gauge_moves, of_shared, of_released};
+ghost use Rattle.ledger.specs.Worked.{ValuesAndTexts, with_reading, without_end, number_passed_over, ended_late};
+ghost use Rattle.ledger.specs.Worked.{unit_lost, FirstAloneBroken, SecondAloneBroken, ThirdAloneBroken};
+ghost use Rattle.ledger.specs.Worked.{FourthAloneBroken, FifthAloneBroken, TwoWorkers, GaugeCases};
 
 /// A worked report: two increments of one counter, 3 and 4, give one delta of 7.
 pub fn two_increments()

@@ -29,7 +29,8 @@ impl Tally {
     }
 
     pub fn push(&mut self, number: u32) -> Result<(), NoMemory>
-        ensures { MatchResult result (λ _. self.new.words.items ≡ self.old.words.items ++ number ∷ []) (λ _. self.new.words.items ≡ self.old.words.items) }
+        ensures { MatchResult result (λ _. self.new.words.items ≡ self.old.words.items ++ number ∷ [])
+            (λ _. self.new.words.items ≡ self.old.words.items) }
     {
         self.words.push(u64::from(number))?;
         Ok(())

@@ -72,8 +72,10 @@ fn push_by<R: Threads + Wait + Sync>(
     shape: Shape,
     times: u32,
 ) -> (Pair, Pair)
-    requires low { AtRest (lock_id lock.now) low.0 × (seat_number low.0 ≡ 0) × AtRest (lock_id lock.now) low.1 × (seat_number low.1 ≡ 1) }
-    requires high { AtRest (lock_id lock.now) high.0 × (seat_number high.0 ≡ 2) × AtRest (lock_id lock.now) high.1 × (seat_number high.1 ≡ 3) }
+    requires low { AtRest (lock_id lock.now) low.0 × (seat_number low.0 ≡ 0) × AtRest (lock_id lock.now) low.1
+        × (seat_number low.1 ≡ 1) }
+    requires high { AtRest (lock_id lock.now) high.0 × (seat_number high.0 ≡ 2) × AtRest (lock_id lock.now) high.1
+        × (seat_number high.1 ≡ 3) }
     ensures low { AtRest (lock_id lock.now) result.0.0 × AtRest (lock_id lock.now) result.0.1 }
     ensures high { AtRest (lock_id lock.now) result.1.0 × AtRest (lock_id lock.now) result.1.1 }
 {
@@ -94,8 +96,10 @@ fn push_by_four<R: Threads + Wait + Sync>(
     high: Pair,
     times: u32,
 ) -> (Pair, Pair)
-    requires low { AtRest (lock_id lock.now) low.0 × (seat_number low.0 ≡ 0) × AtRest (lock_id lock.now) low.1 × (seat_number low.1 ≡ 1) }
-    requires high { AtRest (lock_id lock.now) high.0 × (seat_number high.0 ≡ 2) × AtRest (lock_id lock.now) high.1 × (seat_number high.1 ≡ 3) }
+    requires low { AtRest (lock_id lock.now) low.0 × (seat_number low.0 ≡ 0) × AtRest (lock_id lock.now) low.1
+        × (seat_number low.1 ≡ 1) }
+    requires high { AtRest (lock_id lock.now) high.0 × (seat_number high.0 ≡ 2) × AtRest (lock_id lock.now) high.1
+        × (seat_number high.1 ≡ 3) }
     ensures low { AtRest (lock_id lock.now) result.0.0 × AtRest (lock_id lock.now) result.0.1 }
     ensures high { AtRest (lock_id lock.now) result.1.0 × AtRest (lock_id lock.now) result.1.1 }
 {
@@ -104,11 +108,13 @@ fn push_by_four<R: Threads + Wait + Sync>(
     join(
         rt,
         move || -> Pair
-            requires { AtRest (lock_id lock.now) first × (seat_number first ≡ 0) × AtRest (lock_id lock.now) second × (seat_number second ≡ 1) }
+            requires { AtRest (lock_id lock.now) first × (seat_number first ≡ 0) × AtRest (lock_id lock.now) second
+                × (seat_number second ≡ 1) }
             ensures { AtRest (lock_id lock.entry.now) result.0 × AtRest (lock_id lock.entry.now) result.1 }
         { push_by_two(rt, lock, (first, second), (0, 1), times) },
         move || -> Pair
-            requires { AtRest (lock_id lock.now) third × (seat_number third ≡ 2) × AtRest (lock_id lock.now) fourth × (seat_number fourth ≡ 3) }
+            requires { AtRest (lock_id lock.now) third × (seat_number third ≡ 2) × AtRest (lock_id lock.now) fourth
+                × (seat_number fourth ≡ 3) }
             ensures { AtRest (lock_id lock.entry.now) result.0 × AtRest (lock_id lock.entry.now) result.1 }
         { push_by_two(rt, lock, (third, fourth), (2, 3), times) },
     )

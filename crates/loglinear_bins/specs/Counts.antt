@@ -1,11 +1,13 @@
 -- Lists of bins with their counts, rising and without empty bins, and what a histogram tells of them
 -- (Envoy's histograms over circllhist; thousandths and twentieths are this project's own units).
-use Rattle.std.specs.Prelude.{◌≡◌, ℕ, zero, suc, ◌+◌, ◌-◌, ◌*◌, ◌/◌, ◌==◌, nat_le, nat_lt, if◌then◌else◌, List, [], ◌∷◌, Option, Some, None, IsTrue, map, fold, sum_by, count_by}
+use Rattle.std.specs.Prelude.{◌≡◌, ℕ, zero, suc, ◌+◌, ◌-◌, ◌*◌, ◌/◌, ◌==◌, nat_le, nat_lt, if◌then◌else◌, List, [], ◌∷◌}
+use Rattle.std.specs.Prelude.{Option, Some, None, IsTrue, map, fold, sum_by, count_by}
 use Rattle.std.specs.List.{list_all}
 use Rattle.std.specs.List.Sorted.{IsStrictlyIncreasing}
 use Rattle.stat_defs.specs.declared.bins.Bin.{Bin}
 use Rattle.stat_defs.specs.declared.bins.BinCount.{BinCount}
-use Rattle.loglinear_bins.specs.Bins.{bin_of_value, is_lawful, is_same, low_tenths, low_thousandths, width_thousandths, largest_whole, mark_twentieths}
+use Rattle.loglinear_bins.specs.Bins.{bin_of_value, is_lawful, is_same, low_tenths, low_thousandths, width_thousandths}
+use Rattle.loglinear_bins.specs.Bins.{largest_whole, mark_twentieths}
 
 -- each bin is one that values of 64 bits meet
 abbrev pub AreLawful : List BinCount → Type 0

@@ -1,5 +1,6 @@
 -- The table of counts: the place of a bin, the bin at a place, and the bins that a table holds. This project's own.
-use Rattle.std.specs.Prelude.{◌≡◌, ◌≤◌, ◌<◌, get_or, ℕ, pos, zero, suc, ◌+◌, ◌-◌, ◌*◌, ◌/◌, ◌%◌, nat_lt, if◌then◌else◌, List, [], ◌∷◌, length, sum}
+use Rattle.std.specs.Prelude.{◌≡◌, ◌≤◌, ◌<◌, get_or, ℕ, pos, zero, suc, ◌+◌, ◌-◌, ◌*◌, ◌/◌, ◌%◌, nat_lt, if◌then◌else◌}
+use Rattle.std.specs.Prelude.{List, [], ◌∷◌, length, sum}
 use Rattle.stat_defs.specs.declared.bins.Bin.{Bin}
 use Rattle.stat_defs.specs.declared.bins.BinCount.{BinCount}
 use Rattle.loglinear_bins.specs.declared.place.TheConstants.{BIN_COUNT, MAX_COUNT}

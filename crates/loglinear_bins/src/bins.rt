@@ -1,7 +1,8 @@
 //! The counts of a histogram.
 ghost use Rattle.std.specs.Prelude.{◌≡◌, ◌+◌, ◌<◌, ◌≤◌, ◌↔◌, IfOk, IsNone, IsTrue, []};
 ghost use Rattle.loglinear_bins.specs.Bins.{bin_of_value, is_lawful};
-ghost use Rattle.loglinear_bins.specs.Counts.{AreLawful, IsBinList, total, added, merged, count_at_most, sum_of, value_at, quantile_of};
+ghost use Rattle.loglinear_bins.specs.Counts.{AreLawful, IsBinList, total, added, merged, count_at_most, sum_of};
+ghost use Rattle.loglinear_bins.specs.Counts.{value_at, quantile_of};
 
 use crate::digits::bin_of;
 use crate::measures::{count_at_bound, sum_at, value_within};

@@ -62,7 +62,8 @@ fn digits_after_first(v: u64) -> usize
     }
 }
 
-/// The bin of a value: its first two decimal digits, or ten times its one digit, and how many digits follow the first one.
+/// The bin of a value: its first two decimal digits, or ten times its one digit, and how many digits follow the first
+/// one.
 pub fn bin_of(v: u64) -> Bin
     ensures bin { result ≡ bin_of_value v }
     ensures lawful { IsTrue (is_lawful result) }

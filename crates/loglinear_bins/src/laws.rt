@@ -25,8 +25,9 @@ pub fn merge_law()
         → AreBinsOf others more → AreBinsOf (merged counts others) (values ++ more) }
 {}
 
-/// The bins of a list of values are a function of it: one value more is one more in its bin, each bin counts the values that it
-/// has, and of 64-bit values they are a list of rising bins without empty ones, which merged into no values is itself.
+/// The bins of a list of values are a function of it: one value more is one more in its bin, each bin counts the values
+/// that it has, and of 64-bit values they are a list of rising bins without empty ones, which merged into no values is
+/// itself.
 pub fn values_law()
     ensures more { (values : List ℕ) (v : ℕ) → added (bins_of values) (bin_of_value v) 1 ≡ bins_of (values ++ v ∷ []) }
     ensures each { (values : List ℕ) → AreBinsOf (bins_of values) values }

@@ -1,6 +1,8 @@
 //! Where a bin lies among the numbers: its low end, width, largest whole number and middle.
 ghost use Rattle.std.specs.Prelude.{◌≡◌, ◌+◌, ◌*◌, ◌/◌, ◌^◌, ◌<◌, ◌≤◌, IsTrue, nat_le, if◌then◌else◌};
-ghost use Rattle.loglinear_bins.specs.Bins.{steps, is_lawful, low_thousandths as the_low, width_thousandths as the_width, largest_whole as the_largest, mark_twentieths as the_mark};
+ghost use Rattle.loglinear_bins.specs.Bins.{steps, is_lawful, low_thousandths as the_low};
+ghost use Rattle.loglinear_bins.specs.Bins.{width_thousandths as the_width, largest_whole as the_largest};
+ghost use Rattle.loglinear_bins.specs.Bins.{mark_twentieths as the_mark};
 ghost use Rattle.loglinear_bins.specs.Table.{bin_at as the_bin};
 
 use crate::digits::power_of_ten;

@@ -29,12 +29,14 @@ Applies old e v new = Adds old (MakesAcked 1 (state_of old) e v) new
 
 -- all releases are acknowledged: they were, or are now
 abbrev pub Acknowledges : BookHistory → BookHistory → Type 0
-Acknowledges old new = (((state_of old).releases ≤ tag_of (state_of old) 1) × (new ≡ old)) ⊎ Logged old 1 call.Ack (reply.Acked (state_of old).releases) new
+Acknowledges old new = (((state_of old).releases ≤ tag_of (state_of old) 1) × (new ≡ old))
+    ⊎ Logged old 1 call.Ack (reply.Acked (state_of old).releases) new
 
 -- the verdict on a key is the one that is held; where none is held, that of one find
 abbrev pub Judges : BookHistory → Key → Verdict → BookHistory → Type 0
 Judges old key v new =
-    ((held_verdict (state_of old) 1 key ≡ Some v) × (new ≡ old)) ⊎ ((held_verdict (state_of old) 1 key ≡ None) × Answers old 1 (call.Find key) v new)
+    ((held_verdict (state_of old) 1 key ≡ Some v) × (new ≡ old))
+        ⊎ ((held_verdict (state_of old) 1 key ≡ None) × Answers old 1 (call.Find key) v new)
 
 -- an accepted text is set, and nothing else is done
 abbrev pub Sets : BookHistory → List ℕ → Verdict → BookHistory → Type 0

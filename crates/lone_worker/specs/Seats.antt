@@ -25,7 +25,8 @@ pub record IsSeated (book : BookHistory) (cached : List Held) (tag : ℕ) : Type
 abbrev pub Sits : Seat → Type 0
 Sits seat = IsSeated seat.book seat.cache.entries seat.tag
 
--- what each call keeps, refused or not: the seat, the configuration, and that it opened no more than this number of scopes
+-- what each call keeps, refused or not: the seat, the configuration, and that it opened no more than this number of
+-- scopes
 pub record Keeps (opened : ℕ) (old new : Seat) : Type 0 where
   pub sits : Sits new
   pub config : new.book.config ≡ old.book.config
@@ -46,7 +47,8 @@ MaySet s _ = Unit {0}
 
 -- an accepted verdict names a metric of the key's kind that is not gone
 abbrev pub NamesLive : State → Key → Verdict → Type 0
-NamesLive s key (Accepted id) = IsSomeAnd (slice_get s.metrics id.0) (λ row. (row.metric.kind ≡ key.kind) × (is_gone row.metric.life ≡ false))
+NamesLive s key (Accepted id) = IsSomeAnd (slice_get s.metrics id.0)
+    (λ row. (row.metric.kind ≡ key.kind) × (is_gone row.metric.life ≡ false))
 NamesLive s key _ = Unit {0}
 
 -- so does an event's, for its key

@@ -8,8 +8,8 @@ use Rattle.book_state.specs.Follows.{FollowsSoFar, Follows}
 use Rattle.stat_book.specs.Calls.{rules_of, new_book}
 use Rattle.lone_worker.specs.Entries.{Applies}
 
--- its book; the events that it decided, with their verdicts; whether its seat has ended; and whether each entry of its seat
--- is one of these events, since no event was cut short by want of memory
+-- its book; the events that it decided, with their verdicts; whether its seat has ended; and whether each entry of its
+-- seat is one of these events, since no event was cut short by want of memory
 pub record WorkerHistory : Type 0 where
   pub book : BookHistory
   pub events : List Event

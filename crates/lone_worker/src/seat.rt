@@ -39,7 +39,8 @@ fn acknowledge_all(seat: &mut Seat, alloc: Global) -> Result<(), NoMemory>
     requires sits { Sits seat.old }
     requires due { tag_of (state_of seat.old.book) 1 < (state_of seat.old.book).releases }
     ensures keeps { Keeps 0 seat.old seat.new }
-    ensures ok { OnOk result (Logged seat.old.book 1 call.Ack (reply.Acked (state_of seat.old.book).releases) seat.new.book) }
+    ensures ok { OnOk result (Logged seat.old.book 1 call.Ack
+        (reply.Acked (state_of seat.old.book).releases) seat.new.book) }
 {
     let _log = seat.book.log();
     let acked = seat.book.ack(alloc, SEAT)?;
@@ -103,7 +104,8 @@ fn find_anew(seat: &mut Seat, alloc: Global, query: &Query<'_>) -> Result<Verdic
     requires name { IsLocalName query.now.name.now }
     requires free { held_under (asked query.now) seat.old.cache.entries ≡ None }
     ensures keeps { Keeps 0 seat.old seat.new }
-    ensures step { IfOk result (λ verdict. Answers seat.old.book 1 (call.Find (asked query.now)) verdict seat.new.book) }
+    ensures step { IfOk result (λ verdict. Answers seat.old.book 1
+        (call.Find (asked query.now)) verdict seat.new.book) }
     ensures held { IfOk result (λ verdict. IsHeldNow (state_of seat.new.book) (asked query.now) verdict) }
 {
     let key = key_of(alloc, query)?;
@@ -141,8 +143,10 @@ pub(crate) fn judge_key(
     requires sits { Sits seat.old }
     requires name { IsLocalName name.now }
     ensures keeps { Keeps 0 seat.old seat.new }
-    ensures judged { IfOk result (λ verdict. Judges seat.old.book (key_in label.now kind mode name.now) verdict seat.new.book) }
-    ensures held { IfOk result (λ verdict. IsHeldNow (state_of seat.new.book) (key_in label.now kind mode name.now) verdict) }
+    ensures judged { IfOk result (λ verdict. Judges seat.old.book
+        (key_in label.now kind mode name.now) verdict seat.new.book) }
+    ensures held { IfOk result (λ verdict. IsHeldNow (state_of seat.new.book)
+        (key_in label.now kind mode name.now) verdict) }
 {
     let query = Query {
         label,

@@ -25,7 +25,8 @@ fn open(seat: &mut Seat, alloc: Global, label: &[u8], prefix: &[u8]) -> Result<V
     requires room { openings_by 1 seat.old.book.log < MAX_OPENINGS }
     ensures keeps { Keeps 1 seat.old seat.new }
     ensures err { OnErr result (Keeps 0 seat.old seat.new) }
-    ensures step { IfOk result (λ verdict. Answers seat.old.book 1 (call.OpenScope label.now prefix.now) verdict seat.new.book) }
+    ensures step { IfOk result (λ verdict. Answers seat.old.book 1
+        (call.OpenScope label.now prefix.now) verdict seat.new.book) }
 {
     let label = Txt::of(alloc, label)?;
     let prefix = Txt::of(alloc, prefix)?;
@@ -77,7 +78,8 @@ fn set_readout(
     ensures keeps { Keeps 0 seat.old seat.new }
     ensures added { IfOk result (λ verdict. AddsEvent seat.old.book (event.SetText label.now name.now text.now) verdict
         seat.new.book) }
-    ensures held { IfOk result (λ verdict. IsHeldNow (state_of seat.new.book) (key_in label.now kind.Text Uninit name.now)
+    ensures held { IfOk result (λ verdict. IsHeldNow (state_of seat.new.book)
+        (key_in label.now kind.Text Uninit name.now)
         verdict) }
 {
     let verdict = judge_key(seat, alloc, label, Kind::Text, Mode::Uninit, name)?;

@@ -28,8 +28,8 @@ use thread_cache::Cache;
 /// A worker is given fewer events.
 pub const MAX_EVENTS: usize = 4_194_304;
 
-/// The one worker of a book of its own. Contracts see it as its book, the events that it decided with their verdicts, whether
-/// its seat has ended, and whether none of its events was cut short by want of memory.
+/// The one worker of a book of its own. Contracts see it as its book, the events that it decided with their verdicts,
+/// whether its seat has ended, and whether none of its events was cut short by want of memory.
 #[derive(Drop)]
 pub struct LoneWorker {
     pub(crate) seat: Seat,
@@ -62,8 +62,8 @@ fn with_event(events: &GhostList<Event>, event: &EventRef<'_>) -> GhostList<Even
 }
 
 impl LoneWorker {
-    /// A worker of a new book. The rules and the matcher are those that were built from the configuration. Its tables are
-    /// hashed under the fixed key.
+    /// A worker of a new book. The rules and the matcher are those that were built from the configuration. Its tables
+    /// are hashed under the fixed key.
     pub fn new(
         alloc: Global,
         config: &Config,
@@ -105,8 +105,8 @@ impl LoneWorker {
         })
     }
 
-    /// Decides an event. All releases are acknowledged first. A key that the seat holds is decided by what is held, with
-    /// one look-up and without memory, and any other by one find; an accepted text is set besides.
+    /// Decides an event. All releases are acknowledged first. A key that the seat holds is decided by what is held,
+    /// with one look-up and without memory, and any other by one find; an accepted text is set besides.
     pub fn decide(&mut self, alloc: Global, event: &Event) -> Result<Verdict, NoMemory>
         requires lawful { IsLawfulEvent event.now }
         requires few { length self.old.events < MAX_EVENTS }
@@ -140,7 +140,8 @@ impl LoneWorker {
 
     /// Makes the retired metrics gone whose releases the seat has acknowledged, or all of them once it has ended.
     pub fn sweep(&mut self, alloc: Global) -> Result<Swept, NoMemory>
-        ensures step { IfOk result (λ swept. Logged self.old.book 0 call.Sweep (reply.Swept (length swept.gone)) self.new.book) }
+        ensures step { IfOk result (λ swept. Logged self.old.book 0 call.Sweep
+            (reply.Swept (length swept.gone)) self.new.book) }
         ensures list { IfOk result (λ swept. swept.list ≡ names_in (state_of self.old.book)) }
         ensures gone { IfOk result (λ swept. swept.gone ≡ overdue_in (state_of self.old.book)) }
         ensures rest { OnOk result (self.new ≡ record self.old { book = self.new.book }) }
@@ -162,7 +163,8 @@ impl LoneWorker {
         Ok(())
     }
 
-    /// All calls of the book so far, with their replies. Those of the seat are those of its events, where none was cut short.
+    /// All calls of the book so far, with their replies. Those of the seat are those of its events, where none was cut
+    /// short.
     pub fn log(&self) -> &[Entry]
         ensures log { result.now ≡ self.now.book.log }
         ensures one_worker { self.now.book.workers ≡ 1 }

@@ -11,8 +11,8 @@ use std::marker::Model;
 /// The most values of a half.
 pub const MAX_HALF_COUNT: u64 = 1 << 23;
 
-/// The values that a worker recorded since its half was empty, as the bins of each histogram. A histogram is warm where the half
-/// has a table for it, which stays.
+/// The values that a worker recorded since its half was empty, as the bins of each histogram. A histogram is warm where
+/// the half has a table for it, which stays.
 #[derive(Drop)]
 pub struct Half {
     pub(crate) tables: Tables,

@@ -6,12 +6,14 @@ ghost use Rattle.merge_round.specs.Rounds.{both};
 use crate::half::Half;
 use crate::parents::Parents;
 
-/// The bins of a half are a function of the list of what was recorded in it, each value with its histogram: one value more lengthens
-/// the list at its end. And the first half that is taken in a round gives its own bins.
+/// The bins of a half are a function of the list of what was recorded in it, each value with its histogram: one value
+/// more lengthens the list at its end. And the first half that is taken in a round gives its own bins.
 pub fn half_law()
     ensures none { bins_by [] ≡ no_bins }
-    ensures more { (values : List (ℕ × ℕ)) (id v : ℕ) → with_value (bins_by values) id v ≡ bins_by (values ++ (id, v) ∷ []) }
-    ensures first { (values : List (ℕ × ℕ)) → All (λ p. p.1 < 2 ^ 64) values → both no_bins (bins_by values) ≡ bins_by values }
+    ensures more { (values : List (ℕ × ℕ)) (id v : ℕ) → with_value (bins_by values) id v
+        ≡ bins_by (values ++ (id, v) ∷ []) }
+    ensures first { (values : List (ℕ × ℕ)) → All (λ p. p.1 < 2 ^ 64) values → both no_bins (bins_by values)
+        ≡ bins_by values }
 {}
 
 /// A half and parents may be given to another thread: the code compiles.

@@ -31,7 +31,8 @@ impl Model for Parents {
 
     ghost Value = { ParentsState };
 
-    ghost view = { λ p. record { workers = p.workers.items; interval = p.interval; cumulative = p.cumulative; count = p.count } };
+    ghost view = { λ p. record { workers = p.workers.items; interval = p.interval; cumulative = p.cumulative;
+        count = p.count } };
 
     ghost invariant = { λ p. ((worker : ℕ) → HasAtMost p.count (bins_at (get_or p.workers.items worker [])))
         × HasAtMost p.count (bins_at p.interval) × HasAtMost p.count (bins_at p.cumulative)
@@ -54,8 +55,8 @@ impl Parents {
         })
     }
 
-    /// Adds the half's values to this worker's part of the round, to the round's interval and to the cumulative bins, and leaves
-    /// the half without values. After want of memory both are as they were.
+    /// Adds the half's values to this worker's part of the round, to the round's interval and to the cumulative bins,
+    /// and leaves the half without values. After want of memory both are as they were.
     pub fn take_half(&mut self, alloc: Global, worker: u32, half: &mut Half) -> Result<(), NoMemory>
         requires { self.old.count + half.old.count ≤ MAX_COUNT }
         ensures part { OnOk result (parts_in self.new ≡ with_part (parts_in self.old) worker (bins_in half.old)) }
@@ -104,8 +105,8 @@ impl Parents {
         self.cumulative.pairs(alloc, id)
     }
 
-    /// The parts of the round that hold a value, by worker and then by histogram, and a new round without values. After want of
-    /// memory the round is as it was.
+    /// The parts of the round that hold a value, by worker and then by histogram, and a new round without values. After
+    /// want of memory the round is as it was.
     pub fn new_round(&mut self, alloc: Global) -> Result<Vec<Part>, NoMemory>
         ensures listed { IfOk result (λ list. ArePartsOf (parts_in self.old) list.items) }
         ensures parts { OnOk result (parts_in self.new ≡ no_parts) }

@@ -19,7 +19,8 @@
 -- latch, one that comes after it is pending, and none is in between.
 -- A load changes no word. A split or a join moves lists from view to view, and no sum over all lists can tell.
 -- No add wraps, since all workers together stay below 2^64.
-use Rattle.std.specs.Prelude.{◌≡◌, ℕ, zero, suc, ◌+◌, ◌*◌, ◌^◌, ◌<◌, ◌≤◌, Bool, true, false, ◌==◌, List, [], ◌∷◌, length, slice_index, All}
+use Rattle.std.specs.Prelude.{◌≡◌, ℕ, zero, suc, ◌+◌, ◌*◌, ◌^◌, ◌<◌, ◌≤◌, Bool, true, false, ◌==◌, List, [], ◌∷◌}
+use Rattle.std.specs.Prelude.{length, slice_index, All}
 use Rattle.atomic_table.specs.Table.{State, Me, Step}
 use Rattle.seat_parts.specs.declared.Parts.{Parts}
 use Rattle.seat_parts.specs.Parts.{total, parts_total, AllParts, first_or, others_of, own_changed}
@@ -92,7 +93,8 @@ as_load Second n m = m
 as_load Latch n m = m
 as_load Load n m = n
 
--- the units that a step adds as a first step of this counter, those that it adds as a second step, and those that it latches
+-- the units that a step adds as a first step of this counter, those that it adds as a second step, and those that it
+-- latches
 abbrev pub first_by : ℕ → CountStep → ℕ
 first_by id s = as_first s.kind (when (s.id == id) s.n)
 
@@ -206,4 +208,5 @@ Latched st m r m' = (id : ℕ) → st.word ≡ 2 * id + 1 →
 
 -- a load found at least what the loads before it found
 abbrev pub Loaded : Step (Unit {0}) → Sat → ℕ → Sat → Type 0
-Loaded st m r m' = (id : ℕ) → st.word ≡ 2 * id → (m' ≡ (with_step (step_of Load id 0 r) m.0, m.1)) × Rises id (own_steps m.0) r
+Loaded st m r m' = (id : ℕ) → st.word ≡ 2 * id → (m' ≡ (with_step (step_of Load id 0 r) m.0, m.1))
+    × Rises id (own_steps m.0) r

@@ -47,7 +47,8 @@ gauge_all s = s.seat.me.0.parts
 abbrev pub IsNewGauge : TableId → GaugeSeat → Type 0
 IsNewGauge id s = (gauge_bank s ≡ id) × (gauge_steps s ≡ []) × (gauge_taken s ≡ [])
 
--- the seats of a new bank: the flusher's has the number 0, the workers' those from 1 to W in order, and the reader's W + 1
+-- the seats of a new bank: the flusher's has the number 0, the workers' those from 1 to W in order, and the reader's W
+-- + 1
 pub record AreNewGauges (id : TableId) (workers : ℕ) (s : GaugeSeats) : Type 0 where
   pub workers_count : length s.workers.items ≡ workers
   pub workers_new : All (IsNewGauge id) s.workers.items

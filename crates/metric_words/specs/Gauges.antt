@@ -8,11 +8,12 @@
 -- of the counters:
 -- the word is the net of all steps modulo 2^64, since a set counts its number less the word that it displaced, so that
 -- the steps before it cancel out.
--- Where one seat alone has written the gauge, its word is the fold of that seat's steps, since no other step came in between.
--- The seat that wrote last is some seat. Where its newest write is a set, the word is the number of that set; so where
--- each seat that wrote has a set as its newest write, the word is the number of one of these.
+-- Where one seat alone has written the gauge, its word is the fold of that seat's steps, since no other step came in
+-- between. The seat that wrote last is some seat. Where its newest write is a set, the word is the number of that set;
+-- so where each seat that wrote has a set as its newest write, the word is the number of one of these.
 -- A seat that took all others in has the steps of all, so a load by it finds the word that all of them left.
-use Rattle.std.specs.Prelude.{◌≡◌, ℕ, zero, suc, ◌+◌, ◌-◌, ◌%◌, ◌^◌, ◌≤◌, Bool, true, false, ◌==◌, List, [], ◌∷◌, ◌⊎◌, length, slice_index, All}
+use Rattle.std.specs.Prelude.{◌≡◌, ℕ, zero, suc, ◌+◌, ◌-◌, ◌%◌, ◌^◌, ◌≤◌, Bool, true, false, ◌==◌, List, [], ◌∷◌, ◌⊎◌}
+use Rattle.std.specs.Prelude.{length, slice_index, All}
 use Rattle.std.specs.List.{Any}
 use Rattle.atomic_table.specs.Table.{State, Me, Step}
 use Rattle.seat_parts.specs.declared.Parts.{Parts}
@@ -85,7 +86,8 @@ abbrev pub LastSet : ℕ → List GaugeStep → ℕ → Type 0
 LastSet id [] word = Unit {0}
 LastSet id (s ∷ ss) word = if_same (s.id == id) (set_or s.kind s.n word (LastSet id ss word)) (LastSet id ss word)
 
--- where this seat alone has written a gauge, which the number of writes of all seats tells, the word is the fold of its steps
+-- where this seat alone has written a gauge, which the number of writes of all seats tells, the word is the fold of its
+-- steps
 abbrev pub Alone : List ℕ → (ℕ → ℕ) → GaugePart → Type 0
 Alone words writes_of p = (id : ℕ) → writes_of id ≡ written id p.steps → slice_index words id ≡ fold_of id p.steps
 
@@ -108,7 +110,8 @@ pub record Gauged (key : GaugeKey) (s : State (Unit {0}) View) : Type 0 where
   pub knows : AllParts (λ p. p.workers ≡ key.workers) s.views
   pub value : (id : ℕ) → slice_index s.words id ≡ parts_total (λ p. net id p.steps) s.views % 2 ^ 64
   pub alone : AllParts (Alone s.words (λ id. parts_total (λ p. written id p.steps) s.views)) s.views
-  pub last : (id : ℕ) → (parts_total (λ p. written id p.steps) s.views ≡ 0) ⊎ AnyPart (WroteLast id (slice_index s.words id)) s.views
+  pub last : (id : ℕ) → (parts_total (λ p. written id p.steps) s.views ≡ 0)
+      ⊎ AnyPart (WroteLast id (slice_index s.words id)) s.views
 
 -- a seat that has made no step
 abbrev pub new_gauge : ℕ → ℕ → GaugePart

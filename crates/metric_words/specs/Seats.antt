@@ -12,7 +12,8 @@ use Rattle.metric_words.specs.declared.seats.WorkerSeat.{WorkerSeat}
 use Rattle.metric_words.specs.declared.seats.FlushSeat.{FlushSeat}
 use Rattle.metric_words.specs.declared.seats.ReadSeat.{ReadSeat}
 use Rattle.metric_words.specs.declared.seats.WordSeats.{WordSeats}
-use Rattle.metric_words.specs.Counters.{View, own_part, own_steps, taken_parts, later_parts, longer, firsts, seconds, latches, Rises}
+use Rattle.metric_words.specs.Counters.{View, own_part, own_steps, taken_parts, later_parts, longer, firsts, seconds}
+use Rattle.metric_words.specs.Counters.{latches, Rises}
 
 -- which bank it is, and with how many counters and workers
 abbrev pub bank_id : CounterBank → TableId
@@ -75,7 +76,8 @@ pub record IsStepOf (x : CountStep) (old new : Seat (Unit {0}) View) : Type 0 wh
 abbrev pub IsNewWorker : TableId → WorkerSeat → Type 0
 IsNewWorker id w = (worker_bank w ≡ id) × (worker_steps w ≡ [])
 
--- the seats of a new bank: the flusher's has the number 0, the workers' those from 1 to W in order, and the reader's W + 1
+-- the seats of a new bank: the flusher's has the number 0, the workers' those from 1 to W in order, and the reader's W
+-- + 1
 pub record AreNew (id : TableId) (workers : ℕ) (s : WordSeats) : Type 0 where
   pub workers_count : length s.workers.items ≡ workers
   pub workers_new : All (IsNewWorker id) s.workers.items

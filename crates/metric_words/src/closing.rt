@@ -4,7 +4,8 @@ ghost use Rattle.std.specs.Mem.Slots.{slots_items, slots_len, IsFull};
 ghost use Rattle.seat_parts.specs.Parts.{total};
 ghost use Rattle.metric_words.specs.Counters.{own_steps};
 ghost use Rattle.metric_words.specs.declared.view.CountPart.{CountPart};
-ghost use Rattle.metric_words.specs.Seats.{bank_id, size_of, workers_of, read_steps, AreAll, seats_total, IsLedger, HasWords};
+ghost use Rattle.metric_words.specs.Seats.{bank_id, size_of, workers_of, read_steps, AreAll, seats_total, IsLedger};
+ghost use Rattle.metric_words.specs.Seats.{HasWords};
 
 use crate::bank::CounterBank;
 use crate::seats::{FlushSeat, Place, ReadSeat, WordSeats, WorkerSeat};

@@ -1,7 +1,8 @@
 //! The end of a gauge bank.
 ghost use Rattle.std.specs.Prelude.{◌≡◌, ◌≤◌, [], ◌++◌, length, flat_map, IfOk, vec_capacity};
 ghost use Rattle.std.specs.Mem.Slots.{slots_items, slots_len, IsFull};
-ghost use Rattle.metric_words.specs.GaugeLedger.{gauges_id, gauges_size, gauges_workers, AreAllGauges, gauge_all, gauge_parts, IsGaugeLedger, SameWords};
+ghost use Rattle.metric_words.specs.GaugeLedger.{gauges_id, gauges_size, gauges_workers, AreAllGauges, gauge_all};
+ghost use Rattle.metric_words.specs.GaugeLedger.{gauge_parts, IsGaugeLedger, SameWords};
 
 use crate::gauge_bank::{GaugeBank, GaugePlace};
 use crate::gauge_seats::{GaugeSeat, GaugeSeats};
@@ -11,7 +12,8 @@ use stat_defs::{NoMemory, Words};
 use std::alloc::Global;
 
 impl GaugeBank {
-    /// The words once all seats are back, by gauge. The memory is taken first; where it is refused, bank and seats are gone.
+    /// The words once all seats are back, by gauge. The memory is taken first; where it is refused, bank and seats are
+    /// gone.
     pub fn close(self, alloc: Global, seats: GaugeSeats) -> Result<Words, NoMemory>
         requires { AreAllGauges (gauges_id self) (gauges_workers self) seats }
         ensures { IfOk result (λ r. IsGaugeLedger (gauges_size self) (gauge_parts seats) r) }

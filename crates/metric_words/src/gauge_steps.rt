@@ -2,7 +2,8 @@
 ghost use Rattle.std.specs.Prelude.{◌≡◌, ℕ, ◌+◌, ◌<◌, ◌∷◌, ◌++◌, length};
 ghost use Rattle.metric_words.specs.declared.gauge_view.GaugeKind.TheVariants.{Add, Sub, Set, Load};
 ghost use Rattle.metric_words.specs.Gauges.{gauge_step, IsGaugeWord};
-ghost use Rattle.metric_words.specs.GaugeLedger.{gauges_id, gauges_size, gauge_bank, gauge_number, gauge_workers, gauge_steps, gauge_taken, gauge_all};
+ghost use Rattle.metric_words.specs.GaugeLedger.{gauges_id, gauges_size, gauge_bank, gauge_number, gauge_workers};
+ghost use Rattle.metric_words.specs.GaugeLedger.{gauge_steps, gauge_taken, gauge_all};
 
 use crate::gauge_bank::GaugeBank;
 use crate::gauge_plays::{Adding, Reading, Setting, Subtracting};

@@ -106,7 +106,8 @@ fn run_two<R: Threads + Sync>(
     first: GaugeSeat,
     second: GaugeSeat,
 ) -> (GaugeSeat, GaugeSeat)
-    requires { (gauge_bank first ≡ gauges_id bank.now) × (gauge_bank second ≡ gauges_id bank.now) × (0 < gauges_size bank.now) }
+    requires { (gauge_bank first ≡ gauges_id bank.now) × (gauge_bank second ≡ gauges_id bank.now)
+        × (0 < gauges_size bank.now) }
     ensures { (gauge_bank result.0 ≡ gauges_id bank.now) × (gauge_bank result.1 ≡ gauges_id bank.now) }
 {
     join(

@@ -1,7 +1,9 @@
-//! The seats of a counter bank. Each is used by one party at a time, and has the list of its steps, which contracts alone see.
+//! The seats of a counter bank. Each is used by one party at a time, and has the list of its steps, which contracts
+//! alone see.
 ghost use Rattle.std.specs.Prelude.{◌≡◌, ◌<◌, ℕ, length};
 ghost use Rattle.seat_parts.specs.Parts.{total};
-ghost use Rattle.metric_words.specs.Counters.{own_part, own_steps, taken_parts, firsts, seconds, latches, worker_weight, flusher_weight, reader_weight};
+ghost use Rattle.metric_words.specs.Counters.{own_part, own_steps, taken_parts, firsts, seconds, latches};
+ghost use Rattle.metric_words.specs.Counters.{worker_weight, flusher_weight, reader_weight};
 
 use crate::view::CountView;
 use atomic_table::Seat;
@@ -41,7 +43,8 @@ pub struct ReadSeat {
         × (latches id (own_steps seat.me.0) ≡ 0) },
 }
 
-/// All seats of a bank: one for each worker, in the order of their numbers, one for the flusher, and one for the reader.
+/// All seats of a bank: one for each worker, in the order of their numbers, one for the flusher, and one for the
+/// reader.
 #[derive(Drop)]
 pub struct WordSeats {
     pub workers: Vec<WorkerSeat>,

@@ -3,8 +3,11 @@ ghost use Rattle.std.specs.Prelude.{◌≡◌, ℕ, ◌+◌, ◌<◌, ◌≤◌,
 ghost use Rattle.seat_parts.specs.Parts.{total};
 ghost use Rattle.metric_words.specs.declared.limits.TheConstants.{MAX_UNITS};
 ghost use Rattle.metric_words.specs.declared.view.CountKind.TheVariants.{First, Second, Latch, Load};
-ghost use Rattle.metric_words.specs.Counters.{worker_weight, flusher_weight, own_part, own_steps, taken_parts, HasAllWorkers, OwesSecond, step_of, firsts, seconds, latches, Rises};
-ghost use Rattle.metric_words.specs.Seats.{bank_id, size_of, worker_bank, worker_part, worker_number, worker_steps, flush_bank, flush_number, flush_workers, flush_steps, flush_taken, read_bank, read_number, read_steps, IsStepOf};
+ghost use Rattle.metric_words.specs.Counters.{worker_weight, flusher_weight, own_part, own_steps, taken_parts};
+ghost use Rattle.metric_words.specs.Counters.{HasAllWorkers, OwesSecond, step_of, firsts, seconds, latches, Rises};
+ghost use Rattle.metric_words.specs.Seats.{bank_id, size_of, worker_bank, worker_part, worker_number, worker_steps};
+ghost use Rattle.metric_words.specs.Seats.{flush_bank, flush_number, flush_workers, flush_steps, flush_taken};
+ghost use Rattle.metric_words.specs.Seats.{read_bank, read_number, read_steps, IsStepOf};
 
 use crate::bank::CounterBank;
 use crate::plays::{AddFirst, AddSecond, Latching, Loading};
@@ -13,15 +16,16 @@ use seat_parts::Merge;
 use stat_defs::MetricId;
 
 impl CounterBank {
-    /// Adds `n` units: one atomic add to the counter's value, and then one to what of it is pending, where the units count as accepted.
-    /// The two words found are told as numbers that some moment had.
+    /// Adds `n` units: one atomic add to the counter's value, and then one to what of it is pending, where the units
+    /// count as accepted. The two words found are told as numbers that some moment had.
     pub fn add(&self, seat: &mut WorkerSeat, id: MetricId, n: u32)
         requires bank { worker_bank seat.old ≡ bank_id self.now }
         requires id { id.0 < size_of self.now }
         requires units { firsts id.0 (worker_steps seat.old) + n ≤ MAX_UNITS }
         ensures bank { worker_bank seat.new ≡ worker_bank seat.old }
         ensures number { worker_number seat.new ≡ worker_number seat.old }
-        ensures steps { (x y : ℕ) × (worker_steps seat.new ≡ step_of Second id.0 n y ∷ step_of First id.0 n x ∷ worker_steps seat.old) }
+        ensures steps { (x y : ℕ) × (worker_steps seat.new ≡ step_of Second id.0 n y ∷ step_of First id.0 n x
+            ∷ worker_steps seat.old) }
     {
         self.add_first(&mut seat.seat, id, n);
         self.add_second(&mut seat.seat, id, n);
@@ -63,7 +67,8 @@ impl CounterBank {
         requires bank { flush_bank seat.old ≡ bank_id self.now }
         requires id { id.0 < size_of self.now }
         ensures bank { flush_bank seat.new ≡ flush_bank seat.old }
-        ensures number { (flush_number seat.new ≡ flush_number seat.old) × (flush_workers seat.new ≡ flush_workers seat.old) }
+        ensures number { (flush_number seat.new ≡ flush_number seat.old)
+            × (flush_workers seat.new ≡ flush_workers seat.old) }
         ensures steps { flush_steps seat.new ≡ step_of Latch id.0 0 result ∷ flush_steps seat.old }
         ensures taken { flush_taken seat.new ≡ flush_taken seat.old }
         // once all workers are taken in, the latches of the counter are all units that were accepted
@@ -88,7 +93,8 @@ impl CounterBank {
         self.table.shared.swap::<Latching>(place, word, 0)
     }
 
-    /// Reads the counter's value by one atomic load. It may be ahead of the latched and pending units by adds that are under way.
+    /// Reads the counter's value by one atomic load. It may be ahead of the latched and pending units by adds that are
+    /// under way.
     pub fn value(&self, seat: &mut ReadSeat, id: MetricId) -> u64
         requires bank { read_bank seat.old ≡ bank_id self.now }
         requires id { id.0 < size_of self.now }
@@ -107,7 +113,8 @@ impl CounterBank {
         requires flush { flush_bank flush.old ≡ bank_id self.now }
         requires worker { worker_bank worker ≡ bank_id self.now }
         ensures bank { flush_bank flush.new ≡ flush_bank flush.old }
-        ensures number { (flush_number flush.new ≡ flush_number flush.old) × (flush_workers flush.new ≡ flush_workers flush.old) }
+        ensures number { (flush_number flush.new ≡ flush_number flush.old)
+            × (flush_workers flush.new ≡ flush_workers flush.old) }
         ensures steps { flush_steps flush.new ≡ flush_steps flush.old }
         ensures taken { flush_taken flush.new ≡ flush_taken flush.old ++ worker_part worker ∷ [] }
     {

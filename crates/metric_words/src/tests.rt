@@ -1,5 +1,6 @@
 ghost use Rattle.std.specs.Prelude.{◌≡◌, ◌<◌, ◌≤◌, []};
-ghost use Rattle.metric_words.specs.Seats.{bank_id, size_of, worker_bank, worker_steps, flush_bank, flush_taken, flush_workers};
+ghost use Rattle.metric_words.specs.Seats.{bank_id, size_of, worker_bank, worker_steps, flush_bank, flush_taken};
+ghost use Rattle.metric_words.specs.Seats.{flush_workers};
 
 use crate::{CounterBank, FlushSeat, MAX_SIZE, WordSeats, WorkerSeat};
 use stat_defs::MetricId;
@@ -111,7 +112,8 @@ fn run_three<R: Threads + Sync>(
     second: WorkerSeat,
     flusher: FlushSeat,
 ) -> ((WorkerSeat, WorkerSeat), (FlushSeat, u64))
-    requires bank { (worker_bank first ≡ bank_id bank.now) × (worker_bank second ≡ bank_id bank.now) × (flush_bank flusher ≡ bank_id bank.now) × (0 < size_of bank.now) }
+    requires bank { (worker_bank first ≡ bank_id bank.now) × (worker_bank second ≡ bank_id bank.now)
+        × (flush_bank flusher ≡ bank_id bank.now) × (0 < size_of bank.now) }
     requires steps { (worker_steps first ≡ []) × (worker_steps second ≡ []) × (flush_taken flusher ≡ []) }
     ensures workers { (worker_bank result.0.0 ≡ bank_id bank.now) × (worker_bank result.0.1 ≡ bank_id bank.now) }
     ensures flusher { (flush_bank result.1.0 ≡ bank_id bank.now) × (flush_taken result.1.0 ≡ []) }

@@ -10,8 +10,8 @@ pub enum SeatRole {
     Reader,
 }
 
-/// The kinds of step on a counter's words: the first step of an add, which goes to the value word, its second step, which goes to the pending word,
-/// a latch of the pending word, and a load of the value word.
+/// The kinds of step on a counter's words: the first step of an add, which goes to the value word, its second step,
+/// which goes to the pending word, a latch of the pending word, and a load of the value word.
 pub enum CountKind {
     First,
     Second,

@@ -1,8 +1,8 @@
 //! The table of names: entries in the order of their insertion, looked up by a hash under a key.
 //!
-//! Names come from files, so a table of them is hashed under a key that whoever wrote the files does not know. Else he could
-//! write names that all have one hash, and each look-up would go through all of them. No contract speaks of the hash: what a
-//! table holds, and in which order, is the same under every key.
+//! Names come from files, so a table of them is hashed under a key that whoever wrote the files does not know. Else he
+//! could write names that all have one hash, and each look-up would go through all of them. No contract speaks of the
+//! hash: what a table holds, and in which order, is the same under every key.
 #![tactic(auto)]
 
 ghost use Rattle.std.specs.Prelude.{◌≡◌};

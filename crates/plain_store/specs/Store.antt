@@ -42,8 +42,8 @@ pub record IsCutShort (old new : StoreHistory) : Type 0 where
   pub flushes : new.flushes ≡ old.flushes
   pub whole : new.whole ≡ false
 
--- What a record shows of the work so far: each unit that no flush before it has, the words of the gauges, and the values
--- that no flush before it has. `last` tells whether it is the last.
+-- What a record shows of the work so far: each unit that no flush before it has, the words of the gauges, and the
+-- values that no flush before it has. `last` tells whether it is the last.
 pub record Accounts (old : StoreHistory) (log : List Entry) (last : Bool) (flush : FlushRecord) : Type 0 where
   pub fits : Fits (rules_of old.worker.book) log last (left_over 1 (work_in old) old.flushes ∷ []) flush
   pub units : (id : ℕ) → flushed id (old.flushes ++ flush ∷ []) ≡ units_of id (work_in old ∷ [])
@@ -53,17 +53,21 @@ pub record Accounts (old : StoreHistory) (log : List Entry) (last : Bool) (flush
 pub record Flushes (old : StoreHistory) (flush : FlushRecord) (new : StoreHistory) : Type 0 where
   pub at : flush.at ≡ length old.worker.book.log
   pub swept : (n : ℕ) × Logged old.worker.book 0 call.Sweep (reply.Swept n) new.worker.book
-  pub rest : new ≡ record old { worker = record old.worker { book = new.worker.book }; flushes = old.flushes ++ flush ∷ [] }
+  pub rest : new ≡ record old { worker = record old.worker { book = new.worker.book }; flushes = old.flushes ++ flush
+      ∷ [] }
   -- said of a store none of whose calls was cut short
   pub accounts : old.whole ≡ true → Accounts old new.worker.book.log false flush
 
 -- the end of the seat, and the last flush
 pub record Finishes (old : StoreHistory) (given : LastFlush) : Type 0 where
   pub at : given.last.at ≡ length old.worker.book.log + 1
-  pub swept : (n : ℕ) × (given.log ≡ (old.worker.book.log ++ record { seat = 1; call = call.End; reply = reply.Ended } ∷ [])
+  pub swept : (n : ℕ) × (given.log
+      ≡ (old.worker.book.log ++ record { seat = 1; call = call.End; reply = reply.Ended } ∷ [])
       ++ record { seat = 0; call = call.Sweep; reply = reply.Swept n } ∷ [])
   pub legal : IsLegal (record old.worker.book { log = given.log })
   -- said of a store none of whose calls was cut short
-  pub follows : old.whole ≡ true → Follows (rules_of old.worker.book) 1 1 old.worker.events old.worker.verdicts given.log
+  pub follows : old.whole ≡ true
+      → Follows (rules_of old.worker.book) 1 1 old.worker.events old.worker.verdicts given.log
   pub accounts : old.whole ≡ true → Accounts old given.log true given.last
-  pub all_fit : old.whole ≡ true → FitAll (rules_of old.worker.book) given.log (work_in old ∷ []) (old.flushes ++ given.last ∷ [])
+  pub all_fit : old.whole ≡ true
+      → FitAll (rules_of old.worker.book) given.log (work_in old ∷ []) (old.flushes ++ given.last ∷ [])

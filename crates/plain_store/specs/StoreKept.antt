@@ -1,5 +1,6 @@
 -- What a store on one thread keeps.
-use Rattle.std.specs.Prelude.{◌≡◌, ◌≤◌, ◌<◌, ◌+◌, ◌*◌, ◌^◌, ◌&&◌, ℕ, Bool, true, false, not, [], ◌∷◌, length, slice_get, All}
+use Rattle.std.specs.Prelude.{◌≡◌, ◌≤◌, ◌<◌, ◌+◌, ◌*◌, ◌^◌, ◌&&◌, ℕ, Bool, true, false, not, [], ◌∷◌, length, slice_get}
+use Rattle.std.specs.Prelude.{All}
 use Rattle.std.specs.Option.{option_map_or}
 use Rattle.stat_defs.specs.Keys.{same_kind}
 use Rattle.stat_defs.specs.declared.ids.Kind.TheVariants.{Counter}
@@ -22,7 +23,8 @@ shown p = record { worker = p.worker; flushes = p.flushes.items; whole = p.whole
 
 -- the metric of this number is a counter that is not gone
 abbrev pub is_counter_there : State → ℕ → Bool
-is_counter_there s id = option_map_or (λ row. same_kind row.metric.kind Counter && not (is_gone row.metric.life)) (slice_get s.metrics id) false
+is_counter_there s id = option_map_or (λ row. same_kind row.metric.kind Counter && not (is_gone row.metric.life))
+    (slice_get s.metrics id) false
 
 -- no sum passes its bound
 pub record AreSmall (events : ℕ) (sums : Sums) : Type 0 where

@@ -1,5 +1,6 @@
 -- What a store sums up: numbers by the metrics that they belong to. This project's own.
-use Rattle.std.specs.Prelude.{◌≡◌, ◌<◌, ◌+◌, ℕ, ◌==◌, if◌then◌else◌, Bool, true, false, Option, None, Some, List, map, length, get_or, slice_get}
+use Rattle.std.specs.Prelude.{◌≡◌, ◌<◌, ◌+◌, ℕ, ◌==◌, if◌then◌else◌, Bool, true, false, Option, None, Some, List, map}
+use Rattle.std.specs.Prelude.{length, get_or, slice_get}
 use Rattle.std.specs.List.{list_any}
 use Rattle.std.specs.Option.{option_map_or}
 use Rattle.stat_defs.specs.Keys.{same_kind}
@@ -95,7 +96,8 @@ pub record IsEmptied (old : Sums) (flush : FlushRecord) (new : Sums) : Type 0 wh
   pub merged : parts_in new.parents ≡ no_parts
 
 -- a sweep was logged, and the record shows every counter ever made, the gauges that were not gone before, and the half
-pub record SweepsLast (old : BookHistory) (sums : Sums) (at : ℕ) (new : BookHistory) (flush : FlushRecord) : Type 0 where
+pub record SweepsLast (old : BookHistory) (sums : Sums) (at : ℕ) (new : BookHistory)
+    (flush : FlushRecord) : Type 0 where
   pub gone : ℕ
   pub swept : Logged old 0 call.Sweep (reply.Swept gone) new
   pub shows : Shows sums at (ids_made Counter (state_of new)) (ids_not_gone Gauge (state_of old)) flush

@@ -1,4 +1,5 @@
-//! A store for one thread: its events are decided one after another by one worker, and its flushes show what was accepted.
+//! A store for one thread: its events are decided one after another by one worker, and its flushes show what was
+//! accepted.
 #![tactic(auto)]
 
 mod account;

@@ -10,7 +10,8 @@ use std::alloc::Global;
 
 /// The numbers of all metrics that were made, rising.
 pub(crate) fn all_made(alloc: Global, worker: &LoneWorker) -> Result<Vec<MetricId>, NoMemory>
-    ensures { IfOk result (λ ids. ids.items ≡ map as_id (range_with_len 0 (length (state_of worker.now.book).metrics))) }
+    ensures { IfOk result (λ ids. ids.items
+        ≡ map as_id (range_with_len 0 (length (state_of worker.now.book).metrics))) }
 {
     let made = worker.made();
     Ok((0..made).map(MetricId).collect(alloc)?)

@@ -5,7 +5,8 @@ ghost use Rattle.stat_book.specs.Calls.{state_of};
 ghost use Rattle.loglinear_bins.specs.declared.place.TheConstants.{MAX_COUNT};
 ghost use Rattle.merge_round.specs.Halves.{bins_in, no_bins};
 ghost use Rattle.merge_round.specs.Rounds.{parts_in, with_part, no_parts, ArePartsOf};
-ghost use Rattle.plain_store.specs.Sums.{number_at, is_of_kind, delta_of, reading_of, is_among, delta_in, Shows, IsEmptied};
+ghost use Rattle.plain_store.specs.Sums.{number_at, is_of_kind, delta_of, reading_of, is_among, delta_in, Shows};
+ghost use Rattle.plain_store.specs.Sums.{IsEmptied};
 
 use crate::lists::of_kind;
 use crate::sums::{Sums, number_at};
@@ -52,7 +53,8 @@ fn set_zero(deltas: &mut Vec<u64>, id: MetricId)
 
 // The counters that were shown begin anew from 0.
 fn empty(deltas: &mut Vec<u64>, shown: &[Delta])
-    ensures { (k : ℕ) → number_at deltas.new.items k ≡ (if is_among shown.now k then 0 else number_at deltas.old.items k) }
+    ensures { (k : ℕ) → number_at deltas.new.items k
+        ≡ (if is_among shown.now k then 0 else number_at deltas.old.items k) }
 {
     for delta in shown {
         set_zero(deltas, delta.id);
@@ -62,7 +64,8 @@ fn empty(deltas: &mut Vec<u64>, shown: &[Delta])
 // Takes the half, and gives the parts.
 fn take_parts(alloc: Global, sums: &mut Sums) -> Result<Vec<Part>, NoMemory>
     requires { sums.old.parents.count + sums.old.half.count ≤ MAX_COUNT }
-    ensures parts { IfOk result (λ parts. ArePartsOf (with_part (parts_in sums.old.parents) 1 (bins_in sums.old.half)) parts.items) }
+    ensures parts { IfOk result (λ parts. ArePartsOf
+        (with_part (parts_in sums.old.parents) 1 (bins_in sums.old.half)) parts.items) }
     ensures merged { OnOk result (parts_in sums.new.parents ≡ no_parts) }
     ensures bins { OnOk result (bins_in sums.new.half ≡ no_bins) }
     ensures values { sums.new.parents.count + sums.new.half.count ≡ sums.old.parents.count + sums.old.half.count }
@@ -113,7 +116,8 @@ pub(crate) fn take_flush(
     requires gauges { All (λ id. id.0 < length (state_of worker.now.book).metrics) gauges.now }
     requires few { sums.old.parents.count + sums.old.half.count ≤ MAX_COUNT }
     ensures shows { let s = state_of worker.now.book in
-        IfOk result (λ flush. Shows sums.old at (filter (is_of_kind Counter s) counters.now) (filter (is_of_kind Gauge s) gauges.now) flush) }
+        IfOk result (λ flush. Shows sums.old at (filter (is_of_kind Counter s) counters.now)
+            (filter (is_of_kind Gauge s) gauges.now) flush) }
     ensures emptied { IfOk result (λ flush. IsEmptied sums.old flush sums.new) }
     ensures deltas { (k : ℕ) → delta_in sums.new k ≤ delta_in sums.old k }
     ensures values { sums.new.parents.count + sums.new.half.count ≡ sums.old.parents.count + sums.old.half.count }

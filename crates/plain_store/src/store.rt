@@ -18,8 +18,8 @@ use std::alloc::Global;
 use std::marker::Model;
 use tag_rules::{Matcher, TagRules};
 
-/// A store with one worker. Contracts see it as its worker, with its events, their verdicts and the log, and the records of
-/// its flushes so far.
+/// A store with one worker. Contracts see it as its worker, with its events, their verdicts and the log, and the
+/// records of its flushes so far.
 #[derive(Drop)]
 pub struct PlainStore {
     worker: LoneWorker,
@@ -41,8 +41,8 @@ impl Model for PlainStore {
 }
 
 impl PlainStore {
-    /// A store without events. The rules and the matcher are those that were built from the configuration. Its tables are
-    /// hashed under the fixed key.
+    /// A store without events. The rules and the matcher are those that were built from the configuration. Its tables
+    /// are hashed under the fixed key.
     pub fn new(
         alloc: Global,
         config: &Config,
@@ -80,8 +80,8 @@ impl PlainStore {
         })
     }
 
-    /// Decides an event, and sums up what it adds where it is accepted. An event on a key that is held, which is no text,
-    /// takes one look-up, and no memory where its histogram has a value of this store already.
+    /// Decides an event, and sums up what it adds where it is accepted. An event on a key that is held, which is no
+    /// text, takes one look-up, and no memory where its histogram has a value of this store already.
     pub fn apply(&mut self, alloc: Global, event: &Event) -> Result<Verdict, NoMemory>
         requires lawful { IsLawfulEvent event.now }
         requires few { length self.old.worker.events < MAX_EVENTS }
@@ -110,8 +110,8 @@ impl PlainStore {
         Ok(verdict)
     }
 
-    /// A flush during the run. It sweeps, and shows every counter and gauge that was not gone before, and the values recorded
-    /// since the flush before. It takes time in the metrics that are not gone, and in the values.
+    /// A flush during the run. It sweeps, and shows every counter and gauge that was not gone before, and the values
+    /// recorded since the flush before. It takes time in the metrics that are not gone, and in the values.
     pub fn flush(&mut self, alloc: Global) -> Result<FlushRecord, NoMemory>
         ensures ok { IfOk result (λ flush. Flushes self.old flush self.new) }
         ensures err { OnErr result (IsCutShort self.old self.new) }

@@ -1,7 +1,8 @@
--- The names and labels of Prometheus's text format: what stands for a byte that is not allowed, and how a label's value is
--- escaped (the Prometheus exposition format; the prefix, the byte that stands for others, and the order of labels are this
--- project's own).
-use Rattle.std.specs.Prelude.{ℕ, Bool, false, not, ◌==◌, ◌&&◌, ◌||◌, nat_le, if◌then◌else◌, List, [], ◌∷◌, ◌++◌, map, codes}
+-- The names and labels of Prometheus's text format: what stands for a byte that is not allowed, and how a label's value
+-- is escaped (the Prometheus exposition format; the prefix, the byte that stands for others, and the order of labels
+-- are this project's own).
+use Rattle.std.specs.Prelude.{ℕ, Bool, false, not, ◌==◌, ◌&&◌, ◌||◌, nat_le, if◌then◌else◌, List, [], ◌∷◌, ◌++◌, map}
+use Rattle.std.specs.Prelude.{codes}
 use Rattle.std.specs.List.{flat_map, join_by}
 use Rattle.stat_defs.specs.Names.{is_label_byte}
 use Rattle.stat_defs.specs.declared.metrics.Tag.{Tag}

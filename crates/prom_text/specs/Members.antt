@@ -1,5 +1,5 @@
--- The members of the groups of Prometheus's text: the counters, gauges and histograms of a view, grouped by printed name and
--- kind. The order is this project's own.
+-- The members of the groups of Prometheus's text: the counters, gauges and histograms of a view, grouped by printed
+-- name and kind. The order is this project's own.
 use Rattle.std.specs.Prelude.{ℕ, Bool, ◌&&◌, if◌then◌else◌, List, [], ◌∷◌, ◌++◌, map, codes}
 use Rattle.std.specs.declared.cmp.Ordering.{Ordering}
 use Rattle.std.specs.Ordering.{nat_cmp, is_lt, ordering_then}
@@ -88,7 +88,7 @@ abbrev pub groups_of : List Member → List Group
 groups_of [] = []
 groups_of (member ∷ others) = grouped_with member (groups_of others)
 
--- the groups of a view: they go by printed name and kind, and the members of a group keep the order of the view, which is that of
--- full names, and of one full name that of ids (law `groups_law`)
+-- the groups of a view: they go by printed name and kind, and the members of a group keep the order of the view, which
+-- is that of full names, and of one full name that of ids (law `groups_law`)
 abbrev pub text_groups : FlushView → List Group
 text_groups view = groups_of (in_order is_before (members view))

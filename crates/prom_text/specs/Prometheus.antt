@@ -11,7 +11,8 @@ use Rattle.loglinear_bins.specs.Counts.{total, count_at_most, sum_of}
 use Rattle.text_parts.specs.Decimals.{halves, twentieths}
 use Rattle.text_parts.specs.Histograms.{IsHistogram}
 use Rattle.prom_text.specs.Labels.{printed_name, label, bound_label, braced}
-use Rattle.prom_text.specs.Members.{Member, CounterMember, GaugeMember, HistogramMember, member_name, kind_word, Group, text_groups}
+use Rattle.prom_text.specs.Members.{Member, CounterMember, GaugeMember, HistogramMember, member_name, kind_word, Group}
+use Rattle.prom_text.specs.Members.{text_groups}
 
 -- `NAME{LABELS} VALUE`
 abbrev pub sample : List ℕ → List (List ℕ) → List ℕ → List ℕ

@@ -1,5 +1,5 @@
--- How a reader of the text gets the value of a label back (the Prometheus exposition format), and of which bytes the text is
--- made (this project's own).
+-- How a reader of the text gets the value of a label back (the Prometheus exposition format), and of which bytes the
+-- text is made (this project's own).
 use Rattle.std.specs.Prelude.{ℕ, Bool, true, false, ◌==◌, ◌||◌, if◌then◌else◌, List, [], ◌∷◌}
 use Rattle.std.specs.List.{list_any}
 use Rattle.stat_defs.specs.Names.{is_printable_byte}
@@ -14,8 +14,8 @@ pub record ValueRead : Type 0 where
 abbrev pub read_more : ℕ → ValueRead → ValueRead
 read_more b read = record { value = b ∷ read.value; rest = read.rest }
 
--- a value from behind its opening quotation mark; a backslash before a byte says that it belongs to the value, and before an `n`
--- that it is a newline; any other quotation mark ends the value
+-- a value from behind its opening quotation mark; a backslash before a byte says that it belongs to the value, and
+-- before an `n` that it is a newline; any other quotation mark ends the value
 abbrev pub read_value : Bool → List ℕ → ValueRead
 read_value behind_backslash [] = record { value = []; rest = [] }
 read_value true (b ∷ bs) = read_more (if b == 110 then 10 else b) (read_value false bs)

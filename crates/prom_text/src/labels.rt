@@ -3,7 +3,9 @@ ghost use Rattle.std.specs.Prelude.{◌≡◌, ◌++◌, OnOk, map, codes};
 ghost use Rattle.std.specs.List.{flat_map, join_by, list_all};
 ghost use Rattle.std.specs.Ordering.{nat_cmp};
 ghost use Rattle.std.specs.Cmp.Lexicographic.{slice_cmp};
-ghost use Rattle.prom_text.specs.Labels.{printed_byte, printed_name as name_text, label_name as label_name_text, begins_with_digit as has_first_digit, escaped_byte, escaped, is_plain_byte, label as label_text};
+ghost use Rattle.prom_text.specs.Labels.{printed_byte, printed_name as name_text, label_name as label_name_text};
+ghost use Rattle.prom_text.specs.Labels.{begins_with_digit as has_first_digit, escaped_byte, escaped, is_plain_byte};
+ghost use Rattle.prom_text.specs.Labels.{label as label_text};
 
 use stat_defs::Tag;
 use std::alloc::AllocError;

@@ -6,7 +6,8 @@ ghost use Rattle.text_parts.specs.Decimals.{halves, twentieths};
 ghost use Rattle.text_parts.specs.Histograms.{IsHistogram};
 ghost use Rattle.prom_text.specs.Labels.{printed_name, label as label_text, braced};
 ghost use Rattle.prom_text.specs.Members.{kind_word as word_of};
-ghost use Rattle.prom_text.specs.Prometheus.{sample, labels_of, bound_line, histogram_lines, member_lines, type_line, HasHistogram};
+ghost use Rattle.prom_text.specs.Prometheus.{sample, labels_of, bound_line, histogram_lines, member_lines, type_line};
+ghost use Rattle.prom_text.specs.Prometheus.{HasHistogram};
 ghost use Rattle.prom_text.specs.Rows.{member_of, bucket_begin, bucket_end, bucket_lines};
 
 use crate::labels::{put_label, put_labels, put_name};

@@ -2,7 +2,8 @@
 ghost use Rattle.std.specs.Prelude.{◌≡◌, ◌++◌, IfOk, OnOk, map};
 ghost use Rattle.std.specs.Ordering.{nat_cmp};
 ghost use Rattle.std.specs.Cmp.Lexicographic.{slice_cmp};
-ghost use Rattle.prom_text.specs.Members.{CounterMember, GaugeMember, HistogramMember, members, tagged_of, kind_of, member_name, is_before, in_order, same_group as the_same_group};
+ghost use Rattle.prom_text.specs.Members.{CounterMember, GaugeMember, HistogramMember, members, tagged_of, kind_of};
+ghost use Rattle.prom_text.specs.Members.{member_name, is_before, in_order, same_group as the_same_group};
 ghost use Rattle.prom_text.specs.Rows.{member_of};
 ghost use Rattle.stat_defs.specs.Keys.{same_kind, same_text};
 

@@ -6,7 +6,8 @@ use Rattle.stat_defs.specs.Faults.{Rose}
 use Rattle.stat_defs.specs.declared.events.Event.{Event}
 use Rattle.stat_defs.specs.declared.history.Verdict.{Verdict}
 use Rattle.stat_defs.specs.declared.reports.FileEnd.{FileEnd}
-use Rattle.stat_defs.specs.declared.reports.FileEnd.TheVariants.{Whole, BadLine, LineTooLong, TooBig, TooMany, ReadFault, NotOpened}
+use Rattle.stat_defs.specs.declared.reports.FileEnd.TheVariants.{Whole, BadLine, LineTooLong, TooBig, TooMany}
+use Rattle.stat_defs.specs.declared.reports.FileEnd.TheVariants.{ReadFault, NotOpened}
 use Rattle.stat_defs.specs.declared.reports.LastFlush.{LastFlush}
 use Rattle.stat_defs.specs.declared.reports.Report.{Report}
 use Rattle.stat_defs.specs.declared.reports.WorkerEnd.{WorkerEnd}

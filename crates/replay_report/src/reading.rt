@@ -1,5 +1,6 @@
 //! Files that are read and applied, one after another.
-ghost use Rattle.std.specs.Prelude.{◌≡◌, ◌≤◌, ◌<◌, ◌+◌, ◌*◌, ◌++◌, ◌∷◌, [], ℕ, List, Ok, IfOk, OnOk, MatchResult, length, map, string_bytes};
+ghost use Rattle.std.specs.Prelude.{◌≡◌, ◌≤◌, ◌<◌, ◌+◌, ◌*◌, ◌++◌, ◌∷◌, [], ℕ, List, Ok, IfOk, OnOk, MatchResult};
+ghost use Rattle.std.specs.Prelude.{length, map, string_bytes};
 ghost use Rattle.stat_defs.specs.Borrowed.{event_of};
 ghost use Rattle.stat_defs.specs.Events.{IsLawfulEvent};
 ghost use Rattle.event_script.specs.Answer.{TellsEnd};
@@ -67,7 +68,8 @@ fn tell_verdict(
 ) -> Result<(), NoMemory>
     requires lawful { IsLawfulEvent (event_of event.now) }
     requires few { length store.old.worker.events < worker.MAX_EVENTS }
-    ensures { OnOk result (IsToldBehind store.old (event_of event.now) verdicts.old.items store.new verdicts.new.items) }
+    ensures { OnOk result (IsToldBehind store.old
+        (event_of event.now) verdicts.old.items store.new verdicts.new.items) }
 {
     let verdict = store.apply_ref(alloc, event)?;
     verdicts.push(verdict)?;

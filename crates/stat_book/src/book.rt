@@ -1,5 +1,6 @@
 //! The book: its state is the replay of its log.
-ghost use Rattle.std.specs.Prelude.{◌≡◌, ℕ, ◌≤◌, ◌<◌, ◌++◌, ◌∷◌, [], true, false, None, length, drop, All, IfOk, OnOk, OnErr, slice_get};
+ghost use Rattle.std.specs.Prelude.{◌≡◌, ℕ, ◌≤◌, ◌<◌, ◌++◌, ◌∷◌, [], true, false, None, length, drop, All, IfOk, OnOk};
+ghost use Rattle.std.specs.Prelude.{OnErr, slice_get};
 ghost use Rattle.std.specs.Option.{IsSomeAnd};
 ghost use Rattle.stat_defs.specs.Names.{IsScopePrefix};
 ghost use Rattle.stat_defs.specs.Configs.{IsConfig};
@@ -14,7 +15,8 @@ ghost use Rattle.book_state.specs.Follows.{tag_of};
 ghost use Rattle.book_state.specs.Safe.{SymbolsSafe};
 ghost use Rattle.book_state.specs.Stored.{IsLawfulCall, after_entry, released_in};
 ghost use Rattle.stat_book.specs.Symbols.{AreUses};
-ghost use Rattle.stat_book.specs.Calls.{rules_of, state_of, IsLegal, new_book, Logged, Answers, openings_by, is_opening};
+ghost use Rattle.stat_book.specs.Calls.{rules_of, state_of, IsLegal, new_book, Logged, Answers, openings_by};
+ghost use Rattle.stat_book.specs.Calls.{is_opening};
 ghost use Rattle.stat_book.specs.Appending.{first_entry, KeepsNames};
 
 use book_state::BookState;
@@ -29,8 +31,8 @@ use std::marker::Model;
 use symbol_table::SymbolTable;
 use tag_rules::{Matcher, TagRules};
 
-/// The scopes and metrics of a store, with the log of all calls and replies. Contracts see a book as its configuration, its
-/// number of workers and its log; its state is the replay of the log.
+/// The scopes and metrics of a store, with the log of all calls and replies. Contracts see a book as its configuration,
+/// its number of workers and its log; its state is the replay of the log.
 #[derive(Drop)]
 pub struct Book {
     pub(crate) matcher: Matcher,
@@ -123,7 +125,8 @@ impl Book {
         requires works { Works (state_of self.old) seat }
         requires prefix { IsScopePrefix prefix.now }
         requires room { openings_by seat self.old.log < MAX_OPENINGS }
-        ensures step { IfOk result (λ verdict. Answers self.old seat (call.OpenScope label.now prefix.now) verdict self.new) }
+        ensures step { IfOk result (λ verdict. Answers self.old seat
+            (call.OpenScope label.now prefix.now) verdict self.new) }
         ensures err { OnErr result (self.new ≡ self.old) }
     {
         let call = Call::OpenScope {
@@ -176,12 +179,13 @@ impl Book {
         self.append(alloc, seat, Call::SetText { id, text }, Reply::TextSet)
     }
 
-    /// Acknowledges all releases so far, of which the seat has not acknowledged all. The answer has the scopes that were
-    /// released since its last acknowledgement, in order. It takes time in these.
+    /// Acknowledges all releases so far, of which the seat has not acknowledged all. The answer has the scopes that
+    /// were released since its last acknowledgement, in order. It takes time in these.
     pub fn ack(&mut self, alloc: Global, seat: u32) -> Result<Acked, NoMemory>
         requires due { Working (state_of self.old) seat (λ row. row.tag < (state_of self.old).releases) }
         ensures step { IfOk result (λ acked. Logged self.old seat call.Ack (reply.Acked acked.tag) self.new) }
-        ensures scopes { IfOk result (λ acked. acked.scopes ≡ drop (tag_of (state_of self.old) seat) (released_in self.old.log)) }
+        ensures scopes { IfOk result (λ acked. acked.scopes
+            ≡ drop (tag_of (state_of self.old) seat) (released_in self.old.log)) }
         ensures err { OnErr result (self.new ≡ self.old) }
     {
         let scopes = self.released_since(alloc, seat)?;
@@ -320,8 +324,10 @@ fn open_first(
     requires free { live_scope state.old.state scope.now.label ≡ None }
     requires few { length state.old.state.scopes ≤ MAX_SCOPES }
     requires prefix { IsScopePrefix scope.now.prefix }
-    ensures state { OnOk result (state.new ≡ after_entry state.old (first_entry (length state.old.state.scopes) scope.now)) }
-    ensures log { OnOk result (log.new.items ≡ log.old.items ++ first_entry (length state.old.state.scopes) scope.now ∷ []) }
+    ensures state { OnOk result (state.new
+        ≡ after_entry state.old (first_entry (length state.old.state.scopes) scope.now)) }
+    ensures log { OnOk result (log.new.items ≡ log.old.items ++ first_entry (length state.old.state.scopes) scope.now
+        ∷ []) }
 {
     let call = Call::OpenScope {
         label: scope.label.clone()?,

@@ -37,13 +37,14 @@ enum Decision {
 }
 
 impl Book {
-    /// Finds the metric of a key, which the seat does not hold, and makes it where it is not known. The answer's scope is
-    /// the live one of the key's label. A known name costs one look-up beside its full name.
+    /// Finds the metric of a key, which the seat does not hold, and makes it where it is not known. The answer's scope
+    /// is the live one of the key's label. A known name costs one look-up beside its full name.
     pub fn find(&mut self, alloc: Global, seat: u32, key: &Key) -> Result<FindAnswer, NoMemory>
         requires works { Working (state_of self.old) seat (λ row. IsNone (held_under key.now row.held)) }
         requires name { IsLocalName key.now.name }
         ensures step { IfOk result (λ answer. Answers self.old seat (call.Find key.now) answer.verdict self.new) }
-        ensures scope { IfOk result (λ answer. option_map scope_number answer.scope ≡ live_scope (state_of self.old) key.now.label) }
+        ensures scope { IfOk result (λ answer. option_map scope_number answer.scope
+            ≡ live_scope (state_of self.old) key.now.label) }
         ensures none { IfOk result (λ answer. (answer.scope ≡ None) ↔ (answer.verdict ≡ verdict.NoScope)) }
         ensures err { OnErr result (self.new ≡ self.old) }
     {
@@ -266,7 +267,8 @@ fn first_case(admitted: bool, known: Option<u32>, full: bool, over: bool) -> Dec
     }
 }
 
-// Applies the entry of a find that makes a metric. Where there is no memory, the uses of its symbol numbers are taken away.
+// Applies the entry of a find that makes a metric. Where there is no memory, the uses of its symbol numbers are taken
+// away.
 fn make_or_drop(
     alloc: Global,
     state: &mut BookState,

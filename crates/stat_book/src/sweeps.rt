@@ -15,9 +15,9 @@ use std::alloc::Global;
 use symbol_table::SymbolTable;
 
 impl Book {
-    /// Makes the retired metrics gone whose releases all workers that have not ended have acknowledged, and takes away the symbol
-    /// uses of their names. The answer has the metrics that were not gone before, and those that became gone, both rising. It
-    /// takes time in the metrics that are not gone.
+    /// Makes the retired metrics gone whose releases all workers that have not ended have acknowledged, and takes away
+    /// the symbol uses of their names. The answer has the metrics that were not gone before, and those that became
+    /// gone, both rising. It takes time in the metrics that are not gone.
     pub fn sweep(&mut self, alloc: Global) -> Result<Swept, NoMemory>
         ensures step { IfOk result (λ swept. Logged self.old 0 call.Sweep (reply.Swept (length swept.gone)) self.new) }
         ensures list { IfOk result (λ swept. swept.list ≡ names_in (state_of self.old)) }
@@ -48,7 +48,8 @@ fn free_names(symbols: &mut SymbolTable, state: &BookState, gone: &[MetricId])
     requires made { All (λ id. id.0 < length state.now.state.metrics) gone.now }
     requires used { (n : ℕ) → times n (numbers_of_all state.now.state.metrics gone.now) ≤ uses_at symbols.old n }
     ensures freed { symbols.new ≡ uncounted_all symbols.old (numbers_of_all state.now.state.metrics gone.now) }
-    ensures uses { (n : ℕ) → uses_at symbols.new n + times n (numbers_of_all state.now.state.metrics gone.now) ≡ uses_at symbols.old n }
+    ensures uses { (n : ℕ) → uses_at symbols.new n + times n (numbers_of_all state.now.state.metrics gone.now)
+        ≡ uses_at symbols.old n }
     ensures total { total symbols.new ≤ total symbols.old }
     ensures table { IsTable symbols.new }
 {

@@ -14,7 +14,9 @@ use Rattle.stat_defs.specs.declared.configs.MatchSpec.TheVariants as matcher
 use Rattle.stat_defs.specs.declared.configs.BucketSpec.{BucketSpec}
 use Rattle.stat_defs.specs.declared.configs.ScopeSpec.{ScopeSpec}
 use Rattle.stat_defs.specs.declared.configs.Config.{Config}
-use Rattle.stat_defs.specs.declared.configs.TheConstants.{MAX_TAG_RULES, MAX_PATTERNS, MAX_PATTERN_BYTES, MAX_TAG_VALUE_BYTES, MAX_BUCKET_SETTINGS, MAX_BOUNDS, MAX_BOUND, MAX_SCOPES, MAX_FLUSHES, MAX_FLUSH_EVERY}
+use Rattle.stat_defs.specs.declared.configs.TheConstants.{MAX_TAG_RULES, MAX_PATTERNS, MAX_PATTERN_BYTES}
+use Rattle.stat_defs.specs.declared.configs.TheConstants.{MAX_TAG_VALUE_BYTES, MAX_BUCKET_SETTINGS, MAX_BOUNDS}
+use Rattle.stat_defs.specs.declared.configs.TheConstants.{MAX_BOUND, MAX_SCOPES, MAX_FLUSHES, MAX_FLUSH_EVERY}
 use Rattle.stat_defs.specs.Names.{is_printable_byte, IsLabel, IsLocalName, IsScopePrefix}
 
 -- the text of a pattern is UTF-8 and has at most 1,024 bytes

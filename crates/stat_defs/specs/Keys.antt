@@ -27,7 +27,8 @@ same_mode Never Never = true
 same_mode _ _ = false
 
 abbrev pub same_key : Key → Key → Bool
-same_key a b = same_text a.label b.label && (same_kind a.kind b.kind && (same_mode a.mode b.mode && same_text a.name b.name))
+same_key a b = same_text a.label b.label
+    && (same_kind a.kind b.kind && (same_mode a.mode b.mode && same_text a.name b.name))
 
 -- what a seat holds under a key: the verdict, and the number of the scope that it was found through
 pub record Held : Type 0 where

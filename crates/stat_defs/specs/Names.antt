@@ -1,11 +1,14 @@
--- Labels, names, prefixes and tokens (Envoy's design note on statistics; the bytes allowed in them are this project's own).
-use Rattle.std.specs.Prelude.{◌≡◌, ◌≤◌, ◌-◌, ℕ, Bool, true, if◌then◌else◌, ◌||◌, ◌&&◌, ◌==◌, nat_le, List, [], ◌∷◌, ◌++◌, length, take}
+-- Labels, names, prefixes and tokens (Envoy's design note on statistics; the bytes allowed in them are this project's
+-- own).
+use Rattle.std.specs.Prelude.{◌≡◌, ◌≤◌, ◌-◌, ℕ, Bool, true, if◌then◌else◌, ◌||◌, ◌&&◌, ◌==◌, nat_le, List, [], ◌∷◌}
+use Rattle.std.specs.Prelude.{◌++◌, length, take}
 use Rattle.std.specs.List.{list_all, slice_split, ends_with}
 use Rattle.stat_defs.specs.declared.events.TheConstants.{MAX_LABEL_BYTES, MAX_NAME_BYTES}
 
 -- a letter, a digit or a low line
 abbrev pub is_label_byte : ℕ → Bool
-is_label_byte b = (nat_le 48 b && nat_le b 57) || (nat_le 65 b && nat_le b 90) || (nat_le 97 b && nat_le b 122) || b == 95
+is_label_byte b = (nat_le 48 b && nat_le b 57) || (nat_le 65 b && nat_le b 90) || (nat_le 97 b && nat_le b 122)
+    || b == 95
 
 -- printable, and no space
 abbrev pub is_name_byte : ℕ → Bool

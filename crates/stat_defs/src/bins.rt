@@ -2,8 +2,8 @@
 
 use crate::lists::List;
 
-/// A bin of circllhist: `val` is two decimal digits and `exp` a power of ten, and the bin begins at `val / 10 * 10^exp`.
-/// The bin of the value 0 is (0, 0).
+/// A bin of circllhist: `val` is two decimal digits and `exp` a power of ten, and the bin begins at `val / 10 *
+/// 10^exp`. The bin of the value 0 is (0, 0).
 #[derive(Clone, Copy, Debug, PartialEq, Eq)]
 pub struct Bin {
     pub val: u8,

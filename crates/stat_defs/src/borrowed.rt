@@ -8,7 +8,8 @@ use crate::memory::NoMemory;
 use crate::text::Txt;
 use std::alloc::Global;
 
-/// An [`Event`] whose texts are borrowed, as from the bytes of its line. Contracts tell it as the event that it stands for.
+/// An [`Event`] whose texts are borrowed, as from the bytes of its line. Contracts tell it as the event that it stands
+/// for.
 #[derive(Clone, Copy, Debug)]
 pub enum EventRef<'a> {
     Inc {

@@ -1,6 +1,7 @@
 //! Numbers and kinds of metrics and scopes.
 
-/// The number of a metric: metrics are numbered from 0 in the order in which they are made, and no number is used again.
+/// The number of a metric: metrics are numbered from 0 in the order in which they are made, and no number is used
+/// again.
 #[derive(Clone, Copy, Debug, PartialEq, Eq, PartialOrd, Ord, Hash)]
 pub struct MetricId(pub u32);
 

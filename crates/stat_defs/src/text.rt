@@ -1,7 +1,8 @@
 //! Text as bytes.
 ghost use Rattle.std.specs.Prelude.{◌≡◌, ◌≤◌, IfOk, Some, nat_eq, refl, length, take, [], IsTrue, false};
 ghost use Rattle.std.specs.Hash as fed;
-ghost use Rattle.std.specs.Cmp.Lexicographic.{pointwise, slice_cmp, nat_list_eq_equiv, nat_list_cmp_total, texts_ties, texts_po};
+ghost use Rattle.std.specs.Cmp.Lexicographic.{pointwise, slice_cmp, nat_list_eq_equiv, nat_list_cmp_total, texts_ties};
+ghost use Rattle.std.specs.Cmp.Lexicographic.{texts_po};
 ghost use Rattle.std.specs.Cmp.{partial_equiv_from_equiv};
 ghost use Rattle.std.specs.Cmp.Rules.{hashing};
 ghost use Rattle.std.specs.Ordering.{nat_cmp};
@@ -23,8 +24,8 @@ enum Held {
     Long(Vec<u8>),
 }
 
-/// A text: a name, a label, a prefix or a pattern. Contracts see it as its list of bytes, and it is compared byte by byte.
-/// A short text takes no memory of its own, which no contract says.
+/// A text: a name, a label, a prefix or a pattern. Contracts see it as its list of bytes, and it is compared byte by
+/// byte. A short text takes no memory of its own, which no contract says.
 #[derive(Drop, Debug)]
 pub struct Txt {
     held: Held,
@@ -114,7 +115,8 @@ impl Txt {
         })
     }
 
-    /// Puts these bytes in the place of the text's own where they fit into the memory that it has, and says whether they did.
+    /// Puts these bytes in the place of the text's own where they fit into the memory that it has, and says whether
+    /// they did.
     pub fn refill(&mut self, bytes: &[u8]) -> bool
         ensures filled { IsTrue result → self.new ≡ bytes.now }
         ensures kept { result ≡ false → self.new ≡ self.old }

@@ -1,5 +1,6 @@
 -- How a number is spelled (Envoy's design note on statistics: symbols are written in groups of seven bits).
-use Rattle.std.specs.Prelude.{◌≡◌, ℕ, ◌+◌, ◌<◌, ◌^◌, ◌==◌, if◌then◌else◌, Option, Some, MatchOption, List, [], ◌∷◌, ◌++◌, length, reverse}
+use Rattle.std.specs.Prelude.{◌≡◌, ℕ, ◌+◌, ◌<◌, ◌^◌, ◌==◌, if◌then◌else◌, Option, Some, MatchOption, List, [], ◌∷◌}
+use Rattle.std.specs.Prelude.{◌++◌, length, reverse}
 use Rattle.std.specs.Int.Digits.{digits_of}
 
 -- the groups of a number: its digits to the base 128, the low one first, and one 0 for the number 0
@@ -25,7 +26,8 @@ pub record BeginsWith (bytes : List ℕ) (n : ℕ) : Type 0 where
 -- what a reader answers: a number whose spelling the bytes begin with, and the length of that spelling; nothing where
 -- they begin with the spelling of no number
 abbrev pub Takes : List ℕ → Option (ℕ × ℕ) → Type 0
-Takes bytes answer = MatchOption answer ((n : ℕ) → BeginsWith bytes n → ⊥) (λ r. BeginsWith bytes r.0 × (r.1 ≡ length (spelling r.0)))
+Takes bytes answer = MatchOption answer ((n : ℕ) → BeginsWith bytes n → ⊥)
+    (λ r. BeginsWith bytes r.0 × (r.1 ≡ length (spelling r.0)))
 
 -- a law: no spelling is a prefix of another one
 abbrev pub BeginsAtMostOne : Type 0

@@ -43,9 +43,11 @@ Reads bytes answer = MatchOption answer ((numbers : List ℕ) → BeginsWithName
 
 -- a law: no stored form is a prefix of another one
 abbrev pub BeginsAtMostOneName : Type 0
-BeginsAtMostOneName = (one other : List ℕ) (xs ys : List ℕ) → stored one ++ xs ≡ stored other ++ ys → (one ≡ other) × (xs ≡ ys)
+BeginsAtMostOneName = (one other : List ℕ) (xs ys : List ℕ) → stored one ++ xs ≡ stored other ++ ys → (one ≡ other)
+    × (xs ≡ ys)
 
 -- a law: where a name was written, a reader's one answer is that name, whatever follows
 abbrev pub IsNameReadAgain : Type 0
 IsNameReadAgain = (numbers : List ℕ) (rest : List ℕ) (answer : Option (List ℕ × ℕ)) → IsName numbers →
-    All (λ n. n < 2 ^ 32) numbers → Reads (stored numbers ++ rest) answer → answer ≡ Some (numbers, length (stored numbers))
+    All (λ n. n < 2 ^ 32) numbers → Reads (stored numbers ++ rest) answer → answer
+        ≡ Some (numbers, length (stored numbers))

@@ -1,6 +1,7 @@
 //! Stored names.
 ghost use Rattle.std.specs.Prelude.{◌≡◌, ◌≤◌, ◌*◌, ◌++◌, length, IfOk, OnOk, OnErr};
-ghost use Rattle.stat_name.specs.StoredName.{IsName, data_of, stored, Spells, Reads, BeginsAtMostOneName, IsNameReadAgain};
+ghost use Rattle.stat_name.specs.StoredName.{IsName, data_of, stored, Spells, Reads, BeginsAtMostOneName};
+ghost use Rattle.stat_name.specs.StoredName.{IsNameReadAgain};
 
 use crate::numbers::{MAX_SPELLING_BYTES, put_number, take_number};
 use stat_defs::{NoMemory, Numbers};

@@ -1,5 +1,6 @@
 -- What contracts see of a shelf in memory. This project's own.
-use Rattle.std.specs.Prelude.{◌≡◌, ◌<◌, ◌≤◌, ℕ, List, [], ◌∷◌, Vec, Option, None, Some, nat_eq, if◌then◌else◌, string_bytes, length, slice_index_or, map}
+use Rattle.std.specs.Prelude.{◌≡◌, ◌<◌, ◌≤◌, ℕ, List, [], ◌∷◌, Vec, Option, None, Some, nat_eq, if◌then◌else◌}
+use Rattle.std.specs.Prelude.{string_bytes, length, slice_index_or, map}
 use Rattle.std.specs.Option.{option_map}
 use Rattle.std.specs.Cmp.Lexicographic.{pointwise}
 use Rattle.std.specs.declared.alloc.Global.{Global}

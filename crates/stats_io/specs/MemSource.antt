@@ -2,7 +2,8 @@
 use Rattle.std.specs.Prelude.{ℕ, List, Some}
 use Rattle.stats_io.specs.States.{SourceState}
 
--- where its bytes come from, those that are left, the greatest piece, which pulls fail, and how many were made and failed
+-- where its bytes come from, those that are left, the greatest piece, which pulls fail, and how many were made and
+-- failed
 pub record MemSourceState : Type 0 where
   pub origin : List ℕ
   pub left : List ℕ

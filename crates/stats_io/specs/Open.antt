@@ -4,7 +4,8 @@ use Rattle.std.specs.Io.KnownBytes.{Keeps}
 use Rattle.stat_defs.specs.Faults.{Rose}
 use Rattle.stats_io.specs.States.{SourceState, ShelfState}
 
--- a source that was opened under that name has all its content left, where the shelf tells it, and no pull of it has failed
+-- a source that was opened under that name has all its content left, where the shelf tells it, and no pull of it has
+-- failed
 pub record IsUnpulled (content : Option (List ℕ)) (name : List ℕ) (source : SourceState) : Type 0 where
   pub left : Keeps content source.left
   pub origin : source.origin ≡ name

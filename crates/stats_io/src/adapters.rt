@@ -1,5 +1,5 @@
-//! Readers, writers and the files of the system, the trusted edge. They count their failures, and tell the bytes that std tells of
-//! a reader or a writer: of files and streams of the system, none.
+//! Readers, writers and the files of the system, the trusted edge. They count their failures, and tell the bytes that
+//! std tells of a reader or a writer: of files and streams of the system, none.
 ghost use Rattle.std.specs.Prelude.{None, []};
 
 use crate::shelf::{OpenFault, Shelf};

@@ -2,8 +2,8 @@
 ghost use Rattle.std.specs.Prelude.{◌≡◌, MatchOption, None, map};
 ghost use Rattle.stats_io.specs.MemShelf.{mem_file, file_named, IsFirstNamed};
 
-/// A file of a shelf in memory: what a source that is opened on it gives, in pieces of at most `piece` bytes, at least 1.
-/// Its pulls whose numbers, from 0, stand in `fails` fail.
+/// A file of a shelf in memory: what a source that is opened on it gives, in pieces of at most `piece` bytes, at least
+/// 1. Its pulls whose numbers, from 0, stand in `fails` fail.
 #[derive(Drop)]
 pub struct MemFile {
     pub name: String,

@@ -1,5 +1,6 @@
 //! A shelf in memory.
-ghost use Rattle.std.specs.Prelude.{◌≡◌, ◌≢◌, ◌≤◌, ◌+◌, ◌-◌, ◌^◌, ◌⊎◌, ℕ, List, None, [], map, All, Err, IfOk, OnOk, Contains, min};
+ghost use Rattle.std.specs.Prelude.{◌≡◌, ◌≢◌, ◌≤◌, ◌+◌, ◌-◌, ◌^◌, ◌⊎◌, ℕ, List, None, [], map, All, Err, IfOk, OnOk};
+ghost use Rattle.std.specs.Prelude.{Contains, min};
 ghost use Rattle.stats_io.specs.Open.{IsUnpulled, IsUnopened};
 ghost use Rattle.stats_io.specs.MemSource.{as_source};
 ghost use Rattle.stats_io.specs.MemShelf.{IsSourceOf, as_shelf, file_named, held_by};
@@ -85,7 +86,8 @@ impl Shelf for MemShelf {
     ghost state = { as_shelf };
 
     fn open(&mut self, alloc: Global, name: &str) -> Result<MemSource, OpenFault>
-        ensures opened { IfOk result (λ source. IsUnpulled (held_by self.old.files name.now) name.now (as_source source)) }
+        ensures opened { IfOk result (λ source. IsUnpulled (held_by self.old.files name.now) name.now
+            (as_source source)) }
         ensures failed { result ≡ Err OpenFault.Failed → IsUnopened name.now (as_shelf self.old) (as_shelf self.new) }
         ensures kept { result ≢ Err OpenFault.Failed → as_shelf self.new ≡ as_shelf self.old }
         ensures contents { (other : List ℕ) → held_by self.new.files other ≡ held_by self.old.files other }

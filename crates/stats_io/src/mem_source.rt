@@ -73,7 +73,8 @@ impl Source for MemSource {
         ensures failed { result ≡ Pull.Failed → Rose self.old.faults self.new.faults }
         ensures later { IsLater (as_source self.old) (as_source self.new) }
         ensures fails { (result ≡ Pull.Failed) ↔ Contains self.old.fails self.old.calls }
-        ensures whole_piece { IfBytes result (λ k. k ≡ min (min (length self.old.left) self.old.piece) (length into.old)) }
+        ensures whole_piece { IfBytes result
+            (λ k. k ≡ min (min (length self.old.left) self.old.piece) (length into.old)) }
         ensures sure { ¬ (result ≡ Pull.Failed) → self.new.faults ≡ self.old.faults }
         ensures same_piece { self.new.piece ≡ self.old.piece }
         ensures same_fails { self.new.fails ≡ self.old.fails }
@@ -100,7 +101,8 @@ impl Source for MemSource {
     }
 }
 
-/// Bytes in memory, given in pieces of at most `piece` bytes by a source that never fails: its count is 0 in every state.
+/// Bytes in memory, given in pieces of at most `piece` bytes by a source that never fails: its count is 0 in every
+/// state.
 #[derive(Drop)]
 pub struct SureSource {
     origin: String,
@@ -152,7 +154,8 @@ impl Source for SureSource {
         ensures bytes { Pulls (as_sure_source self.old) (as_sure_source self.new) result into.new }
         ensures later { IsLater (as_sure_source self.old) (as_sure_source self.new) }
         ensures sure { ¬ (result ≡ Pull.Failed) }
-        ensures whole_piece { IfBytes result (λ k. k ≡ min (min (length self.old.left) self.old.piece) (length into.old)) }
+        ensures whole_piece { IfBytes result
+            (λ k. k ≡ min (min (length self.old.left) self.old.piece) (length into.old)) }
         ensures same { self.new.piece ≡ self.old.piece }
     {
         let rest = &self.bytes[self.at..];

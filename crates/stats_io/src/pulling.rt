@@ -26,9 +26,9 @@ fn zeros(alloc: Global, count: usize) -> Result<Vec<u8>, NoMemory>
     Ok(vec![in alloc; 0u8; count]?)
 }
 
-/// Pulls the source until it ends, fails or has given so many bytes that there are more than `limit`, and adds what came
-/// behind the bytes that are there. One pull at most goes past the limit (`bound`). Without memory the bytes that came before
-/// stay.
+/// Pulls the source until it ends, fails or has given so many bytes that there are more than `limit`, and adds what
+/// came behind the bytes that are there. One pull at most goes past the limit (`bound`). Without memory the bytes that
+/// came before stay.
 pub fn pull_up_to<S: Source>(
     alloc: Global,
     source: &mut S,
@@ -36,7 +36,8 @@ pub fn pull_up_to<S: Source>(
     bytes: &mut Vec<u8>,
 ) -> Result<Pulled, NoMemory>
     ensures got { Grows (S.state source.old) (S.state source.new) bytes.old.items bytes.new.items }
-    ensures stops { IfOk result (λ by. StopsBy by limit (S.state source.old) (S.state source.new) (length bytes.new.items)) }
+    ensures stops { IfOk result (λ by. StopsBy by limit (S.state source.old) (S.state source.new)
+        (length bytes.new.items)) }
     ensures bound { length bytes.new.items ≤ max (length bytes.old.items) (limit + limits.PULL_BYTES) }
     ensures later { IsLater (S.state source.old) (S.state source.new) }
 {
@@ -53,7 +54,8 @@ fn pull_by<S: Source>(
 ) -> Result<Pulled, NoMemory>
     requires { 0 < length chunk.old }
     ensures got { Grows (S.state source.old) (S.state source.new) bytes.old.items bytes.new.items }
-    ensures stops { IfOk result (λ by. StopsBy by limit (S.state source.old) (S.state source.new) (length bytes.new.items)) }
+    ensures stops { IfOk result (λ by. StopsBy by limit (S.state source.old) (S.state source.new)
+        (length bytes.new.items)) }
     ensures bound { length bytes.new.items ≤ max (length bytes.old.items) (limit + length chunk.old) }
     ensures later { IsLater (S.state source.old) (S.state source.new) }
 {

@@ -49,8 +49,8 @@ pub trait Shelf {
     /// What each name holds, where the shelf tells it.
     ghost holds: { Self → List ℕ → Option (List ℕ) };
 
-    /// How often an opening has failed, up to the last value of a `u64`, which never falls, and the name whose opening failed
-    /// last.
+    /// How often an opening has failed, up to the last value of a `u64`, which never falls, and the name whose opening
+    /// failed last.
     ghost state: { Self → ShelfState };
 
     /// Opens the source of that name, whose count of faults is 0. What any name holds stays.

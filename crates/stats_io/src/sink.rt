@@ -32,8 +32,8 @@ impl Error for WriteFault {}
 
 /// Where bytes go, as a file or a stream.
 pub trait Sink {
-    /// The bytes that were written, where the sink tells them, and how often a push has failed, up to the last value of a `u64`,
-    /// which never falls.
+    /// The bytes that were written, where the sink tells them, and how often a push has failed, up to the last value of
+    /// a `u64`, which never falls.
     ghost state: { Self → SinkState };
 
     /// Writes the first bytes of the piece. A failed push writes nothing.

@@ -14,8 +14,8 @@ pub enum Pull {
 
 /// Where bytes come from, as a file.
 pub trait Source {
-    /// The bytes that are left, where the source tells them; where they come from, as the name of a file, which no call changes;
-    /// and how often a pull has failed, up to the last value of a `u64`, which never falls.
+    /// The bytes that are left, where the source tells them; where they come from, as the name of a file, which no call
+    /// changes; and how often a pull has failed, up to the last value of a `u64`, which never falls.
     ghost state: { Self → SourceState };
 
     /// Puts the next bytes to the front of `into`. A failed pull takes none.

@@ -1,13 +1,13 @@
--- Which numbers the tokens of a name may get (Envoy's design note on statistics: tokens are shared by all names, and freed
--- symbols are used again; that no higher number is drawn while a lower one is free is this project's own).
+-- Which numbers the tokens of a name may get (Envoy's design note on statistics: tokens are shared by all names, and
+-- freed symbols are used again; that no higher number is drawn while a lower one is free is this project's own).
 use Rattle.std.specs.Prelude.{◌≡◌, ℕ, ◌<◌, ◌⊎◌, List, [], ◌∷◌}
 
 -- the number is in use by some token, where `uses t k` says that token t is in use under number k
 abbrev pub InUse : (List ℕ → ℕ → Type 0) → ℕ → Type 0
 InUse uses n = (token : List ℕ) × uses token n
 
--- The number that a token may get. A token in use keeps its number. Any other gets a number from 1 on that is not in use,
--- and one above all numbers in use only where every lower number is in use.
+-- The number that a token may get. A token in use keeps its number. Any other gets a number from 1 on that is not in
+-- use, and one above all numbers in use only where every lower number is in use.
 pub record Draws (uses : List ℕ → ℕ → Type 0) (token : List ℕ) (n : ℕ) : Type 0 where
   pub kept : (k : ℕ) → uses token k → n ≡ k
   pub fresh : ((k : ℕ) → uses token k → ⊥) → (0 < n) × (InUse uses n → ⊥)

@@ -11,7 +11,8 @@ use Rattle.symbol_table.specs.Table.{Table, total}
 -- the entries of the slots with a use, where the first slot has this number
 abbrev pub entries_from : ℕ → List Slot → List (ℕ × (List ℕ × ℕ))
 entries_from n [] = []
-entries_from n (slot ∷ slots) = if slot.uses == 0 then entries_from (n + 1) slots else (n, (slot.token, slot.uses)) ∷ entries_from (n + 1) slots
+entries_from n (slot ∷ slots) = if slot.uses == 0 then entries_from (n + 1) slots else (n, (slot.token, slot.uses))
+    ∷ entries_from (n + 1) slots
 
 abbrev pub shown : Inside → Table
 shown b = map.from_entries (entries_from 1 b.slots.items)
@@ -20,10 +21,12 @@ shown b = map.from_entries (entries_from 1 b.slots.items)
 abbrev pub AllUsed : List Slot → ℕ → Type 0
 AllUsed slots n = (i : ℕ) → i < n → (slot : Slot) × (slice_get slots i ≡ Some slot) × (0 < slot.uses)
 
--- the index lists exactly the tokens in use under their numbers, and the search for a free slot may begin at `free_from`
+-- the index lists exactly the tokens in use under their numbers, and the search for a free slot may begin at
+-- `free_from`
 pub record Indexed (b : Inside) : Type 0 where
   pub found : (token : List ℕ) (n : ℕ) → get (pointwise nat_eq) b.index token ≡ Some n
-      → (i : ℕ) × (slot : Slot) × (n ≡ i + 1) × (slice_get b.slots.items i ≡ Some slot) × (slot.token ≡ token) × (0 < slot.uses)
+      → (i : ℕ) × (slot : Slot) × (n ≡ i + 1) × (slice_get b.slots.items i ≡ Some slot) × (slot.token ≡ token)
+      × (0 < slot.uses)
   pub listed : (i : ℕ) (slot : Slot) → slice_get b.slots.items i ≡ Some slot → 0 < slot.uses
       → get (pointwise nat_eq) b.index slot.token ≡ Some (i + 1)
   pub used : AllUsed b.slots.items b.free_from

@@ -1,6 +1,7 @@
 -- The table as callers see it: the token and the count of uses of each number. A number without uses has no entry
 -- (Envoy's design note on statistics: symbols are counted by reference, and a symbol without references is free).
-use Rattle.std.specs.Prelude.{◌≡◌, ℕ, ◌+◌, ◌-◌, ◌<◌, ◌==◌, if◌then◌else◌, Some, None, List, [], ◌∷◌, ◌++◌, map as list_map, All}
+use Rattle.std.specs.Prelude.{◌≡◌, ℕ, ◌+◌, ◌-◌, ◌<◌, ◌==◌, if◌then◌else◌, Some, None, List, [], ◌∷◌, ◌++◌}
+use Rattle.std.specs.Prelude.{map as list_map, All}
 use Rattle.std.specs.List.{sum_by, count_by, join_with_byte}
 use Rattle.std.specs.Ordering.{nat_cmp}
 use Rattle.std.specs.FinMap as map
@@ -50,7 +51,8 @@ counted_again_all table (n ∷ ns) = counted_again_all (counted_again table n) n
 
 -- one use less of a number in use; without the last use the number is free
 abbrev pub uncounted : Table → ℕ → Table
-uncounted table n = if uses_at table n == 1 then map.remove table n else map.insert table n (token_in table n, uses_at table n - 1)
+uncounted table n = if uses_at table n == 1 then map.remove table n
+    else map.insert table n (token_in table n, uses_at table n - 1)
 
 abbrev pub uncounted_all : Table → List ℕ → Table
 uncounted_all table [] = table
@@ -64,8 +66,8 @@ times n numbers = count_by (λ k. k == n) numbers
 abbrev pub InUseAll : Table → List ℕ → Type 0
 InUseAll table name = All (λ n. 0 < uses_at table n) name
 
--- what every table keeps: numbers begin at 1, each number in use has uses, no token has two numbers, and all uses together
--- stay below the limit
+-- what every table keeps: numbers begin at 1, each number in use has uses, no token has two numbers, and all uses
+-- together stay below the limit
 pub record IsTable (table : Table) : Type 0 where
   pub from_one : map.get table 0 ≡ None
   pub used : (n : ℕ) (token : List ℕ) (uses : ℕ) → map.get table n ≡ Some (token, uses) → 0 < uses
@@ -73,7 +75,8 @@ pub record IsTable (table : Table) : Type 0 where
   pub few : total table < MAX_USES
 
 -- the tokens were counted under numbers that were drawn for them, and these were appended
-pub record Interned (old : Table) (names : List (List ℕ)) (before : List ℕ) (new : Table) (after : List ℕ) : Type 0 where
+pub record Interned (old : Table) (names : List (List ℕ)) (before : List ℕ) (new : Table)
+    (after : List ℕ) : Type 0 where
   pub numbers : List ℕ
   pub appended : after ≡ before ++ numbers
   pub drawn : DrawsAll (Holds old) names numbers

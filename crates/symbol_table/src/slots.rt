@@ -1,5 +1,6 @@
 //! The slots of a table, and the index of its tokens.
-ghost use Rattle.std.specs.Prelude.{◌≡◌, ℕ, ◌+◌, ◌-◌, ◌<◌, ◌≤◌, ◌^◌, ◌==◌, ◌++◌, ◌∷◌, [], OnOk, OnErr, Some, None, length, slice_get, nat_eq, vec_len};
+ghost use Rattle.std.specs.Prelude.{◌≡◌, ℕ, ◌+◌, ◌-◌, ◌<◌, ◌≤◌, ◌^◌, ◌==◌, ◌++◌, ◌∷◌, [], OnOk, OnErr, Some, None};
+ghost use Rattle.std.specs.Prelude.{length, slice_get, nat_eq, vec_len};
 ghost use Rattle.std.specs.Vec.{vec_capacity};
 ghost use Rattle.indexmap.specs.IndexMap.{get, Updates, IsUnchanged};
 ghost use Rattle.std.specs.Cmp.Lexicographic.{pointwise};
@@ -46,7 +47,8 @@ pub fn list_token(index: &mut NameMap<Txt, u32>, token: Txt, n: u32) -> Result<(
 /// Takes the token of a slot out of the index.
 pub fn unlist_token(index: &mut NameMap<Txt, u32>, slots: &[Slot], at: usize)
     requires { at < length slots.now }
-    ensures { (slot : TheSlot) → slice_get slots.now at ≡ Some slot → Updates (pointwise nat_eq) index.old index.new slot.token None }
+    ensures { (slot : TheSlot) → slice_get slots.now at ≡ Some slot
+        → Updates (pointwise nat_eq) index.old index.new slot.token None }
 {
     let slot = &slots[at];
     let _ = index.swap_remove(&slot.token);
@@ -57,8 +59,10 @@ pub fn next_free(slots: &[Slot], from: usize) -> usize
     requires { from ≤ length slots.now }
     ensures from { from ≤ result }
     ensures within { result ≤ length slots.now }
-    ensures used { (i : ℕ) → from ≤ i → i < result → (slot : TheSlot) × (slice_get slots.now i ≡ Some slot) × (0 < slot.uses) }
-    ensures free { result < length slots.now → (slot : TheSlot) × (slice_get slots.now result ≡ Some slot) × (slot.uses ≡ 0) }
+    ensures used { (i : ℕ) → from ≤ i → i < result → (slot : TheSlot) × (slice_get slots.now i ≡ Some slot)
+        × (0 < slot.uses) }
+    ensures free { result < length slots.now → (slot : TheSlot) × (slice_get slots.now result ≡ Some slot)
+        × (slot.uses ≡ 0) }
 {
     let mut at = from;
     while at < slots.len() {

@@ -4,7 +4,9 @@ ghost use Rattle.std.specs.FinMap as map;
 ghost use Rattle.std.specs.Vec.{vec_capacity};
 ghost use Rattle.stat_defs.specs.Names.{IsFullName, tokens};
 ghost use Rattle.symbol_table.specs.Drawing.{Draws, DrawsAll};
-ghost use Rattle.symbol_table.specs.Table.{Holds, uses_at, times, InUseAll, token_in, total, text_in, counted, counted_all, counted_again, counted_again_all, uncounted, uncounted_all, IsTable, Interned};
+ghost use Rattle.symbol_table.specs.Table.{Holds, uses_at, times, InUseAll, token_in, total, text_in, counted};
+ghost use Rattle.symbol_table.specs.Table.{counted_all, counted_again, counted_again_all, uncounted, uncounted_all};
+ghost use Rattle.symbol_table.specs.Table.{IsTable, Interned};
 
 use crate::slots::{
     Slot, add_use, drop_use, list_token, next_free, number_of, put_last, token_at, unlist_token,
@@ -19,8 +21,8 @@ use std::marker::Model;
 /// The uses of all tokens together stay below so many.
 pub const MAX_USES: usize = 16_777_216;
 
-/// The tokens of names in use. Contracts see a table as the finite map from each number in use to its token and the count
-/// of its uses.
+/// The tokens of names in use. Contracts see a table as the finite map from each number in use to its token and the
+/// count of its uses.
 #[derive(Drop)]
 pub struct SymbolTable {
     slots: Vec<Slot>,
@@ -165,7 +167,8 @@ impl SymbolTable {
     ) -> Result<(), NoMemory>
         requires room { total self.old + length parts.now < MAX_USES }
         requires space { vec_len numbers.old + length parts.now ≤ vec_capacity numbers.old }
-        ensures ok { OnOk result (Interned self.old (list_map (λ x. x.now) parts.now) numbers.old.items self.new numbers.new.items) }
+        ensures ok { OnOk result (Interned self.old
+            (list_map (λ x. x.now) parts.now) numbers.old.items self.new numbers.new.items) }
         ensures from_one { OnOk result (All (λ n. 0 < n) numbers.old.items → All (λ n. 0 < n) numbers.new.items) }
         ensures total { OnOk result (total self.new ≡ total self.old + length parts.now) }
         ensures err { OnErr result (self.new ≡ self.old) }

@@ -1,6 +1,7 @@
 -- The tags of a name, and the name without the places that they were drawn from (Envoy's configuration reference, tag
 -- specifiers; that a rule whose tag is there is passed over is this project's own).
-use Rattle.std.specs.Prelude.{ℕ, Bool, false, not, ◌==◌, ◌++◌, ◌&&◌, nat_le, nat_lt, List, [], ◌∷◌, Option, None, Some, option_map, if◌then◌else◌, fold, map, filter, slice_range, IsUtf8}
+use Rattle.std.specs.Prelude.{ℕ, Bool, false, not, ◌==◌, ◌++◌, ◌&&◌, nat_le, nat_lt, List, [], ◌∷◌, Option, None, Some}
+use Rattle.std.specs.Prelude.{option_map, if◌then◌else◌, fold, map, filter, slice_range, IsUtf8}
 use Rattle.std.specs.List.{list_any, enumerate_from}
 use Rattle.std.specs.Option.{option_map_or}
 use lib.Pointwise.{pointwise}
@@ -17,7 +18,8 @@ abbrev pub given_by : List ℕ → List ℕ → Rule → Option Given
 given_by name tag_name (Fixed value) =
     Some (record { tag = record { name = tag_name; value = value }; removed = None })
 given_by name tag_name (Regex text) = option_map
-    (λ (first, value). record { tag = record { name = tag_name; value = slice_range name value.0 value.1 }; removed = Some first })
+    (λ (first, value). record { tag = record { name = tag_name; value = slice_range name value.0 value.1 };
+        removed = Some first })
     (captured text name)
 
 -- what the rule gives in the original name

@@ -46,9 +46,9 @@ impl Model for Pat {
 }
 
 impl Pat {
-    /// Compiles the text. `Error::OutOfMemory` alone stands for want of memory. A text is refused for its syntax or, where
-    /// it is a regular expression, for its size: a program has at most [`MAX_STATES`] states, and their tables at most
-    /// [`MAX_TABLE_BYTES`] bytes. That a smaller one is made is left to `regex_compile`.
+    /// Compiles the text. `Error::OutOfMemory` alone stands for want of memory. A text is refused for its syntax or,
+    /// where it is a regular expression, for its size: a program has at most [`MAX_STATES`] states, and their tables at
+    /// most [`MAX_TABLE_BYTES`] bytes. That a smaller one is made is left to `regex_compile`.
     pub fn new(alloc: Global, text: &str) -> Result<Pat, Error>
         ensures text { IfOk result (λ pattern. pattern ≡ text.now) }
         ensures refused { IfErr result (IsRefusal default_config text.now) }
@@ -109,7 +109,8 @@ impl Pat {
     ) -> Result<Option<(usize, usize)>, AllocError>
         requires { length cells.old ≤ 4 }
         ensures span { IfOk result (λ found. found ≡ option_map span (leftmost self.now name.now)) }
-        ensures cells { OnOk result (IfSome (leftmost self.now name.now) (λ m. cells.new ≡ group_cells m (length cells.old))) }
+        ensures cells { OnOk result (IfSome (leftmost self.now name.now)
+            (λ m. cells.new ≡ group_cells m (length cells.old))) }
     {
         machine::leftmost(alloc, &self.nfa, tracker, name, cells)
     }

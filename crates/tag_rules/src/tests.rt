@@ -9,11 +9,11 @@ use stat_defs::{Bound, BucketSpec, List, MatchSpec, Pattern, Rule, TagSpec, Txt}
 use std::alloc::Global;
 use std::test::Fail;
 
-/// Full names, each with what the default rules make of it: what is left, and then the tags. They have in turn: a cluster's
-/// name, a code, a class of codes, a listener's prefix, and two of them; no tag, since the beginning or the dot after the name
-/// is missing; the shortest text up to a dot, which may be empty; what one rule removes and so makes a match for another,
-/// which looks at the name as it was; a code, which has three digits and ends the name; a class, which has one digit before
-/// `xx`, which ends the name.
+/// Full names, each with what the default rules make of it: what is left, and then the tags. They have in turn: a
+/// cluster's name, a code, a class of codes, a listener's prefix, and two of them; no tag, since the beginning or the
+/// dot after the name is missing; the shortest text up to a dot, which may be empty; what one rule removes and so makes
+/// a match for another, which looks at the name as it was; a code, which has three digits and ends the name; a class,
+/// which has one digit before `xx`, which ends the name.
 const SPLITS: &str =
     "cluster.foo_cluster.upstream_rq_timeout | cluster.upstream_rq_timeout envoy.cluster_name=foo_cluster
 cluster.c.upstream_rq_2xx | cluster.upstream_rq_xx envoy.response_code_class=2 envoy.cluster_name=c
@@ -50,8 +50,9 @@ a_rq_4xx | a_rq_xx envoy.response_code_class=4
 a_rq_44xx | a_rq_44xx
 a_rq_4xxx | a_rq_4xxx";
 
-/// Regular expressions, of which each is searched for in each of the names, by `regex` too: alternatives, empty groups, groups that
-/// take no part, classes, anchors, flags at the front, counted and lazy repeats, and a character of two bytes.
+/// Regular expressions, of which each is searched for in each of the names, by `regex` too: alternatives, empty groups,
+/// groups that take no part, classes, anchors, flags at the front, counted and lazy repeats, and a character of two
+/// bytes.
 const PATTERNS: &str = r"(a|ab)(c|bcd)?
 ((a*)b)
 (x*)

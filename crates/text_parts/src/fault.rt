@@ -1,6 +1,7 @@
 //! Why a text was not written whole.
 ghost use Rattle.std.specs.Prelude.{◌≡◌};
-ghost use Rattle.text_parts.specs.declared.fault.TextFault.TheVariants.{WriteFault as write_fault, NoMemory as no_memory};
+ghost use Rattle.text_parts.specs.declared.fault.TextFault.TheVariants.{WriteFault as write_fault};
+ghost use Rattle.text_parts.specs.declared.fault.TextFault.TheVariants.{NoMemory as no_memory};
 
 use stat_defs::NoMemory;
 use stats_io::WriteFault;

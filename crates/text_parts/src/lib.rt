@@ -1,5 +1,5 @@
-//! What the texts of a flush share: numbers as they are printed, a buffer whose text goes to a sink in large pieces, and the
-//! faults of writing a text.
+//! What the texts of a flush share: numbers as they are printed, a buffer whose text goes to a sink in large pieces,
+//! and the faults of writing a text.
 #![tactic(auto)]
 
 mod buffer;

@@ -1,7 +1,8 @@
 //! Numbers, as texts print them.
 ghost use Rattle.std.specs.Prelude.{◌≡◌, ◌+◌, ◌++◌, ◌<◌, ◌≤◌, OnOk, OnErr, vec_len, vec_capacity};
 ghost use Rattle.std.specs.Fmt.{decimal, signed_decimal};
-ghost use Rattle.text_parts.specs.Decimals.{hundredth_digits, fraction, thousandths as thousandths_text, twentieths as twentieths_text, halves as halves_text};
+ghost use Rattle.text_parts.specs.Decimals.{hundredth_digits, fraction, thousandths as thousandths_text};
+ghost use Rattle.text_parts.specs.Decimals.{twentieths as twentieths_text, halves as halves_text};
 
 use itoa::Buffer;
 use std::alloc::AllocError;

@@ -38,5 +38,7 @@ pub hashed_as : (query : Query) (key : CacheKey) → is_at (asked query) key ≡
 hashed_as query key is = ap (λ (k : Key). k.label ∷ k.name ∷ []) (sym (same_key-is (key_of key) (asked query) is))
 
 -- it finds the keys that are equal to one that it finds, and no other
-pub found_as : (query : Query) (key other : CacheKey) → is_at (asked query) key ≡ true → is_at (asked query) other ≡ eq key other
-found_as query key other is = ap (λ (k : Key). is_at k other) (sym (same_key-is (key_of key) (asked query) is)) ∙ sym (finds_as key other)
+pub found_as : (query : Query) (key other : CacheKey) → is_at (asked query) key ≡ true → is_at (asked query) other
+    ≡ eq key other
+found_as query key other is = ap (λ (k : Key). is_at k other) (sym (same_key-is (key_of key) (asked query) is)) ∙ sym
+    (finds_as key other)

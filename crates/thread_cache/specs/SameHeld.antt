@@ -19,7 +19,8 @@ abbrev pub DropIsAcknowledgement : Type 0
 DropIsAcknowledgement = (cached left held : List Held) (released : List ScopeId) (stays : Held → Bool)
     → SameHeld cached held → HoldsOnce held
     → All (λ one. stays one ≡ not (is_through released one)) held
-    → ((key : Key) → held_under key left ≡ held_without released (held_under key cached)) → SameHeld left (filter stays held)
+    → ((key : Key) → held_under key left ≡ held_without released (held_under key cached))
+    → SameHeld left (filter stays held)
 
 -- an end: the seat holds nothing, and a cache without entries gives the same
 abbrev pub EndIsEmpty : Type 0

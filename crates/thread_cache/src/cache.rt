@@ -1,5 +1,6 @@
 //! The entries that a seat holds.
-ghost use Rattle.std.specs.Prelude.{◌≡◌, ◌+◌, None, Some, true, false, not, filter, length, option_map, cond, All, [], map};
+ghost use Rattle.std.specs.Prelude.{◌≡◌, ◌+◌, None, Some, true, false, not, filter, length, option_map, cond, All, []};
+ghost use Rattle.std.specs.Prelude.{map};
 ghost use Rattle.std.specs.Prelude.{IsTrue, IfSome, OnOk, OnErr};
 ghost use Rattle.std.specs.List.{list_any};
 ghost use Rattle.indexmap.specs.IndexMap.{spare};
@@ -112,8 +113,8 @@ impl Cache {
         look_up(&self.table, &self.scopes, self.stale, query)
     }
 
-    /// Makes room for an entry of the query's key. Room is no entry, and it stays until the key is filled. After want of
-    /// memory the cache is as it was.
+    /// Makes room for an entry of the query's key. Room is no entry, and it stays until the key is filled. After want
+    /// of memory the cache is as it was.
     pub fn reserve(&mut self, alloc: Global, query: &Query<'_>) -> Result<(), NoMemory>
         ensures reserved { OnOk result (self.new
             ≡ record self.old { rooms = with_room (asked query.now) self.old.rooms }) }

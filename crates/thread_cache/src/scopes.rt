@@ -40,8 +40,10 @@ pub(crate) fn is_dropped(scopes: &Scopes, scope: ScopeId) -> bool
 // Puts what is known of a scope that is listed, or for which there is room.
 fn put_scope(scopes: &mut Scopes, scope: ScopeId, entries: ScopeEntries)
     requires { is_listed scopes.old.entries scope ≡ false → 0 < spare scopes.old }
-    ensures live { (s : ScopeId) → is_live scopes.new.entries s ≡ (if scope.0 == s.0 then not entries.dropped else is_live scopes.old.entries s) }
-    ensures listed { (s : ScopeId) → is_listed scopes.new.entries s ≡ (scope.0 == s.0 || is_listed scopes.old.entries s) }
+    ensures live { (s : ScopeId) → is_live scopes.new.entries s
+        ≡ (if scope.0 == s.0 then not entries.dropped else is_live scopes.old.entries s) }
+    ensures listed { (s : ScopeId) → is_listed scopes.new.entries s
+        ≡ (scope.0 == s.0 || is_listed scopes.old.entries s) }
     ensures spare { spare scopes.old ≤ spare scopes.new + 1 }
 {
     let _ = scopes.insert(scope, entries);
@@ -52,7 +54,8 @@ pub(crate) fn count_entry(scopes: &mut Scopes, scope: ScopeId)
     requires room { 0 < spare scopes.old }
     requires kept { is_dropped scopes.old.entries scope ≡ false }
     ensures live { (s : ScopeId) → is_live scopes.new.entries s ≡ (scope.0 == s.0 || is_live scopes.old.entries s) }
-    ensures listed { (s : ScopeId) → is_listed scopes.new.entries s ≡ (scope.0 == s.0 || is_listed scopes.old.entries s) }
+    ensures listed { (s : ScopeId) → is_listed scopes.new.entries s
+        ≡ (scope.0 == s.0 || is_listed scopes.old.entries s) }
     ensures spare { spare scopes.old ≤ spare scopes.new + 1 }
 {
     let count = match scopes.get(&scope) {
@@ -71,7 +74,8 @@ pub(crate) fn count_entry(scopes: &mut Scopes, scope: ScopeId)
 
 // Drops the scope, and answers about how many entries have it: 0 only where it was not live.
 pub(crate) fn drop_scope(scopes: &mut Scopes, scope: ScopeId) -> u64
-    ensures live { (s : ScopeId) → is_live scopes.new.entries s ≡ (not (scope.0 == s.0) && is_live scopes.old.entries s) }
+    ensures live { (s : ScopeId) → is_live scopes.new.entries s
+        ≡ (not (scope.0 == s.0) && is_live scopes.old.entries s) }
     ensures listed { (s : ScopeId) → is_listed scopes.new.entries s ≡ is_listed scopes.old.entries s }
     ensures idle { result ≡ 0 → (s : ScopeId) → is_live scopes.new.entries s ≡ is_live scopes.old.entries s }
     ensures spare { spare scopes.old ≤ spare scopes.new }
@@ -91,7 +95,8 @@ pub(crate) fn drop_scopes(scopes: &mut Scopes, released: &[ScopeId], stale: u64)
     ensures live { (s : ScopeId) → is_live scopes.new.entries s ≡ (not (list_any
         (λ r. r.0 == s.0) released.now) && is_live scopes.old.entries s) }
     ensures listed { (s : ScopeId) → is_listed scopes.new.entries s ≡ is_listed scopes.old.entries s }
-    ensures idle { result ≡ 0 → (stale ≡ 0) × ((s : ScopeId) → is_live scopes.new.entries s ≡ is_live scopes.old.entries s) }
+    ensures idle { result ≡ 0 → (stale ≡ 0)
+        × ((s : ScopeId) → is_live scopes.new.entries s ≡ is_live scopes.old.entries s) }
     ensures spare { spare scopes.old ≤ spare scopes.new }
 {
     let mut total = stale;

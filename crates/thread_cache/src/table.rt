@@ -70,8 +70,8 @@ pub(crate) fn purge(table: &mut Table, scopes: &mut Scopes)
     forget_dropped(scopes);
 }
 
-// Counts an entry more of a scope, which is live afterwards, and answers how stale the table is then. Where the scope was
-// dropped before, its entries are taken out first.
+// Counts an entry more of a scope, which is live afterwards, and answers how stale the table is then. Where the scope
+// was dropped before, its entries are taken out first.
 pub(crate) fn open_scope(table: &mut Table, scopes: &mut Scopes, stale: u64, scope: ScopeId) -> u64
     requires listed { All (λ e. is_listed scopes.old.entries e.1.scope ≡ true) table.old.entries }
     requires live { stale ≡ 0 → All (λ e. is_live scopes.old.entries e.1.scope ≡ true) table.old.entries }
@@ -92,7 +92,8 @@ pub(crate) fn open_scope(table: &mut Table, scopes: &mut Scopes, stale: u64, sco
     stale
 }
 
-// Takes the entries of dropped scopes out where they are about as many as the others, and answers how stale the table is then.
+// Takes the entries of dropped scopes out where they are about as many as the others, and answers how stale the table
+// is then.
 pub(crate) fn tidy(table: &mut Table, scopes: &mut Scopes, stale: u64) -> u64
     requires listed { All (λ e. is_listed scopes.old.entries e.1.scope ≡ true) table.old.entries }
     requires live { stale ≡ 0 → All (λ e. is_live scopes.old.entries e.1.scope ≡ true) table.old.entries }
@@ -111,7 +112,8 @@ pub(crate) fn tidy(table: &mut Table, scopes: &mut Scopes, stale: u64) -> u64
 
 // Whether the entry at that place has a live scope.
 fn is_live_at(table: &Table, scopes: &Scopes, at: usize) -> bool
-    ensures { (e : CacheKey × Slot) → slice_get table.now.entries at ≡ Some e → result ≡ is_live scopes.now.entries e.1.scope }
+    ensures { (e : CacheKey × Slot) → slice_get table.now.entries at ≡ Some e → result
+        ≡ is_live scopes.now.entries e.1.scope }
 {
     match table.get_index(at) {
         Some((_, slot)) => is_live(scopes, slot.scope),

@@ -9,7 +9,8 @@ use Rattle.turn_cell.specs.declared.flusher.Request.TheVariants.{Asked, Left as 
 use Rattle.turn_cell.specs.declared.flusher.Take.{Take}
 use Rattle.turn_cell.specs.declared.flusher.Take.TheVariants.{Full, NotYet, Left}
 use Rattle.turn_cell.specs.Steps.{TellsFull, TellsNotYet}
-use Rattle.turn_cell.specs.Tokens.{TurnKnown, idle_known, waiting_known, holding_known, after_step, with_half, weight_of}
+use Rattle.turn_cell.specs.Tokens.{TurnKnown, idle_known, waiting_known, holding_known, after_step, with_half}
+use Rattle.turn_cell.specs.Tokens.{weight_of}
 
 module _ {H : Type 0} where
   abbrev pub MatchRequest : Request H → (FlushWaiting H → Type 0) → (FlushIdle H → Type 0) → Type 0

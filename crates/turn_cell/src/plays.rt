@@ -1,6 +1,7 @@
 //! The rule of a cell's word and slot, and what each kind of step on the word tells.
 ghost use Rattle.turn_cell.specs.Turned.{Turned, turn_view};
-ghost use Rattle.turn_cell.specs.Steps.{WorkerLoads, FlusherLoads, Asks, Begins, Gives, Collects, Returns, TakesBack, Leaves};
+ghost use Rattle.turn_cell.specs.Steps.{WorkerLoads, FlusherLoads, Asks, Begins, Gives, Collects, Returns, TakesBack};
+ghost use Rattle.turn_cell.specs.Steps.{Leaves};
 
 use crate::view::TurnView;
 use atomic_table::{Play, TableRule};

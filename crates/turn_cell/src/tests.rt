@@ -1,6 +1,7 @@
 ghost use Rattle.std.specs.Prelude.{◌≡◌, ℕ, ◌+◌, ◌*◌, ◌≤◌, true, false, MatchResult};
 ghost use Rattle.turn_cell.specs.declared.limits.TheConstants.{MAX_TURNED};
-ghost use Rattle.turn_cell.specs.Tokens.{cell_id, worker_known, note_known, idle_known, flusher_known, holding_known, weight_of};
+ghost use Rattle.turn_cell.specs.Tokens.{cell_id, worker_known, note_known, idle_known, flusher_known, holding_known};
+ghost use Rattle.turn_cell.specs.Tokens.{weight_of};
 
 use crate::{
     FlushAny, FlushHolding, FlushIdle, LeftNote, Request, Rest, Take, TurnCell, TurnWorker,

@@ -90,7 +90,8 @@ fn add_by_four<R: Threads + Sync>(
     times: u32,
 ) -> Four
     requires apart { (apart ≤ 16) × (size_of bank.now ≡ 64) }
-    requires ready { IsReady bank.now four.0 0 × IsReady bank.now four.1 0 × IsReady bank.now four.2 0 × IsReady bank.now four.3 0 }
+    requires ready { IsReady bank.now four.0 0 × IsReady bank.now four.1 0 × IsReady bank.now four.2 0
+        × IsReady bank.now four.3 0 }
     ensures { (worker_bank result.0 ≡ bank_id bank.now) × (worker_bank result.1 ≡ bank_id bank.now)
         × (worker_bank result.2 ≡ bank_id bank.now) × (worker_bank result.3 ≡ bank_id bank.now) }
 {
@@ -99,11 +100,13 @@ fn add_by_four<R: Threads + Sync>(
         rt,
         move || -> (WorkerSeat, WorkerSeat)
             requires { (apart ≤ 16) × IsReady bank.now first 0 × IsReady bank.now second 0 × (size_of bank.now ≡ 64) }
-            ensures { (worker_bank result.0 ≡ bank_id bank.entry.now) × (worker_bank result.1 ≡ bank_id bank.entry.now) }
+            ensures { (worker_bank result.0 ≡ bank_id bank.entry.now)
+                × (worker_bank result.1 ≡ bank_id bank.entry.now) }
         { add_by_two(rt, bank, (first, second), (0, apart), times) },
         move || -> (WorkerSeat, WorkerSeat)
             requires { (apart ≤ 16) × IsReady bank.now third 0 × IsReady bank.now fourth 0 × (size_of bank.now ≡ 64) }
-            ensures { (worker_bank result.0 ≡ bank_id bank.entry.now) × (worker_bank result.1 ≡ bank_id bank.entry.now) }
+            ensures { (worker_bank result.0 ≡ bank_id bank.entry.now)
+                × (worker_bank result.1 ≡ bank_id bank.entry.now) }
         { add_by_two(rt, bank, (third, fourth), (2 * apart, 3 * apart), times) },
     );
     (first, second, third, fourth)

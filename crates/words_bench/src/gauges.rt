@@ -63,7 +63,8 @@ fn call_by_four<R: Threads + Sync>(
     call: Call,
     times: u32,
 ) -> Four
-    requires { IsGaugeReady bank.now four.0 × IsGaugeReady bank.now four.1 × IsGaugeReady bank.now four.2 × IsGaugeReady bank.now four.3 }
+    requires { IsGaugeReady bank.now four.0 × IsGaugeReady bank.now four.1 × IsGaugeReady bank.now four.2
+        × IsGaugeReady bank.now four.3 }
     ensures { (gauge_bank result.0 ≡ gauges_id bank.now) × (gauge_bank result.1 ≡ gauges_id bank.now)
         × (gauge_bank result.2 ≡ gauges_id bank.now) × (gauge_bank result.3 ≡ gauges_id bank.now) }
 {
@@ -72,11 +73,13 @@ fn call_by_four<R: Threads + Sync>(
         rt,
         move || -> (GaugeSeat, GaugeSeat)
             requires { IsGaugeReady bank.now first × IsGaugeReady bank.now second }
-            ensures { (gauge_bank result.0 ≡ gauges_id bank.entry.now) × (gauge_bank result.1 ≡ gauges_id bank.entry.now) }
+            ensures { (gauge_bank result.0 ≡ gauges_id bank.entry.now)
+                × (gauge_bank result.1 ≡ gauges_id bank.entry.now) }
         { call_by_two(rt, bank, (first, second), call, times) },
         move || -> (GaugeSeat, GaugeSeat)
             requires { IsGaugeReady bank.now third × IsGaugeReady bank.now fourth }
-            ensures { (gauge_bank result.0 ≡ gauges_id bank.entry.now) × (gauge_bank result.1 ≡ gauges_id bank.entry.now) }
+            ensures { (gauge_bank result.0 ≡ gauges_id bank.entry.now)
+                × (gauge_bank result.1 ≡ gauges_id bank.entry.now) }
         { call_by_two(rt, bank, (third, fourth), call, times) },
     );
     (first, second, third, fourth)
