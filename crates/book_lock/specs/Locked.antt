@@ -114,7 +114,7 @@ module _ {B : Type 0} where
   abbrev pub Taken : (B → BookHistory) → Step (Option B) → Sat B → ℕ → Sat B → Type 0
   Taken history_of st m r m' =
       (r ≡ 0 → (book : B) × (m' ≡ (own_changed (took (history_of book).log) m.0, (0, Some book) ∷ m.1))
-          × Finds (own_part m.0) (history_of book))
+      × Finds (own_part m.0) (history_of book))
       × (r ≢ 0 → (r ≡ 1) × (m' ≡ (own_changed (missed r) m.0, m.1)))
 
   -- at a publish the book lies in the slot again, which is still the seat's

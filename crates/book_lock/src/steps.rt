@@ -21,7 +21,7 @@ pub(crate) fn take<B: Booked>(top: &Top<B>, place: &mut Place<B>) -> Result<Box<
     ensures table { (place.new.table_id ≡ place.old.table_id) × (place.new.id ≡ place.old.id) }
     ensures told { MatchResult result
         (λ book. (place.new.me ≡ (own_changed (took (B.history book.value).log) place.old.me.0, (0, None) ∷ []))
-            × Finds (own_part place.old.me.0) (B.history book.value))
+        × Finds (own_part place.old.me.0) (B.history book.value))
         (λ word. (word ≡ 1) × (place.new.me ≡ (own_changed (missed word) place.old.me.0, []))) }
 {
     let found = top.compare_exchange::<Taking>(place, 0, 0, 1);

@@ -54,4 +54,4 @@ first_case (Some _) true None false false = New
 abbrev pub outcome : NameRules → State → Key → Outcome
 outcome rules s key = let name = name_of s key in
     first_case (live_scope s key.label) (rules.admits name) (known s key.kind name) (is_full s)
-        (is_over_limit s key.kind)
+    (is_over_limit s key.kind)

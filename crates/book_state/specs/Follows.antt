@@ -32,7 +32,7 @@ abbrev pub own : NameRules → ℕ → State → List Entry → List Own
 own rules seat s [] = []
 own rules seat s (entry ∷ log) = let next = effect rules entry.seat entry.call entry.reply s in
     if entry.seat == seat then record { call = entry.call; reply = entry.reply; after = next } ∷ own rules seat next log
-        else own rules seat next log
+    else own rules seat next log
 
 -- the verdict that a reply tells
 abbrev pub verdict_of : Reply → Option Verdict

@@ -12,14 +12,23 @@ use Rattle.book_state.specs.Step.{effect, Allowed}
 
 -- no scope, no metric, and a seat for each worker
 abbrev pub empty : ℕ → State
-empty workers = record { scopes = []; metrics = []; releases = 0; seats = replicate workers
-    (record { tag = 0; held = []; ended = false }) }
+empty workers = record {
+  scopes = [];
+  metrics = [];
+  releases = 0;
+  seats = replicate workers
+      (record { tag = 0; held = []; ended = false });
+}
 
 -- the openings of the configuration's scopes, in order, from this number on
 abbrev pub openings : ℕ → List ScopeSpec → List Entry
 openings id [] = []
-openings id (scope ∷ scopes) = record { seat = 0; call = call.OpenScope scope.label scope.prefix; reply = reply.Opened
-    (record { 0 = id }) } ∷ openings (suc id) scopes
+openings id (scope ∷ scopes) = record {
+  seat = 0;
+  call = call.OpenScope scope.label scope.prefix;
+  reply = reply.Opened
+      (record { 0 = id });
+} ∷ openings (suc id) scopes
 
 abbrev pub is_sweep : Call → Bool
 is_sweep call.Sweep = true

@@ -22,5 +22,7 @@ emptied scope = record scope { live = false; bears = [] }
 
 -- a scope that bears this metric besides, once
 abbrev pub bearing : ℕ → ScopeView → ScopeView
-bearing metric scope = record scope { bears = if has metric scope.bears then scope.bears else scope.bears ++ metric
-    ∷ [] }
+bearing metric scope = record scope {
+  bears = if has metric scope.bears then scope.bears else scope.bears ++ metric
+      ∷ [];
+}

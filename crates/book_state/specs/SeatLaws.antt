@@ -121,4 +121,4 @@ pub record LegalSeats : Type 0 where
   -- of the scopes of what it holds, those are dead that it has not acknowledged
   pub dead : OfSeats (λ rules workers seat log.
       All (λ h. is_live (replay rules workers log).scopes h.scope
-          ≡ not (is_through (unacknowledged rules workers seat log) h)) (held_by rules workers seat log))
+      ≡ not (is_through (unacknowledged rules workers seat log) h)) (held_by rules workers seat log))

@@ -73,8 +73,15 @@ found scope mode row = record {
 -- a metric with the next number, the empty text and one bearer
 abbrev pub made : NameRules → State → Key → List ℕ → Row
 made rules s key numbers = let name = name_of s key in record {
-  metric = record { name = name; kind = key.kind; mode = key.mode; numbers = numbers; tagged = rules.tagged name;
-      text = []; life = Live };
+  metric = record {
+    name = name;
+    kind = key.kind;
+    mode = key.mode;
+    numbers = numbers;
+    tagged = rules.tagged name;
+    text = [];
+    life = Live;
+  };
   bearers = scope_of s key ∷ [];
 }
 
@@ -114,7 +121,7 @@ effect rules seat (call.Release label) (reply.Released id) s = record s {
 }
 effect rules seat (call.Find key) (reply.Made id numbers) s =
     on_seat (hold key (scope_of s key) (verdict.Accepted id)) seat
-        (record s { metrics = s.metrics ++ made rules s key numbers ∷ [] })
+    (record s { metrics = s.metrics ++ made rules s key numbers ∷ [] })
 effect rules seat (call.Find key) (reply.Found id) s =
     on_seat (hold key (scope_of s key) (verdict.Accepted id)) seat (on_metric (found (scope_of s key) key.mode) id.0 s)
 effect rules seat (call.Find key) reply.Rejected s = on_seat (hold key (scope_of s key) verdict.Rejected) seat s

@@ -119,5 +119,12 @@ numbers_in _ = []
 
 -- a live metric with the empty text
 abbrev pub fresh_metric : List TagSpec → Key → List ℕ → List ℕ → Metric
-fresh_metric tags key name numbers = record { name = name; kind = key.kind; mode = key.mode; numbers = numbers;
-    tagged = tagged tags name; text = []; life = Live }
+fresh_metric tags key name numbers = record {
+  name = name;
+  kind = key.kind;
+  mode = key.mode;
+  numbers = numbers;
+  tagged = tagged tags name;
+  text = [];
+  life = Live;
+}

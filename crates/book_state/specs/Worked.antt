@@ -30,19 +30,31 @@ abbrev pub counter : List ℕ → List ℕ → Key
 counter label name = record { label = label; kind = Counter; mode = Uninit; name = name }
 
 abbrev pub opens : ℕ → List ℕ → List ℕ → ℕ → Entry
-opens seat label prefix id = record { seat = seat; call = call.OpenScope label prefix; reply = reply.Opened
-    (record { 0 = id }) }
+opens seat label prefix id = record {
+  seat = seat;
+  call = call.OpenScope label prefix;
+  reply = reply.Opened
+      (record { 0 = id });
+}
 
 abbrev pub releases : ℕ → List ℕ → ℕ → Entry
 releases seat label id = record { seat = seat; call = call.Release label; reply = reply.Released (record { 0 = id }) }
 
 abbrev pub makes : ℕ → List ℕ → List ℕ → ℕ → List ℕ → Entry
-makes seat label name id numbers = record { seat = seat; call = call.Find (counter label name); reply = reply.Made
-    (record { 0 = id }) numbers }
+makes seat label name id numbers = record {
+  seat = seat;
+  call = call.Find (counter label name);
+  reply = reply.Made
+      (record { 0 = id }) numbers;
+}
 
 abbrev pub finds : ℕ → List ℕ → List ℕ → ℕ → Entry
-finds seat label name id = record { seat = seat; call = call.Find (counter label name); reply = reply.Found
-    (record { 0 = id }) }
+finds seat label name id = record {
+  seat = seat;
+  call = call.Find (counter label name);
+  reply = reply.Found
+      (record { 0 = id });
+}
 
 abbrev pub finds_no_scope : ℕ → List ℕ → List ℕ → Entry
 finds_no_scope seat label name = record { seat = seat; call = call.Find (counter label name); reply = reply.NoScope }
@@ -139,8 +151,12 @@ abbrev pub shared : List Entry
 shared = to_shared_end ++ ends 1 ∷ sweeps 0 ∷ []
 
 abbrev pub held_through_q : Held
-held_through_q = record { key = counter (codes "q") (codes "n"); scope = 2; verdict = verdict.Accepted
-    (record { 0 = 0 }) }
+held_through_q = record {
+  key = counter (codes "q") (codes "n");
+  scope = 2;
+  verdict = verdict.Accepted
+      (record { 0 = 0 });
+}
 
 pub record SymbolsShared : Type 0 where
   pub legal : Legal plain root_alone 1 shared

@@ -113,6 +113,6 @@ tags_from i found (item d ds) = and_then (tag_at i d) (λ tag. tags_from (i + 1)
 unfoldable pub tags_of : Option Data → Result (List PlacedTag) BootFault
 tags_of section =
     and_then (switch_at (codes "stats_config.use_all_default_tags") (member section (codes "use_all_default_tags")))
-        (λ all.
+    (λ all.
     and_then (items_at (codes "stats_config.stats_tags") MAX_TAG_RULES (member section (codes "stats_tags"))) (λ list.
     tags_from 0 (defaults_where all) list))

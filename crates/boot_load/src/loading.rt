@@ -47,7 +47,7 @@ fn config_of<F: Shelf>(alloc: Global, name: &str, shelf: &mut F) -> Result<Confi
     ensures read { MatchResult result
         (λ config. IsConfigured (F.holds shelf.old name.now) name.now config × (F.state shelf.new ≡ F.state shelf.old))
         (λ fault. IsUnread F.S.state (F.holds shelf.old name.now) name.now (F.state shelf.old)
-            (F.state shelf.new) fault) }
+        (F.state shelf.new) fault) }
     ensures lawful { IfOk result (λ config. IsConfig config) }
     ensures usual { name.now ≡ codes "-" → shelf.new ≡ shelf.old }
     ensures contents { (other : List ℕ) → F.holds shelf.new other ≡ F.holds shelf.old other }

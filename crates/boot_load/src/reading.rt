@@ -18,9 +18,9 @@ pub(crate) fn bytes_of<F: Shelf>(
     requires { name.now ≢ codes "-" }
     ensures read { MatchResult result
         (λ bytes. IsShortBoot (F.holds shelf.old name.now) name.now bytes.items
-            × (F.state shelf.new ≡ F.state shelf.old))
+        × (F.state shelf.new ≡ F.state shelf.old))
         (λ fault. IsUnread F.S.state (F.holds shelf.old name.now) name.now (F.state shelf.old)
-            (F.state shelf.new) fault) }
+        (F.state shelf.new) fault) }
     ensures contents { (other : List ℕ) → F.holds shelf.new other ≡ F.holds shelf.old other }
     ensures later { (F.state shelf.old).faults ≤ (F.state shelf.new).faults }
 {

@@ -51,7 +51,7 @@ shaped_at place d Contains = and_then (text_at place (codes ".contains") (member
     (λ t. Ok (pattern.Contains t))
 shaped_at place d SafeRegex =
     and_then (regex_text_at place (member (member (Some d) (codes "safe_regex")) (codes "regex")))
-        (λ t. Ok (pattern.SafeRegex t))
+    (λ t. Ok (pattern.SafeRegex t))
 
 abbrev pub is_case_kept : Option Data → Bool
 is_case_kept None = true
@@ -62,7 +62,7 @@ abbrev pub chosen_at : Place → Data → Option Shape → Result Pattern BootFa
 chosen_at place d None = Err (BadKey (path_of place []))
 chosen_at place d (Some shape) = and_then (shaped_at place d shape) (λ p.
     if is_case_kept (member (Some d) (codes "ignore_case")) then Ok p
-        else Err (BadKey (path_of place (codes ".ignore_case"))))
+    else Err (BadKey (path_of place (codes ".ignore_case"))))
 
 unfoldable pub pattern_at : Place → Data → Result Pattern BootFault
 pattern_at place d = chosen_at place d (shape_of d)

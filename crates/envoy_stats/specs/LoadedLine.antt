@@ -14,4 +14,4 @@ totals_line tags patterns buckets scopes =
 abbrev pub loaded_line : Config → List ℕ
 loaded_line config =
     totals_line (length config.tags) (length (patterns_of config.matcher)) (length config.buckets)
-        (length config.scopes)
+    (length config.scopes)

@@ -52,7 +52,7 @@ read_name = read_text is_name_byte MAX_NAME_BYTES
 abbrev pub read_number : ℕ → List ℕ → Option ℕ
 read_number most text =
     if nat_le (digits_value 10 text) most
-        && bytes_eq text (decimal (digits_value 10 text)) then Some (digits_value 10 text) else None
+    && bytes_eq text (decimal (digits_value 10 text)) then Some (digits_value 10 text) else None
 
 abbrev pub read_readout : List ℕ → Option (List ℕ)
 read_readout text = if list_all is_printable_byte text then Some text else None

@@ -26,8 +26,17 @@ pub record Reading (S : Type 0) : Type 0 where
 
 -- nothing was taken from the source yet, whose count of faults is this
 abbrev pub unread : {S : Type 0} → S → ℕ → Reading S
-unread source faults = record { source = source; number = 1; given = 0; offset = 0; pending = []; taken = 0;
-    first_faults = faults; stopped = None; ended = None }
+unread source faults = record {
+  source = source;
+  number = 1;
+  given = 0;
+  offset = 0;
+  pending = [];
+  taken = 0;
+  first_faults = faults;
+  stopped = None;
+  ended = None;
+}
 
 -- the events and the end that are still to come, where these bytes are still to be taken and the source then stops so
 abbrev pub Comes : {S : Type 0} → Reading S → List ℕ → Pulled → List Event → FileEnd → Type 0

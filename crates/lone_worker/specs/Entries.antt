@@ -36,7 +36,7 @@ Acknowledges old new = (((state_of old).releases ≤ tag_of (state_of old) 1) ×
 abbrev pub Judges : BookHistory → Key → Verdict → BookHistory → Type 0
 Judges old key v new =
     ((held_verdict (state_of old) 1 key ≡ Some v) × (new ≡ old))
-        ⊎ ((held_verdict (state_of old) 1 key ≡ None) × Answers old 1 (call.Find key) v new)
+    ⊎ ((held_verdict (state_of old) 1 key ≡ None) × Answers old 1 (call.Find key) v new)
 
 -- an accepted text is set, and nothing else is done
 abbrev pub Sets : BookHistory → List ℕ → Verdict → BookHistory → Type 0

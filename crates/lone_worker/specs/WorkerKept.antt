@@ -6,8 +6,13 @@ use Rattle.lone_worker.specs.Seats.{Sits}
 use Rattle.lone_worker.specs.Worker.{WorkerHistory, IsFollowed}
 
 abbrev pub shown : Inside → WorkerHistory
-shown w = record { book = w.seat.book; events = w.events.items; verdicts = w.verdicts.items; ended = w.ended;
-    whole = w.whole }
+shown w = record {
+  book = w.seat.book;
+  events = w.events.items;
+  verdicts = w.verdicts.items;
+  ended = w.ended;
+  whole = w.whole;
+}
 
 pub record IsKept (w : Inside) : Type 0 where
   pub one_worker : w.seat.book.workers ≡ 1

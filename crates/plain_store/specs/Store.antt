@@ -53,8 +53,11 @@ pub record Accounts (old : StoreHistory) (log : List Entry) (last : Bool) (flush
 pub record Flushes (old : StoreHistory) (flush : FlushRecord) (new : StoreHistory) : Type 0 where
   pub at : flush.at ≡ length old.worker.book.log
   pub swept : (n : ℕ) × Logged old.worker.book 0 call.Sweep (reply.Swept n) new.worker.book
-  pub rest : new ≡ record old { worker = record old.worker { book = new.worker.book }; flushes = old.flushes ++ flush
-      ∷ [] }
+  pub rest : new ≡ record old {
+    worker = record old.worker { book = new.worker.book };
+    flushes = old.flushes ++ flush
+        ∷ [];
+  }
   -- said of a store none of whose calls was cut short
   pub accounts : old.whole ≡ true → Accounts old new.worker.book.log false flush
 

@@ -117,7 +117,7 @@ pub(crate) fn take_flush(
     requires few { sums.old.parents.count + sums.old.half.count ≤ MAX_COUNT }
     ensures shows { let s = state_of worker.now.book in
         IfOk result (λ flush. Shows sums.old at (filter (is_of_kind Counter s) counters.now)
-            (filter (is_of_kind Gauge s) gauges.now) flush) }
+        (filter (is_of_kind Gauge s) gauges.now) flush) }
     ensures emptied { IfOk result (λ flush. IsEmptied sums.old flush sums.new) }
     ensures deltas { (k : ℕ) → delta_in sums.new k ≤ delta_in sums.old k }
     ensures values { sums.new.parents.count + sums.new.half.count ≡ sums.old.parents.count + sums.old.half.count }

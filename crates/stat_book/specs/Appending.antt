@@ -8,8 +8,12 @@ use Rattle.stat_defs.specs.declared.history.Reply.TheVariants as reply
 
 -- the store's opening of a configured scope
 abbrev pub first_entry : ℕ → ScopeSpec → Entry
-first_entry id scope = record { seat = 0; call = call.OpenScope scope.label scope.prefix; reply = reply.Opened
-    (record { 0 = id }) }
+first_entry id scope = record {
+  seat = 0;
+  call = call.OpenScope scope.label scope.prefix;
+  reply = reply.Opened
+      (record { 0 = id });
+}
 
 -- the reply makes no metric and makes none gone
 abbrev pub KeepsNames : Reply → Type 0

@@ -14,8 +14,17 @@ use Rattle.stat_book.specs.Symbols.{AreUses}
 -- the configuration that is held where contracts alone see it
 abbrev pub config_of : List Config → Config
 config_of (config ∷ _) = config
-config_of [] = record { tags = []; tag_paths = []; matcher = AdmitAll; buckets = []; statsd_prefix = []; scopes = [];
-    flushes = 0; flush_every = 0; reads = 0 }
+config_of [] = record {
+  tags = [];
+  tag_paths = [];
+  matcher = AdmitAll;
+  buckets = [];
+  statsd_prefix = [];
+  scopes = [];
+  flushes = 0;
+  flush_every = 0;
+  reads = 0;
+}
 
 -- what callers see
 abbrev pub shown : Inside → BookHistory

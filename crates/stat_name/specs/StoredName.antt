@@ -50,4 +50,4 @@ BeginsAtMostOneName = (one other : List ℕ) (xs ys : List ℕ) → stored one +
 abbrev pub IsNameReadAgain : Type 0
 IsNameReadAgain = (numbers : List ℕ) (rest : List ℕ) (answer : Option (List ℕ × ℕ)) → IsName numbers →
     All (λ n. n < 2 ^ 32) numbers → Reads (stored numbers ++ rest) answer → answer
-        ≡ Some (numbers, length (stored numbers))
+    ≡ Some (numbers, length (stored numbers))

@@ -152,8 +152,10 @@ impl TagRule {
         value: &[u8],
         removed: Option<(usize, usize)>,
     ) -> Result<Given, NoMemory>
-        ensures { IfOk result (λ g. g ≡ record { tag = record { name = self.now.tag_name; value = value.now };
-            removed = removed }) }
+        ensures { IfOk result (λ g. g ≡ record {
+          tag = record { name = self.now.tag_name; value = value.now };
+          removed = removed;
+        }) }
     {
         let tag = Tag {
             name: Txt::of(alloc, self.tag_name.bytes())?,

@@ -59,8 +59,12 @@ module _ {H : Type 0} where
 
   -- the same, and it turned or took one half more
   abbrev pub grown : H → Party → TurnKind → ℕ → TurnPart H → TurnPart H
-  grown half party kind found p = record { party = party; halves = p.halves ++ half ∷ []; steps = turn_step kind found
-      ∷ p.steps }
+  grown half party kind found p = record {
+    party = party;
+    halves = p.halves ++ half ∷ [];
+    steps = turn_step kind found
+        ∷ p.steps;
+  }
 
   -- 1. A load, of the worker: it changes no word.
   abbrev pub WorkerLoads : Step (Option H) → Sat H → ℕ → Sat H → Type 0
