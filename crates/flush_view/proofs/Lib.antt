@@ -4,10 +4,10 @@ mod Rising
 mod Totals
 mod Intervals
 mod Cumulative
-mod Ends
+pub mod Ends
 mod Shown
 mod Made
-mod InLog
+pub mod InLog
 mod Replayed
 mod FullNames
 mod SameBins
@@ -16,13 +16,13 @@ mod Picked
 mod Following
 mod Viewing
 mod Ready
-mod FileEvents
-mod Recorded
+pub mod FileEvents
+pub mod Recorded
 mod Countings
 mod CountersMade
 mod LawfulParts
 mod BinsShown
-mod CallsLawful
+pub mod CallsLawful
 pub mod Showable
 pub mod RowsBins
 pub mod TriedReport

@@ -33,14 +33,17 @@ module _ {S : Type 0} (state : S → SourceState) where
   pub in_turn_push : (sources : List S) (source : S) (old mid new : StoreHistory) (verdicts : List Verdict)
       (end : FileEnd) → AreFlushedInTurn state sources old mid
       → AreLinesFlushed state source mid new verdicts end → AreFlushedInTurn state (sources ++ source ∷ []) old new
-  in_turn_push [] source old mid new verdicts end before now =
-      (new, verdicts, end, subst (λ (s : StoreHistory). AreLinesFlushed state source s new verdicts end) before now, refl)
+  in_turn_push [] source old mid new verdicts end before now = (
+    new,
+    verdicts,
+    end,
+    (subst (λ (s : StoreHistory). AreLinesFlushed state source s new verdicts end) before now, refl),
+  )
   in_turn_push (first ∷ sources) source old mid new verdicts end before now = (
     before.0,
     before.1,
     before.2,
-    before.3,
-    in_turn_push sources source before.0 mid new verdicts end before.4 now,
+    (before.3.0, in_turn_push sources source before.0 mid new verdicts end before.3.1 now),
   )
 
 module _ (old new : StoreHistory) (flush : FlushRecord) (flushes : Flushes old flush new) where

@@ -100,6 +100,7 @@ module _ (config : Config) where
           a_verdict_each = was.a_verdict_each;
           rising = rising_push old.flushes flush was.rising
               (below_more (length old.worker.book.log) flush.at old.flushes (omega (arith, at)) was.logged);
-          logged = All-push (λ (f : FlushRecord). f.at < length log) old.flushes flush (omega (arith, at, longer))
-              (below_more (length old.worker.book.log) (length log) old.flushes (omega (arith, longer)) was.logged);
+          logged = All-push (λ (f : FlushRecord). f.at < length log) old.flushes flush
+              (below_more (length old.worker.book.log) (length log) old.flushes (omega (arith, longer)) was.logged)
+              (omega (arith, at, longer));
         })

@@ -3,6 +3,7 @@ use Rattle.std.proofs.Common.{◌≡◌, ℕ, ◌≤◌, ◌<◌, List, [], ◌�
 use Rattle.std.specs.List.{zip, flat_map, AllByRecursion}
 use Rattle.std.specs.List.Sorted.{IsNonDecreasing}
 use Rattle.std.proofs.lemmas.List.Elements.{recursion_from_All}
+use Rattle.std.proofs.lemmas.List.Sums.{sum_by-cons}
 use Rattle.stat_defs.specs.Configs.{IsConfig, IsScopeSpec}
 use Rattle.stat_defs.specs.declared.configs.Config.{Config}
 use Rattle.stat_defs.specs.declared.events.Event.{Event}
@@ -82,7 +83,10 @@ module _ (store : StoreHistory) (report : Report) (is : IsStoreOf store.worker.b
   bounded : AreBounded (events_in_files MAX_WORKERS) (work ∷ [])
   bounded = record {
     lawful = (told_lawful store.worker.events store.worker.verdicts (recursion_from_All IsLawful store.worker.events is.lawful), tt);
-    few = (let told = told_few store.worker.events store.worker.verdicts in let few = is.few in omega (arith, told, few));
+    few = (
+        let told = told_few store.worker.events store.worker.verdicts in
+        let few = is.few in
+        let whole = sum_by-cons (λ (w : Work). length w) work [] in omega (arith, told, few, whole));
   }
 
   history : HasHistory plan (work ∷ []) report
@@ -159,7 +163,7 @@ module _ (store : StoreHistory) (report : Report) (is : IsStoreOf store.worker.b
 
 shows : (config : Config) (store : StoreHistory) (report : Report) → IsConfig config → IsStoreOf config store
     → IsReportOfStore store report → IsShowable config report
-shows config store report lawful_config is reported =
+shows asked store report lawful_config is reported =
     subst (λ (c : Config). IsShowable c report) is.configured
     (shown store report (subst (λ (c : Config). IsStoreOf c store) (sym is.configured) is) reported
     (subst IsConfig (sym is.configured) lawful_config))

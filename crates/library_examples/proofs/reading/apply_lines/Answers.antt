@@ -1,5 +1,6 @@
 use Rattle.std.proofs.Common.{Ok, ap}
 use Rattle.replay_report.proofs.SoFar.{so_far_none, lawful_now, room_so_far, so_far_more}
+use Rattle.library_examples.proofs.LinesFlushed.{lines_stay, lines_few, no_flush}
 use Rattle.library_examples.proofs.LinesRead.{lines_read}
 use Rattle.library_examples.proofs.reading.apply_lines.Goals as goal
 
@@ -28,6 +29,12 @@ loop-lines-preserved g c =
 
 pub returns-in-Err : goal.returns-in-Err
 returns-in-Err g c =
-    lines_read g.S.Source.state c.args.source c.in_ok-lines.lines c.loop-lines.lines c.next.new.self
+    let lines = lines_read g.S.Source.state c.args.source c.in_ok-lines.lines c.loop-lines.lines c.next.new.self
     c.args.store.now c.loop-lines.store c.loop-lines.verdicts.items c.loop-lines.invariant c.in_ok-lines.ensures
-    (Ok c.in_ok-step.step) c.in-Err.end c.in-Err.ensures c.in_ok-step.ensures.answer
+    (Ok c.in_ok-step.step) c.in-Err.end c.in-Err.ensures c.in_ok-step.ensures.answer in
+    record {
+      applied = lines;
+      flushes = no_flush g.S.Source.state c.args.source c.args.store.now c.loop-lines.store _ _ lines c.requires;
+      kept = lines_stay g.S.Source.state c.args.source c.args.store.now c.loop-lines.store _ _ lines c.requires;
+      few = lines_few g.S.Source.state c.args.source c.args.store.now c.loop-lines.store _ _ lines c.requires;
+    }
