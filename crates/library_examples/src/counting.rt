@@ -8,7 +8,7 @@ ghost use Rattle.lone_worker.specs.declared.worker.TheConstants as worker;
 ghost use Rattle.plain_store.specs.Store.{new_store};
 ghost use Rattle.library_examples.specs.Counting.{CountsTwice, CountsLines, CountsInTurn};
 
-use crate::reading::{apply_lines, flush_lines};
+use crate::reading::{apply_lines, flush_in_turn};
 use crate::showing::finish_report;
 use plain_store::PlainStore;
 use stat_defs::{Config, Event, FlushRecord, Report};
@@ -73,8 +73,6 @@ pub fn count_in_turn<S: Source + Drop>(
 {
     let mut store = store_of(alloc, config)?;
     let mut flushes = Vec::new(alloc);
-    for source in sources {
-        flush_lines(alloc, source, &mut store, &mut flushes)?;
-    }
+    flush_in_turn(alloc, sources, &mut store, &mut flushes)?;
     Ok(finish_report(alloc, store, flushes)?)
 }
