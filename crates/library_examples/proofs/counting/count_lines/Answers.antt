@@ -12,19 +12,19 @@ finish_report-requires g c =
     no_records c.args.config.now c.in_ok-store.store c.in_ok-store.ensures _ c.apply_lines.new.store c.new.ensures.items
     c.in_ok-apply_lines.ensures.flushes
 
-pub returns-in_ok-finish_report : goal.returns-in_ok-finish_report
-returns-in_ok-finish_report g c =
+pub returns-clause-showable : goal.returns-clause-showable
+returns-clause-showable g c =
+    showable_after c.args.config.now c.in_ok-store.store c.in_ok-store.ensures c.apply_lines.new.store
+    c.in_ok-finish_report.field-0 c.in_ok-finish_report.ensures c.requires c.in_ok-apply_lines.ensures.kept
+
+pub returns-clause-counted : goal.returns-clause-counted
+returns-clause-counted g c =
     let lines = c.in_ok-apply_lines.ensures in
-    let reported = c.in_ok-finish_report.ensures in
     record {
-      counted = record {
-        store = c.apply_lines.new.store;
-        verdicts = _;
-        end = _;
-        read = subst (λ (s : StoreHistory). AreLinesApplied g.S.Source.state c.args.source s c.apply_lines.new.store _ _)
-            c.in_ok-store.ensures lines.applied;
-        reported = reported;
-      };
-      showable = showable_after c.args.config.now c.in_ok-store.store c.in_ok-store.ensures c.apply_lines.new.store _
-          reported c.requires lines.kept;
+      store = c.apply_lines.new.store;
+      verdicts = c.in_ok-apply_lines.field-0.verdicts.items;
+      end = c.in_ok-apply_lines.field-0.end;
+      read = subst (λ (s : StoreHistory). AreLinesApplied g.S.Source.state c.args.source s c.apply_lines.new.store
+          c.in_ok-apply_lines.field-0.verdicts.items c.in_ok-apply_lines.field-0.end) c.in_ok-store.ensures lines.applied;
+      reported = c.in_ok-finish_report.ensures;
     }
