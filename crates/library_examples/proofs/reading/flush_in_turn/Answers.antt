@@ -1,12 +1,9 @@
-use Rattle.std.proofs.Common.{◌≡◌, ◌+◌, [], ◌∷◌, List, length, sym, ap, ◌∙◌, subst, refl, rules, arith}
+use Rattle.std.proofs.Common.{◌≡◌, ◌+◌, [], length, sym, ap, ◌∙◌, subst, rules, arith}
 use Rattle.std.specs.Vec.Iter.{into_iter_items}
+use Rattle.std.proofs.lemmas.List.{nil_from_length}
 use Rattle.library_examples.specs.Counting.{AreFlushedInTurn}
 use Rattle.library_examples.proofs.InTurn.{flushed_none, room_for_one, flushed_more, flushed_all}
 use Rattle.library_examples.proofs.reading.flush_in_turn.Goals as goal
-
-nothing_left : {X : Type 0} (l : List X) → length l ≡ 0 → l ≡ []
-nothing_left [] h = refl
-nothing_left (x ∷ xs) h = absurd (omega arith)
 
 pub loop-source-init : goal.loop-source-init
 loop-source-init g c = record {
@@ -42,7 +39,7 @@ returns g c =
     let at = c.loop-source in
     let so = at.invariant.flushed in
     let empty : into_iter_items at.source-iterator ≡ [] =
-    nothing_left _ (sym at.invariant.left ∙ c.in-None.ensures.steps.0) in
+    nil_from_length _ (sym at.invariant.left ∙ c.in-None.ensures.steps.0) in
     let all = flushed_all g.S.Source.state c.args.sources.items c.args.store.now c.args.flushes.now.items at.yielded _
     at.store at.flushes.items so empty in
     record {
