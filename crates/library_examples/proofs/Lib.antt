@@ -2,3 +2,5 @@ mod StoreKept
 mod StoreShown
 mod LinesRead
 mod LinesFlushed
+mod InTurn
+mod Counted

@@ -1,6 +1,5 @@
 -- Stores whose lines are applied, and which are flushed behind them.
 use Rattle.std.proofs.Common.{◌≡◌, ℕ, ◌+◌, ◌≤◌, List, [], ◌∷◌, ◌++◌, length, length-append, refl, ap, sym, ◌∙◌, subst, arith}
-use Rattle.stat_defs.specs.declared.configs.Config.{Config}
 use Rattle.stat_defs.specs.declared.history.Verdict.{Verdict}
 use Rattle.stat_defs.specs.declared.reports.FileEnd.{FileEnd}
 use Rattle.stat_defs.specs.declared.reports.FlushRecord.{FlushRecord}
@@ -55,3 +54,21 @@ module _ (old new : StoreHistory) (flush : FlushRecord) (flushes : Flushes old f
 
   pub one_more_flush : new.flushes ≡ old.flushes ++ flush ∷ []
   one_more_flush = ap (λ (s : StoreHistory). s.flushes) flushes.rest
+
+-- lines that left the flushes as they were, and then a flush, whose record was pushed behind those of the earlier ones
+module _ (old mid new : StoreHistory) (flush : FlushRecord) (before after : List FlushRecord)
+    (told : before ≡ old.flushes) (no_more : mid.flushes ≡ old.flushes) (flushes : Flushes mid flush new)
+    (pushed : after ≡ before ++ flush ∷ []) where
+  pub records_told : after ≡ new.flushes
+  records_told =
+      pushed ∙ ap (λ (fs : List FlushRecord). fs ++ flush ∷ []) (told ∙ sym no_more)
+      ∙ sym (one_more_flush mid new flush flushes)
+
+  pub one_more_record : length after ≡ length before + 1
+  one_more_record = ap (λ (fs : List FlushRecord). length fs) pushed ∙ length-append before (flush ∷ [])
+
+  pub both_stay : Stays old mid → Stays old new
+  both_stay stays config was = flush_stays mid new flush flushes config (stays config was)
+
+  pub as_few : (n : ℕ) → length mid.worker.events ≤ n → length new.worker.events ≤ n
+  as_few n few = let same = same_events mid new flush flushes in omega (arith, same, few)

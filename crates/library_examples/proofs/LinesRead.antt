@@ -1,5 +1,5 @@
 -- Lines that were read to their end, and applied.
-use Rattle.std.proofs.Common.{◌≡◌, ℕ, Option, Some, IfSome, Result, List, [], ◌∷◌, ◌++◌, All, refl, subst}
+use Rattle.std.proofs.Common.{◌≡◌, ℕ, Option, IfSome, Result, List, [], ◌∷◌, ◌++◌, All, refl, subst}
 use Rattle.std.proofs.lemmas.List.{append-nil}
 use Rattle.std.proofs.lemmas.List.Elements.{All-from_recursion}
 use Rattle.stat_defs.specs.declared.events.Event.{Event}
@@ -8,7 +8,7 @@ use Rattle.stat_defs.specs.declared.memory.NoMemory.{NoMemory}
 use Rattle.stat_defs.specs.declared.reports.FileEnd.{FileEnd}
 use Rattle.stats_io.specs.States.{SourceState}
 use Rattle.event_script.specs.declared.step.Step.{Step}
-use Rattle.event_script.specs.Answer.{IsAnswer, IfEnded, HasEnded, TellsEnd}
+use Rattle.event_script.specs.Answer.{IsAnswer, HasEnded, TellsEnd}
 use Rattle.event_script.specs.Grammar.{IsLawful}
 use Rattle.event_script.specs.Reader.{Reading, Moves, unread}
 use Rattle.event_script.specs.Run.{IsRun}

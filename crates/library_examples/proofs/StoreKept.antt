@@ -17,7 +17,7 @@ use Rattle.event_script.specs.Grammar.{IsLawful}
 use Rattle.ledger.proofs.WorkedParts.{none_falls}
 use Rattle.lone_worker.specs.declared.worker.TheConstants.{MAX_EVENTS}
 use Rattle.plain_store.specs.Store.{StoreHistory, new_store, Applied, Flushes}
-use Rattle.replay_report.specs.Applying.{with_applied, AreApplied}
+use Rattle.replay_report.specs.Applying.{AreApplied}
 use Rattle.replay_report.proofs.AppliedEvents.{one_applied}
 use Rattle.library_examples.specs.StoreOf.{IsStoreOf}
 

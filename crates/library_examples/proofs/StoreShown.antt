@@ -1,5 +1,5 @@
 -- The report of a store that was finished can be shown.
-use Rattle.std.proofs.Common.{◌≡◌, ℕ, ◌≤◌, ◌<◌, List, [], ◌∷◌, ◌++◌, map, length, All, append-nil, length-append, refl, ap, sym, ◌∙◌, subst, arith}
+use Rattle.std.proofs.Common.{◌≡◌, ℕ, ◌≤◌, List, [], ◌∷◌, ◌++◌, map, length, append-nil, ap, sym, ◌∙◌, subst, arith}
 use Rattle.std.specs.List.{zip, flat_map, AllByRecursion}
 use Rattle.std.specs.List.Sorted.{IsNonDecreasing}
 use Rattle.std.proofs.lemmas.List.Elements.{recursion_from_All}
@@ -19,7 +19,6 @@ use Rattle.event_script.specs.Grammar.{IsLawful}
 use Rattle.book_state.specs.declared.limits.TheConstants.{MAX_WORKERS}
 use Rattle.book_state.specs.Log.{replay, Legal}
 use Rattle.book_state.specs.Follows.{Follows}
-use Rattle.stat_book.specs.Calls.{rules_of}
 use Rattle.ledger.specs.Lists.{OfLast}
 use Rattle.ledger.specs.Work.{Work, Recording, verdicts_in, recordings, units_of}
 use Rattle.ledger.specs.Gauges.{gauge_word, GaugeFits}
@@ -31,11 +30,10 @@ use Rattle.ledger.proofs.PartLists.{nothing_left}
 use Rattle.ledger.proofs.Words.{one_worker}
 use Rattle.ledger.proofs.WorkLists.{zip_events, zip_verdicts}
 use Rattle.flush_view.specs.Showing.{IsShowable}
-use Rattle.flush_view.specs.Views.{ends_in}
 use Rattle.flush_view.proofs.CallsLawful.{calls_lawful}
 use Rattle.flush_view.proofs.Ends.{ends_of_workers}
 use Rattle.flush_view.proofs.InLog.{legal_with_ends}
-use Rattle.flush_view.proofs.Recorded.{LawfulWork, AreBounded, events_of, events_in_files}
+use Rattle.flush_view.proofs.Recorded.{LawfulWork, AreBounded, events_in_files}
 use Rattle.flush_view.proofs.Showable.{units, values, lawful}
 use Rattle.plain_store.specs.Store.{StoreHistory, work_in}
 use Rattle.library_examples.specs.StoreOf.{IsStoreOf, IsReportOfStore, StoresShow}

@@ -8,7 +8,8 @@ ghost use Rattle.lone_worker.specs.declared.worker.TheConstants as worker;
 ghost use Rattle.plain_store.specs.Store.{new_store};
 ghost use Rattle.library_examples.specs.Counting.{CountsTwice, CountsLines, CountsInTurn};
 
-use crate::reading::{apply_lines, flush_lines};
+use crate::flushing::flush_often;
+use crate::reading::{apply_lines, flush_in_turn};
 use crate::showing::finish_report;
 use plain_store::PlainStore;
 use stat_defs::{Config, Event, FlushRecord, Report};
@@ -73,8 +74,25 @@ pub fn count_in_turn<S: Source + Drop>(
 {
     let mut store = store_of(alloc, config)?;
     let mut flushes = Vec::new(alloc);
-    for source in sources {
-        flush_lines(alloc, source, &mut store, &mut flushes)?;
-    }
+    flush_in_turn(alloc, sources, &mut store, &mut flushes)?;
     Ok(finish_report(alloc, store, flushes)?)
+}
+
+/// Applies the events of a source's lines to a new store, flushes so many times with nothing new in between, and
+/// finishes the store: the report of its flushes, one more than those. It has no verdicts.
+pub fn count_often<S: Source + Drop>(
+    alloc: Global,
+    config: &Config,
+    source: S,
+    flushes: u32,
+) -> Result<Report, TagFault>
+    requires { IsConfig config.now }
+    ensures showable { IfOk result (λ report. IsShowable config.now report) }
+    ensures flushes { IfOk result (λ report. length report.flushes ≡ flushes + 1) }
+{
+    let mut store = store_of(alloc, config)?;
+    apply_lines(alloc, source, &mut store)?;
+    let mut records = Vec::new(alloc);
+    flush_often(alloc, &mut store, flushes, &mut records)?;
+    Ok(finish_report(alloc, store, records)?)
 }

@@ -1,11 +1,11 @@
 //! Events that are read line by line.
-ghost use Rattle.std.specs.Prelude.{◌≡◌, ◌≤◌, ◌<◌, ◌+◌, Ok, IfOk, OnOk, MatchResult, length};
+ghost use Rattle.std.specs.Prelude.{◌≡◌, ◌≤◌, ◌<◌, ◌+◌, ◌*◌, Ok, IfOk, OnOk, MatchResult, length};
 ghost use Rattle.stat_defs.specs.Events.{IsLawfulEvent};
 ghost use Rattle.event_script.specs.Answer.{TellsEnd};
 ghost use Rattle.event_script.specs.declared.limits.TheConstants as file;
 ghost use Rattle.lone_worker.specs.declared.worker.TheConstants as worker;
 ghost use Rattle.replay_report.specs.Applying.{IsToldBehind};
-ghost use Rattle.library_examples.specs.Counting.{AreLinesApplied, AreLinesFlushed, Stays};
+ghost use Rattle.library_examples.specs.Counting.{AreLinesApplied, AreLinesFlushed, AreFlushedInTurn, Stays};
 
 use event_script::{Lines, Step};
 use plain_store::PlainStore;
@@ -111,4 +111,24 @@ pub fn flush_lines<S: Source + Drop>(
     let flush = store.flush(alloc)?;
     flushes.push(flush)?;
     Ok(lines)
+}
+
+/// Applies the events of each source's lines in turn, and flushes behind each source.
+pub fn flush_in_turn<S: Source + Drop>(
+    alloc: Global,
+    sources: Vec<S>,
+    store: &mut PlainStore,
+    flushes: &mut Vec<FlushRecord>,
+) -> Result<(), NoMemory>
+    requires room { length store.old.worker.events + length sources.items * file.MAX_EVENTS ≤ worker.MAX_EVENTS }
+    requires flushes { flushes.old.items ≡ store.old.flushes }
+    ensures flushes { OnOk result (flushes.new.items ≡ store.new.flushes) }
+    ensures counted { OnOk result (AreFlushedInTurn S.state sources.items store.old store.new) }
+    ensures kept { OnOk result (Stays store.old store.new) }
+    ensures more { OnOk result (length flushes.new.items ≡ length flushes.old.items + length sources.items) }
+{
+    for source in sources {
+        flush_lines(alloc, source, store, flushes)?;
+    }
+    Ok(())
 }

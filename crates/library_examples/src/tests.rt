@@ -5,7 +5,9 @@ ghost use Rattle.event_script.specs.declared.limits.TheConstants as file;
 ghost use Rattle.flush_view.specs.Showing.{IsShowable};
 ghost use Rattle.plain_store.specs.Store.{new_store};
 
-use crate::{apply_lines, count_in_turn, count_lines, count_twice, rules_and_buckets, store_of};
+use crate::{
+    apply_lines, count_in_turn, count_lines, count_often, count_twice, rules_and_buckets, store_of,
+};
 use boot_file::{read, usual};
 use report_text::{Format, OutputOptions, write_report};
 use stat_defs::{Config, Event, FileEnd, MetricId, Report, Txt, Verdict};
@@ -213,5 +215,20 @@ fn lines_up_to_a_fault(rt: HostRuntime) -> Result<(), Fail> {
         shown.bytes(),
         b"# last\nenvoy.a:1|c\nenvoy.b:2|c\n".as_slice()
     );
+    Ok(())
+}
+
+#[test]
+fn flushes_with_nothing_new(rt: HostRuntime) -> Result<(), Fail> {
+    let alloc = rt.alloc();
+    let config = config_of(alloc, NO_TAGS)?;
+    let lines = lines_of(alloc, b"inc root a 2\nadd root g acc 3\n")?;
+    let report = count_often(alloc, &config, lines, 2)?;
+    let shown = written(alloc, &config, &report, Format::Statsd)?;
+    let text = "\
+# flush 1\nenvoy.a:2|c\nenvoy.g:3|g\n\
+# flush 2\nenvoy.a:0|c\nenvoy.g:3|g\n\
+# last\nenvoy.a:0|c\nenvoy.g:3|g\n";
+    assert_eq!(rt; shown.bytes(), text.as_bytes());
     Ok(())
 }

@@ -1,0 +1,33 @@
+use Rattle.std.proofs.Common.{ap, length, refl, subst, List}
+use Rattle.stat_defs.specs.declared.reports.FlushRecord.{FlushRecord}
+use Rattle.plain_store.specs.Store.{StoreHistory}
+use Rattle.library_examples.specs.Counting.{AreFlushedInTurn}
+use Rattle.library_examples.proofs.Counted.{room_for_all, no_records, showable_after, records_and_last}
+use Rattle.library_examples.proofs.counting.count_in_turn.Goals as goal
+
+pub flush_in_turn-requires-clause-room : goal.flush_in_turn-requires-clause-room
+flush_in_turn-requires-clause-room g c =
+    room_for_all c.args.config.now c.in_ok-store.store c.in_ok-store.ensures _ c.requires.few
+
+pub flush_in_turn-requires-clause-flushes : goal.flush_in_turn-requires-clause-flushes
+flush_in_turn-requires-clause-flushes g c =
+    no_records c.args.config.now c.in_ok-store.store c.in_ok-store.ensures _ c.in_ok-store.store
+    c.new-flushes.ensures.items refl
+
+pub returns : goal.returns
+returns g c =
+    let turns = c.in_ok-flush_in_turn.ensures in
+    let reported = c.in_ok-finish_report.ensures in
+    record {
+      counted = record {
+        store = c.flush_in_turn.new.store;
+        in_turn = subst (λ (s : StoreHistory). AreFlushedInTurn g.S.Source.state c.args.sources.items s
+            c.flush_in_turn.new.store) c.in_ok-store.ensures turns.counted;
+        reported = reported;
+      };
+      showable = showable_after c.args.config.now c.in_ok-store.store c.in_ok-store.ensures c.flush_in_turn.new.store
+          c.in_ok-finish_report.field-0 reported c.requires.config turns.kept;
+      flushes = records_and_last c.args.config.now c.in_ok-store.store c.in_ok-store.ensures
+          c.flush_in_turn.new.store c.in_ok-finish_report.field-0 reported c.flush_in_turn.new.flushes.items _ _
+          turns.flushes turns.more (ap (λ (fs : List FlushRecord). length fs) c.new-flushes.ensures.items);
+    }
