@@ -59,8 +59,8 @@ pub fn count_lines<S: Source + Drop>(
     Ok(finish_report(alloc, store, Vec::new(alloc))?)
 }
 
-/// Applies the events of each source's lines in turn to a new store, flushes behind each source, and finishes the store:
-/// the report of its flushes, of which the last has nothing that is new. It has no verdicts.
+/// Applies the events of each source's lines in turn to a new store, flushes behind each source, and finishes the
+/// store: the report of its flushes, of which the last has nothing that is new. It has no verdicts.
 pub fn count_in_turn<S: Source + Drop>(
     alloc: Global,
     config: &Config,
@@ -78,8 +78,8 @@ pub fn count_in_turn<S: Source + Drop>(
     Ok(finish_report(alloc, store, flushes)?)
 }
 
-/// Applies the events of a source's lines to a new store, flushes so many times with nothing new in between, and finishes
-/// the store: the report of its flushes, one more than those. It has no verdicts.
+/// Applies the events of a source's lines to a new store, flushes so many times with nothing new in between, and
+/// finishes the store: the report of its flushes, one more than those. It has no verdicts.
 pub fn count_often<S: Source + Drop>(
     alloc: Global,
     config: &Config,
