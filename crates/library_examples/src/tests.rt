@@ -9,7 +9,7 @@ use crate::{apply_lines, count_lines, count_often, count_twice, rules_and_bucket
 use boot_file::{read, usual};
 use report_text::{Format, OutputOptions, write_report};
 use stat_defs::{Config, Event, FileEnd, MetricId, Report, Txt, Verdict};
-use stats_io::{MemSink, MemSource, SureSource};
+use stats_io::{MemSink, MemSource};
 use std::alloc::Global;
 use std::test::Fail;
 
@@ -58,23 +58,6 @@ fn accepted(verdicts: &[Verdict], count: u32) -> bool {
         }
     }
     true
-}
-
-#[test]
-fn requests_are_counted(rt: HostRuntime) -> Result<(), Fail> {
-    let alloc = rt.alloc();
-    let config = usual(alloc)?;
-    let mut store = store_of(alloc, &config)?;
-    let lines = b"inc root requests 3\ninc root requests 4\n".to_vec(alloc)?;
-    apply_lines(
-        alloc,
-        SureSource::new(String::new(alloc), lines, 4096),
-        &mut store,
-    )?;
-    let flush = store.flush(alloc)?;
-    let deltas = flush.deltas.items();
-    assert!(rt; deltas.len() == 1 && deltas[0].id == MetricId(0) && deltas[0].n == 7);
-    Ok(())
 }
 
 #[test]
