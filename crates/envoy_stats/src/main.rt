@@ -10,8 +10,6 @@ ghost use Rattle.envoy_stats.specs.Outcome.{IsCall, IsUnreadable};
 mod bins;
 mod check;
 mod command;
-#[cfg(test)]
-mod example_tests;
 mod outcome;
 mod quiet;
 mod replay;

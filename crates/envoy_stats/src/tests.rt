@@ -68,9 +68,9 @@ const THREE_NAMES: &[u8] = b"inc root z 5\ninc web z 1\ninc root a 2\ninc root z
 
 // What a call left.
 #[derive(Drop)]
-pub(crate) struct Played {
-    pub(crate) outcome: Outcome,
-    pub(crate) out: MemSink,
+struct Played {
+    outcome: Outcome,
+    out: MemSink,
     err: MemSink,
     shelf: MemShelf,
 }
@@ -118,7 +118,7 @@ fn call<K: PatternMaker, F: Shelf, O: Sink, E: Sink>(
 }
 
 // What a call over these comes to.
-pub(crate) fn play_with(
+fn play_with(
     alloc: Global,
     words: &str,
     mut maker: RegexMaker,

@@ -5,13 +5,11 @@ ghost use Rattle.event_script.specs.declared.limits.TheConstants as file;
 ghost use Rattle.flush_view.specs.Showing.{IsShowable};
 ghost use Rattle.plain_store.specs.Store.{new_store};
 
-use crate::{
-    apply_lines, count_in_turn, count_lines, count_often, count_twice, rules_and_buckets, store_of,
-};
+use crate::{apply_lines, count_lines, count_often, count_twice, rules_and_buckets, store_of};
 use boot_file::{read, usual};
 use report_text::{Format, OutputOptions, write_report};
 use stat_defs::{Config, Event, FileEnd, MetricId, Report, Txt, Verdict};
-use stats_io::{MemSink, MemSource, SureSource};
+use stats_io::{MemSink, MemSource};
 use std::alloc::Global;
 use std::test::Fail;
 
@@ -63,23 +61,6 @@ fn accepted(verdicts: &[Verdict], count: u32) -> bool {
 }
 
 #[test]
-fn requests_are_counted(rt: HostRuntime) -> Result<(), Fail> {
-    let alloc = rt.alloc();
-    let config = usual(alloc)?;
-    let mut store = store_of(alloc, &config)?;
-    let lines = b"inc root requests 3\ninc root requests 4\n".to_vec(alloc)?;
-    apply_lines(
-        alloc,
-        SureSource::new(String::new(alloc), lines, 4096),
-        &mut store,
-    )?;
-    let flush = store.flush(alloc)?;
-    let deltas = flush.deltas.items();
-    assert!(rt; deltas.len() == 1 && deltas[0].id == MetricId(0) && deltas[0].n == 7);
-    Ok(())
-}
-
-#[test]
 fn an_event_is_counted_twice(rt: HostRuntime) -> Result<(), Fail> {
     let alloc = rt.alloc();
     let config = usual(alloc)?;
@@ -115,23 +96,6 @@ fn metric_limits(rt: HostRuntime) -> Result<(), Fail> {
 }
 
 #[test]
-fn histogram_limits(rt: HostRuntime) -> Result<(), Fail> {
-    let alloc = rt.alloc();
-    let mut lines = numbered_lines(alloc, "rec", 1025)?;
-    lines.extend_from_slice(b"inc root new 1\nrec root n1023 1\n")?;
-    let verdicts = verdicts_on(alloc, NO_TAGS, &lines)?;
-    let behind = [
-        Verdict::OverLimit,
-        Verdict::Accepted(MetricId(1024)),
-        Verdict::Accepted(MetricId(1023)),
-    ];
-    assert!(rt;
-        verdicts.len() == 1027 && accepted(&verdicts, 1024) && verdicts.ends_with(behind.as_slice())
-    );
-    Ok(())
-}
-
-#[test]
 fn names_that_are_not_included(rt: HostRuntime) -> Result<(), Fail> {
     let lines =
         b"inc root cluster.x 1\ninc root server.y 1\ninc root server.y 1\nrec root cluster 1\n";
@@ -159,48 +123,6 @@ fn written(alloc: Global, config: &Config, report: &Report, format: Format) -> R
     };
     write_report(alloc, options, config, rules, &buckets, report, &mut out)?;
     Ok(out)
-}
-
-// A name is gone in the first sweep, and made again behind it: each flush has one row of it. Counters start anew with
-// each flush, and gauges stay.
-#[test]
-fn a_name_that_is_made_again(rt: HostRuntime) -> Result<(), Fail> {
-    let alloc = rt.alloc();
-    let config = config_of(alloc, NO_TAGS)?;
-    let first = b"open s t\ninc s u 3\nset root g acc 9\nrelease s\ninc root a 1\n";
-    let second = b"open s t\ninc s u 4\nsub root g acc 10\n";
-    let first = lines_of(alloc, first)?;
-    let second = lines_of(alloc, second)?;
-    let third = lines_of(alloc, b"inc s u 5\n")?;
-    let report = count_in_turn(alloc, &config, vec![in alloc; first, second, third]?)?;
-    let counts = written(alloc, &config, &report, Format::Statsd)?;
-    let text = "\
-# flush 1\nenvoy.a:1|c\nenvoy.t.u:3|c\nenvoy.g:9|g\n\
-# flush 2\nenvoy.a:0|c\nenvoy.t.u:4|c\nenvoy.g:-1|g\n\
-# flush 3\nenvoy.a:0|c\nenvoy.t.u:5|c\nenvoy.g:-1|g\n\
-# last\nenvoy.a:0|c\nenvoy.t.u:0|c\nenvoy.g:-1|g\n";
-    assert_eq!(rt; counts.bytes(), text.as_bytes());
-    Ok(())
-}
-
-// The values since the flush before, and all so far. The last flush is right behind the second.
-#[test]
-fn values_and_texts_in_three_flushes(rt: HostRuntime) -> Result<(), Fail> {
-    let alloc = rt.alloc();
-    let config = config_of(alloc, NO_TAGS)?;
-    let first = lines_of(alloc, b"rec root h 7\ntext root v one\n")?;
-    let second = lines_of(alloc, b"rec root h 100\ntext root v two\n")?;
-    let report = count_in_turn(alloc, &config, vec![in alloc; first, second]?)?;
-    let shown = written(alloc, &config, &report, Format::Admin)?;
-    let text = "\
-# flush 1\nv: \"one\"\nh: P0(7,7) P25(7.1,7.1) P50(7.1,7.1) P75(7.1,7.1) P90(7.1,7.1) \
-P95(7.1,7.1) P99(7.1,7.1) P99.5(7.1,7.1) P99.9(7.1,7.1) P100(7.1,7.1)\n\
-# flush 2\nv: \"two\"\nh: P0(100,7) P25(110,7.1) P50(110,7.1) P75(110,110) P90(110,110) \
-P95(110,110) P99(110,110) P99.5(110,110) P99.9(110,110) P100(110,110)\n\
-# last\nv: \"two\"\nh: P0(nan,7) P25(nan,7.1) P50(nan,7.1) P75(nan,110) P90(nan,110) \
-P95(nan,110) P99(nan,110) P99.5(nan,110) P99.9(nan,110) P100(nan,110)\n";
-    assert_eq!(rt; shown.bytes(), text.as_bytes());
-    Ok(())
 }
 
 #[test]
