@@ -9,6 +9,8 @@ mkdir "$place/bin"
 cat >"$place/bin/rt" <<'STANDIN'
 #!/usr/bin/env bash
 case $1 in
+  lib) if [ "${BAD:-}" = stat_defs ]; then echo logic=not-proved; exit 1; fi; echo logic=proved ;;
+  try) shift; echo "tried $@"; exit 4 ;;
   all)
     for crate in stat_defs stats_io event_script envoy_stats; do
       sleep "${SECONDS_EACH:-1}"
@@ -47,6 +49,9 @@ try 'a fresh copy is proved and built, and the words are given on' 3 'ran replay
 try 'it tells each crate' 3 'proved crate 4 of .*envoy_stats' "$none" sh -c "rm $top/crates/envoy_stats/out/script.sum; $top/envoy_stats x"
 try 'it says so before it builds' 3 'proved and built first' "$none" sh -c "rm $top/crates/envoy_stats/out/script.sum; $top/envoy_stats no command"
 try 'nothing is proved again' 3 'ran x' 'proved' "$top/envoy_stats" x
+try 'a lowest crate that is not proved' 70 'crate stat_defs is not proved' 'ran' sh -c "rm $top/crates/envoy_stats/out/script.sum; BAD=stat_defs $top/envoy_stats x"
+try 'and then it is proved' 3 'ran x' "$none" "$top/envoy_stats" x
+try 'a try proves nothing, and names its files anew' 4 "tried --data file1=$top/README.md -- replay file1 - a b" 'proved crate' sh -c "cd $top && ./envoy_stats --try replay README.md - 'a b'"
 try 'from another folder' 3 'ran x' 'proved' sh -c "cd / && $top/envoy_stats x"
 touch "$source"
 try 'a new time of a file is no change' 3 'ran x' 'proved' "$top/envoy_stats" x

@@ -25,4 +25,3 @@ mod BinsShown
 pub mod CallsLawful
 pub mod Showable
 pub mod RowsBins
-pub mod TriedReport

@@ -11,8 +11,6 @@ mod report_views;
 mod rows;
 mod sums;
 mod taken;
-#[cfg(test)]
-mod tests;
 mod worked;
 
 pub use laws::{

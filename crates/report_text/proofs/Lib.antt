@@ -3,4 +3,5 @@ mod Shown
 mod FlushTexts
 mod Told
 mod WholeText
+mod TriedReport
 mod Tried

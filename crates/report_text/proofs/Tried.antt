@@ -11,9 +11,9 @@ use Rattle.book_state.specs.Log.{Legal}
 use Rattle.book_state.specs.Stored.{IsLawfulCall}
 use Rattle.ledger.specs.Flushes.{flushed}
 use Rattle.flush_view.specs.Showing.{IsShowable, HasLawfulParts, values_taken}
-use Rattle.flush_view.specs.Tried.{plain_config, tried_report}
+use Rattle.report_text.specs.Tried.{plain_config, tried_report}
 use Rattle.flush_view.specs.Views.{view_rules, ends_in}
-use Rattle.flush_view.proofs.TriedReport.{tried_shows}
+use Rattle.report_text.proofs.TriedReport.{tried_shows}
 
 pub shows_too : (report : Report) → report.log ≡ tried_report.log → report.flushes ≡ tried_report.flushes
     → IsShowable plain_config report

@@ -1,2 +1,3 @@
 pub mod ReportText
 pub mod Parts
+pub mod Tried

@@ -1,16 +1,18 @@
-//! A report of three flushes, as it is written.
-ghost use Rattle.std.specs.Prelude.{◌≡◌, IfOk};
+//! A report of three flushes, as its views show it and as it is written.
+ghost use Rattle.std.specs.Prelude.{◌≡◌, IfOk, OnOk, true};
 ghost use Rattle.book_state.specs.Follows.{key_in};
 ghost use Rattle.book_state.specs.Worked as worked;
 ghost use Rattle.ledger.specs.Worked as told;
 ghost use Rattle.flush_view.specs.Showing.{IsShowable};
-ghost use Rattle.flush_view.specs.Tried.{plain_config, tried_makes, tried_sweeps, tried_flushes, tried_part};
+ghost use Rattle.report_text.specs.Tried.{plain_config, tried_makes, tried_sweeps, tried_flushes, tried_part};
 ghost use Rattle.flush_view.specs.WorkedRows.{makes_numbered, sets_readout};
 
 use crate::{Format, OutputOptions, write_report};
+use flush_view::{ReportViews, flush_view};
 use stat_defs::{
-    Bin, BinCount, Call, Config, Delta, Entry, FlushRecord, Key, Kind, List, MatchSpec, MetricId,
-    Mode, NoMemory, Part, ReadRecord, Reading, Reply, Report, ScopeId, ScopeSpec, Txt, Verdict,
+    Bin, BinCount, Call, Config, Delta, Entry, FlushRecord, FlushView, Key, Kind, List, MatchSpec,
+    MetricId, Mode, NoMemory, Part, ReadRecord, Reading, Reply, Report, ScopeId, ScopeSpec, Txt,
+    Verdict,
 };
 use stats_io::MemSink;
 use std::alloc::Global;
@@ -313,5 +315,127 @@ fn formats(rt: HostRuntime) -> Result<(), Fail> {
         assert!(rt; out.bytes().starts_with(front));
         assert!(rt; out.bytes().ends_with(end));
     }
+    Ok(())
+}
+
+fn put_row(text: &mut Vec<u8>, name: &Txt, told: &str) -> Result<(), NoMemory> {
+    text.extend_from_slice(name.bytes())?;
+    text.extend_from_slice(told.as_bytes())?;
+    text.push(b'\n')?;
+    Ok(())
+}
+
+// Each bin with its count.
+fn bins_told(alloc: Global, counts: &[BinCount]) -> Result<String, Fail> {
+    let mut told = String::new(alloc);
+    for count in counts {
+        let one = format!(in alloc; " {}x{}", count.bin.val, count.count)?;
+        told.push_str(&one)?;
+    }
+    Ok(told)
+}
+
+fn put_counters(alloc: Global, text: &mut Vec<u8>, view: &FlushView) -> Result<(), Fail> {
+    for row in view.counters.items() {
+        let told = format!(in alloc; " {} {}", row.delta, row.total)?;
+        put_row(text, &row.name, &told)?;
+    }
+    Ok(())
+}
+
+fn put_gauges(alloc: Global, text: &mut Vec<u8>, view: &FlushView) -> Result<(), Fail> {
+    for row in view.gauges.items() {
+        let told = format!(in alloc; " {}", row.value)?;
+        put_row(text, &row.name, &told)?;
+    }
+    Ok(())
+}
+
+fn put_histograms(alloc: Global, text: &mut Vec<u8>, view: &FlushView) -> Result<(), Fail> {
+    for row in view.histograms.items() {
+        let interval = bins_told(alloc, row.interval.items())?;
+        let cumulative = bins_told(alloc, row.cumulative.items())?;
+        let told = format!(in alloc;
+            "{interval} /{cumulative}, {} bounds",
+            row.bounds.items().len()
+        )?;
+        put_row(text, &row.name, &told)?;
+    }
+    Ok(())
+}
+
+fn put_texts(text: &mut Vec<u8>, view: &FlushView) -> Result<(), Fail> {
+    for row in view.texts.items() {
+        text.extend_from_slice(row.text.bytes())?;
+        put_row(text, &row.name, "")?;
+    }
+    Ok(())
+}
+
+// The rows of a view, kind by kind, a line each; or a word where there is no view.
+fn put_view(alloc: Global, text: &mut Vec<u8>, view: &Option<FlushView>) -> Result<(), Fail> {
+    let Some(view) = view else {
+        text.extend_from_slice(b"none\n")?;
+        return Ok(());
+    };
+    text.extend_from_slice(b"view\n")?;
+    put_counters(alloc, text, view)?;
+    put_gauges(alloc, text, view)?;
+    put_histograms(alloc, text, view)?;
+    put_texts(text, view)
+}
+
+fn put_next(alloc: Global, text: &mut Vec<u8>, views: &mut ReportViews<'_>) -> Result<(), Fail>
+    requires { views.old.whole ≡ true }
+    ensures { OnOk result (views.new.whole ≡ true) }
+{
+    let view = views.next(alloc)?;
+    put_view(alloc, text, &view)
+}
+
+fn put_live_names(alloc: Global, text: &mut Vec<u8>, views: &ReportViews<'_>) -> Result<(), Fail> {
+    for metric in views.live_metrics(alloc)? {
+        put_row(text, &metric.name, "")?;
+    }
+    Ok(())
+}
+
+// Counter 0 is gone in the first sweep. The second flush has 2 units of it, and the last none.
+#[test]
+fn a_name_that_is_made_again(rt: HostRuntime) -> Result<(), Fail> {
+    let alloc = rt.alloc();
+    let config = config(alloc)?;
+    let report = report(alloc)?;
+    let (rules, buckets) = rules_and_buckets(alloc)?;
+    let mut views = ReportViews::new(alloc, &config, rules, &buckets, &report)?;
+    let mut text = Vec::new(alloc);
+    put_next(alloc, &mut text, &mut views)?;
+    put_next(alloc, &mut text, &mut views)?;
+    put_next(alloc, &mut text, &mut views)?;
+    put_next(alloc, &mut text, &mut views)?;
+    put_live_names(alloc, &mut text, &views)?;
+    let shown = "\
+view\nt.u 1 1\ng -5\nh 70x1 / 70x1, 19 bounds\nxr\n\
+view\nt.u 2 3\nt.u 3 3\ng 5\nh / 70x1, 19 bounds\nyr\n\
+view\nt.u 1 4\ng 5\nh 20x4 / 20x4 70x1, 19 bounds\nyr\n\
+none\ng\nh\nr\nt.u\n";
+    assert_eq!(rt; text.as_slice(), shown.as_bytes());
+    Ok(())
+}
+
+#[test]
+fn one_flush_of_three(rt: HostRuntime) -> Result<(), Fail> {
+    let alloc = rt.alloc();
+    let config = config(alloc)?;
+    let report = report(alloc)?;
+    if report.flushes.items().len() < 2 {
+        return Ok(());
+    }
+    let (rules, buckets) = rules_and_buckets(alloc)?;
+    let second = flush_view(alloc, &config, rules, &buckets, &report, 1)?;
+    let mut text = Vec::new(alloc);
+    put_view(alloc, &mut text, &Some(second))?;
+    let shown = b"view\nt.u 2 3\nt.u 3 3\ng 5\nh / 70x1, 19 bounds\nyr\n";
+    assert_eq!(rt; text.as_slice(), shown.as_slice());
     Ok(())
 }

@@ -13,7 +13,7 @@ use Rattle.book_state.proofs.Computed.{drawn_all}
 use Rattle.stat_book.specs.Calls.{name_rules}
 use Rattle.ledger.specs.Flushes.{flushed}
 use Rattle.flush_view.specs.Showing.{IsShowable, values_taken}
-use Rattle.flush_view.specs.Tried.{plain_config, tried_log, tried_part, tried_flushes, tried_report}
+use Rattle.report_text.specs.Tried.{plain_config, tried_log, tried_part, tried_flushes, tried_report}
 use Rattle.flush_view.specs.Views.{view_rules}
 use Rattle.flush_view.proofs.Showable.{never_falls}
 
