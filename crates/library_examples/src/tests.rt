@@ -3,13 +3,17 @@ ghost use Rattle.std.specs.Prelude.{◌≡◌, ◌≤◌, ◌+◌, ◌*◌, IfOk
 ghost use Rattle.stat_defs.specs.Configs.{IsConfig};
 ghost use Rattle.event_script.specs.declared.limits.TheConstants as file;
 ghost use Rattle.flush_view.specs.Showing.{IsShowable};
+ghost use Rattle.lone_worker.specs.declared.worker.TheConstants as worker;
 ghost use Rattle.plain_store.specs.Store.{new_store};
 
-use crate::{apply_lines, count_lines, count_often, count_twice, rules_and_buckets, store_of};
+use crate::{
+    apply_lines, count_in_turn, count_lines, count_often, count_twice, rules_and_buckets, shown_of,
+    store_of,
+};
 use boot_file::{read, usual};
 use report_text::{Format, OutputOptions, write_report};
-use stat_defs::{Config, Event, FileEnd, MetricId, Report, Txt, Verdict};
-use stats_io::{MemSink, MemSource};
+use stat_defs::{Config, CounterRow, Event, FileEnd, FlushRecord, MetricId, Report, Txt, Verdict};
+use stats_io::{MemSink, MemSource, SureSource};
 use std::alloc::Global;
 use std::test::Fail;
 
@@ -96,6 +100,23 @@ fn metric_limits(rt: HostRuntime) -> Result<(), Fail> {
 }
 
 #[test]
+fn histogram_limits(rt: HostRuntime) -> Result<(), Fail> {
+    let alloc = rt.alloc();
+    let mut lines = numbered_lines(alloc, "rec", 1025)?;
+    lines.extend_from_slice(b"inc root new 1\nrec root n1023 1\n")?;
+    let verdicts = verdicts_on(alloc, NO_TAGS, &lines)?;
+    let behind = [
+        Verdict::OverLimit,
+        Verdict::Accepted(MetricId(1024)),
+        Verdict::Accepted(MetricId(1023)),
+    ];
+    assert!(rt;
+        verdicts.len() == 1027 && accepted(&verdicts, 1024) && verdicts.ends_with(behind.as_slice())
+    );
+    Ok(())
+}
+
+#[test]
 fn names_that_are_not_included(rt: HostRuntime) -> Result<(), Fail> {
     let lines =
         b"inc root cluster.x 1\ninc root server.y 1\ninc root server.y 1\nrec root cluster 1\n";
@@ -126,6 +147,18 @@ fn written(alloc: Global, config: &Config, report: &Report, format: Format) -> R
 }
 
 #[test]
+fn requests_are_counted(rt: HostRuntime) -> Result<(), Fail> {
+    let alloc = rt.alloc();
+    let config = usual(alloc)?;
+    let lines = b"inc root requests 3\ninc root requests 4\n".to_vec(alloc)?;
+    let source = SureSource::new(String::new(alloc), lines, 4096);
+    let report = count_lines(alloc, &config, source)?;
+    let text = written(alloc, &config, &report, Format::Statsd)?;
+    assert_eq!(rt; text.bytes(), b"# last\nenvoy.requests:7|c\n".as_slice());
+    Ok(())
+}
+
+#[test]
 fn lines_up_to_a_fault(rt: HostRuntime) -> Result<(), Fail> {
     let alloc = rt.alloc();
     let config = usual(alloc)?;
@@ -152,5 +185,149 @@ fn flushes_with_nothing_new(rt: HostRuntime) -> Result<(), Fail> {
 # flush 2\nenvoy.a:0|c\nenvoy.g:3|g\n\
 # last\nenvoy.a:0|c\nenvoy.g:3|g\n";
     assert_eq!(rt; shown.bytes(), text.as_bytes());
+    Ok(())
+}
+
+// Lines in memory, of which each text is a source.
+fn two_sources(alloc: Global, first: &str, second: &str) -> Result<Vec<MemSource>, Fail>
+    ensures { IfOk result (λ sources. length sources.items * file.MAX_EVENTS ≤ worker.MAX_EVENTS) }
+{
+    let first = lines_of(alloc, first.as_bytes())?;
+    let second = lines_of(alloc, second.as_bytes())?;
+    Ok(vec![in alloc; first, second]?)
+}
+
+// The report of three flushes: one behind the first lines, one behind the second, and the last one.
+fn three_flushes(alloc: Global, config: &Config, first: &str, second: &str) -> Result<Report, Fail>
+    requires { IsConfig config.now }
+    ensures { IfOk result (λ report. IsShowable config.now report) }
+{
+    let sources = two_sources(alloc, first, second)?;
+    Ok(count_in_turn(alloc, config, sources)?)
+}
+
+const EVERY_KIND: &str = "open s t
+inc root a 2
+inc s u 1
+add root g acc 5
+set root n never 7
+add root m uninit 3
+rec root h 7
+text root v one
+text s w old
+";
+
+// The scope's release is acknowledged by the event behind it.
+const EVERY_KIND_AGAIN: &str = "inc root a 3
+sub root g acc 9
+set root n never 4
+sub root m acc 1
+rec root h 100
+text root v two
+release s
+inc root b 1
+";
+
+// The released scope's metrics are shown in the flush whose sweep makes them gone. Each quantile has the values since
+// the flush before, and then all so far.
+const EVERY_KIND_SHOWN: &str = "# flush 1
+t.w: \"old\"
+v: \"one\"
+a: 2
+g: 5
+m: 3
+n: 7
+t.u: 1
+h: P0(7,7) P25(7.1,7.1) P50(7.1,7.1) P75(7.1,7.1) P90(7.1,7.1) P95(7.1,7.1) P99(7.1,7.1) P99.5(7.1,7.1) P99.9(7.1,7.1) P100(7.1,7.1)
+# flush 2
+t.w: \"old\"
+v: \"two\"
+a: 5
+b: 1
+g: -4
+m: 2
+n: 4
+t.u: 1
+h: P0(100,7) P25(110,7.1) P50(110,7.1) P75(110,110) P90(110,110) P95(110,110) P99(110,110) P99.5(110,110) P99.9(110,110) P100(110,110)
+# last
+v: \"two\"
+a: 5
+b: 1
+g: -4
+m: 2
+n: 4
+h: P0(nan,7) P25(nan,7.1) P50(nan,7.1) P75(nan,110) P90(nan,110) P95(nan,110) P99(nan,110) P99.5(nan,110) P99.9(nan,110) P100(nan,110)
+";
+
+#[test]
+fn values_and_texts_in_three_flushes(rt: HostRuntime) -> Result<(), Fail> {
+    let alloc = rt.alloc();
+    let config = config_of(alloc, NO_TAGS)?;
+    let report = three_flushes(alloc, &config, EVERY_KIND, EVERY_KIND_AGAIN)?;
+    let shown = written(alloc, &config, &report, Format::Admin)?;
+    assert_eq!(rt; shown.bytes(), EVERY_KIND_SHOWN.as_bytes());
+    Ok(())
+}
+
+// Adds the totals of the rows of that name.
+fn add_totals(rows: &[CounterRow], name: &str, totals: &mut Vec<u64>) -> Result<(), Fail> {
+    for row in rows {
+        if row.name.bytes() == name.as_bytes() {
+            totals.push(row.total)?;
+        }
+    }
+    Ok(())
+}
+
+// The totals of the counter's rows of that name, flush by flush.
+fn totals_of(alloc: Global, config: &Config, report: &Report, name: &str) -> Result<Vec<u64>, Fail>
+    requires config { IsConfig config.now }
+    requires showable { IsShowable config.now report.now }
+{
+    let mut totals = Vec::new(alloc);
+    for k in 0..report.flushes.items().len() {
+        let shown = shown_of(alloc, config, report, k)?;
+        add_totals(shown.counters.items(), name, &mut totals)?;
+    }
+    Ok(totals)
+}
+
+// The numbers of a flush's counters.
+fn counters_of(alloc: Global, flush: &FlushRecord) -> Result<Vec<u32>, Fail> {
+    let mut ids = Vec::new(alloc);
+    for delta in flush.deltas.items() {
+        ids.push(delta.id.0)?;
+    }
+    Ok(ids)
+}
+
+// The scope of `t.u` is released, and the event behind that acknowledges it.
+const RELEASED: &str = "open s t\ninc s u 3\nrelease s\ninc root a 1\n";
+
+const MADE_AGAIN: &str = "open s t\ninc s u 4\n";
+
+// The counter 0 is gone in the first sweep, and 2 is made under its name: each flush shows one row of it, whose total
+// begins anew. The last record has a delta of each counter that was ever made.
+#[test]
+fn a_name_that_is_made_again(rt: HostRuntime) -> Result<(), Fail> {
+    let alloc = rt.alloc();
+    let config = config_of(alloc, NO_TAGS)?;
+    let report = three_flushes(alloc, &config, RELEASED, MADE_AGAIN)?;
+    let totals = totals_of(alloc, &config, &report, "t.u")?;
+    assert_eq!(rt; totals.as_slice(), [3, 4, 4].as_slice());
+    let flushes = report.flushes.items();
+    assert!(rt; flushes.len() == 3);
+    assert_eq!(rt;
+        counters_of(alloc, &flushes[0])?.as_slice(),
+        [0, 1].as_slice()
+    );
+    assert_eq!(rt;
+        counters_of(alloc, &flushes[1])?.as_slice(),
+        [1, 2].as_slice()
+    );
+    assert_eq!(rt;
+        counters_of(alloc, &flushes[2])?.as_slice(),
+        [0, 1, 2].as_slice()
+    );
     Ok(())
 }
