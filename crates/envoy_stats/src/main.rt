@@ -10,6 +10,8 @@ ghost use Rattle.envoy_stats.specs.Outcome.{IsCall, IsUnreadable};
 mod bins;
 mod check;
 mod command;
+#[cfg(test)]
+mod example_texts;
 mod outcome;
 mod quiet;
 mod replay;

@@ -1,6 +1,10 @@
 ghost use Rattle.std.specs.Prelude.{◌≤◌, IfOk};
 
 use super::*;
+use crate::example_texts::{
+    API_EVENTS, EDGE_ADMIN, EDGE_JSON, EDGE_STATSD, TAGS_ADMIN, TAGS_EVENTS, TAGS_JSON, TAGS_PROM,
+    TAGS_STATSD, WEB_EVENTS,
+};
 use stat_defs::{Delta, MetricId, Report, Verdict};
 use stats_io::{MemFile, MemShelf, MemSink, Shelf};
 use std::alloc::Global;
@@ -249,6 +253,63 @@ fn assert_row(rt: &impl Abort, alloc: Global, row: &[u8]) -> Result<(), Fail> {
 fn rows_and_what_is_written(rt: HostRuntime) -> Result<(), Fail> {
     for row in ROWS.split(|b| *b == 2) {
         assert_row(&rt, rt.alloc(), row)?;
+    }
+    Ok(())
+}
+
+// Commands over the files in `examples/`, with the outputs that stand there. The program's stored run is the sixth.
+const EXAMPLES: [(&str, &str); 5] = [
+    (
+        "replay --format statsd examples/edge.json examples/web.events examples/api.events",
+        EDGE_STATSD,
+    ),
+    (
+        "replay --format admin examples/edge.json examples/web.events examples/api.events",
+        EDGE_ADMIN,
+    ),
+    (
+        "replay --symbols --format statsd examples/tags.json examples/tags.events",
+        TAGS_STATSD,
+    ),
+    (
+        "replay --symbols --format prom examples/tags.json examples/tags.events",
+        TAGS_PROM,
+    ),
+    (
+        "replay --symbols --format admin examples/tags.json examples/tags.events",
+        TAGS_ADMIN,
+    ),
+];
+
+// A file of `examples/`.
+fn example(alloc: Global, name: &str, text: &str) -> Result<MemFile, Fail>
+    ensures { IfOk result (λ file. 1 ≤ file.piece) }
+{
+    file_of(alloc, name, text.as_bytes(), 999)
+}
+
+// A shelf with the files in `examples/`.
+fn example_shelf(alloc: Global) -> Result<MemShelf, Fail> {
+    let edge = example(alloc, "examples/edge.json", EDGE_JSON)?;
+    let web = example(alloc, "examples/web.events", WEB_EVENTS)?;
+    let api = example(alloc, "examples/api.events", API_EVENTS)?;
+    let tags = example(alloc, "examples/tags.json", TAGS_JSON)?;
+    let shop = example(alloc, "examples/tags.events", TAGS_EVENTS)?;
+    let files = vec![in alloc; edge, web, api, tags, shop]?;
+    Ok(MemShelf::new(files, Vec::new(alloc)))
+}
+
+#[test]
+fn examples_are_as_they_stand(rt: HostRuntime) -> Result<(), Fail> {
+    let alloc = rt.alloc();
+    for (words, out) in EXAMPLES {
+        let wanted = Wanted {
+            status: 0,
+            reports: true,
+            out: out.as_bytes(),
+            err: b"",
+        };
+        assert_call(&rt, alloc, words, example_shelf(alloc)?, wanted)?;
     }
     Ok(())
 }

@@ -1,20 +1,43 @@
 #!/usr/bin/env bash
-# Runs the program over the examples and compares what it writes with the outputs that stand beside them. It prints a
-# line for each, and its status is the number of those that differ.
+# Runs the program over the examples and compares what it writes with the outputs that stand beside them, and these
+# files with the texts that the tests have. It prints a line for each, and its status is the number of those that
+# differ. With the word `texts` it prints the texts that the tests are to have.
 cd "$(dirname "$(readlink -f "${BASH_SOURCE[0]}")")/../../../.." || exit 1
 wrong=0
-try() {
-  local wanted=$1
-  shift
-  if ./envoy_stats replay "$@" 2>&1 | cmp -s - "examples/$wanted"; then
-    echo "ok: $wanted"
+told() {
+  if [ "$1" -eq 0 ]; then
+    echo "ok: $2"
   else
-    echo "wrong: $wanted"
+    echo "wrong: $2"
     wrong=$((wrong + 1))
   fi
 }
+try() {
+  local wanted=$1
+  shift
+  ./envoy_stats replay "$@" 2>&1 | cmp -s - "examples/$wanted"
+  told $? "$wanted"
+}
+texts() {
+  local file head
+  echo '//! Files of `examples/` to the letter: `examples/try.sh texts` prints this file.'
+  for file in edge.json web.events api.events tags.json tags.events edge.{statsd,admin} tags.{statsd,prom,admin}; do
+    head="pub const $(tr a-z. A-Z_ <<<"$file"): &str = r#\"$(head -n 1 "examples/$file")"
+    # A line that is too long is broken, as `rt fmt` does.
+    [ "${#head}" -le 100 ] || head=${head/= r/=$'\n'    r}
+    printf '\n%s\n' "$head"
+    tail -n +2 "examples/$file"
+    echo '"#;'
+  done
+}
+if [ "$1" = texts ]; then
+  texts
+  exit
+fi
 for format in statsd prom admin; do
   try "edge.$format" --format "$format" examples/edge.json examples/web.events examples/api.events
   try "tags.$format" --symbols --format "$format" examples/tags.json examples/tags.events
 done
+texts | cmp -s - crates/envoy_stats/src/example_texts.rt
+told $? example_texts.rt
 exit "$wrong"
