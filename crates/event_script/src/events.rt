@@ -29,6 +29,7 @@ fn inc_event(text: &[u8]) -> Option<(EventRef<'_>, &[u8])>
     Some((EventRef::Inc { label, name, n }, after))
 }
 
+#[inline(always)]
 fn gauge_event(op: GaugeOp, text: &[u8]) -> Option<(EventRef<'_>, &[u8])>
     ensures { MatchOption result (LacksLine (gauge_in op) text.now)
         (λ p. HasLine (gauge_in op) text.now (event_of p.0) p.1.now) }
@@ -54,6 +55,7 @@ fn gauge_event(op: GaugeOp, text: &[u8]) -> Option<(EventRef<'_>, &[u8])>
     ))
 }
 
+#[inline(always)]
 fn rec_event(text: &[u8]) -> Option<(EventRef<'_>, &[u8])>
     ensures { MatchOption result (LacksLine rec_in text.now) (λ p. HasLine rec_in text.now (event_of p.0) p.1.now) }
 {
@@ -66,6 +68,7 @@ fn rec_event(text: &[u8]) -> Option<(EventRef<'_>, &[u8])>
     Some((EventRef::Rec { label, name, v }, after))
 }
 
+#[inline(always)]
 fn text_event(text: &[u8]) -> Option<(EventRef<'_>, &[u8])>
     ensures { MatchOption result (LacksLine readout_in text.now)
         (λ p. HasLine readout_in text.now (event_of p.0) p.1.now) }
@@ -91,6 +94,7 @@ fn given_prefix(given: &[u8]) -> &[u8]
     }
 }
 
+#[inline(always)]
 fn open_event(text: &[u8]) -> Option<(EventRef<'_>, &[u8])>
     ensures { MatchOption result (LacksLine open_in text.now) (λ p. HasLine open_in text.now (event_of p.0) p.1.now) }
 {
@@ -104,6 +108,7 @@ fn open_event(text: &[u8]) -> Option<(EventRef<'_>, &[u8])>
     Some((EventRef::OpenScope { label, prefix }, after))
 }
 
+#[inline(always)]
 fn release_event(text: &[u8]) -> Option<(EventRef<'_>, &[u8])>
     ensures { MatchOption result (LacksLine release_in text.now)
         (λ p. HasLine release_in text.now (event_of p.0) p.1.now) }

@@ -15,6 +15,7 @@ fn digit_of(b: u8) -> u64
 }
 
 // The number with one more digit behind it, where it is at most `most`.
+#[inline(always)]
 fn with_digit(n: u64, digit: u64, most: u64) -> Option<u64>
     ensures { MatchOption result (most < n * 10 + digit) (λ m. (m ≡ n * 10 + digit) × (m ≤ most)) }
 {
@@ -28,6 +29,7 @@ fn with_digit(n: u64, digit: u64, most: u64) -> Option<u64>
 }
 
 // The value of the digits that stand first, and how many they are, where it is at most `most`.
+#[inline(always)]
 fn digits_first(text: &[u8], most: u64) -> Option<(u64, usize)>
     ensures { MatchOption result (HasMoreThan text.now most) (λ p. HasDigits text.now p.0 p.1 × (p.0 ≤ most)) }
 {
@@ -65,6 +67,7 @@ fn is_numeral(text: &[u8], count: usize) -> bool
 }
 
 // The number that the first line is, at most `most`, and what stands behind it.
+#[inline(always)]
 pub fn number_last(text: &[u8], most: u64) -> Option<(u64, &[u8])>
     ensures { MatchOption result (LacksLine (read_number most) text.now)
         (λ p. HasLine (read_number most) text.now p.0 p.1.now × (p.0 ≤ most)) }

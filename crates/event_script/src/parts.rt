@@ -51,6 +51,7 @@ pub fn word_first(text: &[u8]) -> Option<(Word, &[u8])>
 }
 
 // The mode that a space ends, and what stands behind that.
+#[inline(always)]
 pub fn mode_first(text: &[u8]) -> Option<(Mode, &[u8])>
     ensures { MatchOption result (LacksPart read_mode text.now) (λ p. HasPart read_mode text.now p.0 p.1.now) }
 {

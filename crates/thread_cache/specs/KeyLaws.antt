@@ -29,12 +29,12 @@ texts a b = nat_list_eq_equiv.symm a b
 
 -- a key of the table finds what its key finds
 pub finds_as : (key at : CacheKey) → eq key at ≡ is_at (key_of key) at
-finds_as key at = λ i. texts key.label.items at.label.items i
-    && (kinds key.kind at.kind i && (modes key.mode at.mode i && texts key.name.items at.name.items i))
+finds_as key at = λ i. texts key.label at.label i
+    && (kinds key.kind at.kind i && (modes key.mode at.mode i && texts key.name at.name i))
 
 -- a query is hashed as a key that it finds
 pub hashed_as : (query : Query) (key : CacheKey) → is_at (asked query) key ≡ true
-    → query.label.now ∷ query.name.now ∷ [] ≡ key.label.items ∷ key.name.items ∷ []
+    → query.label.now ∷ query.name.now ∷ [] ≡ key.label ∷ key.name ∷ []
 hashed_as query key is = ap (λ (k : Key). k.label ∷ k.name ∷ []) (sym (same_key-is (key_of key) (asked query) is))
 
 -- it finds the keys that are equal to one that it finds, and no other

@@ -42,9 +42,9 @@ impl Equivalent<CacheKey> for Query<'_> {
 
     #[inline(always)]
     fn equivalent(&self, key: &CacheKey) -> bool {
-        self.label == key.label.as_slice()
+        self.label == key.label.bytes()
             && self.kind == key.kind
             && self.mode == key.mode
-            && self.name == key.name.as_slice()
+            && self.name == key.name.bytes()
     }
 }
