@@ -8,5 +8,6 @@ mod Making
 mod Freeing
 mod SweptNames
 mod Freedom
+mod Ranks
 mod TriedConfig
 pub mod CallerLemmas

@@ -1,5 +1,5 @@
 -- What a log shows of a seat's right to call. This project's own.
-use Rattle.std.specs.Prelude.{ℕ, Bool, true, false, ◌&&◌, ◌==◌, List}
+use Rattle.std.specs.Prelude.{ℕ, ◌+◌, ◌*◌, Bool, true, false, ◌&&◌, ◌==◌, nat_le, List, get_or}
 use Rattle.std.specs.List.{list_any}
 use Rattle.stat_defs.specs.Keys.{same_key}
 use Rattle.stat_defs.specs.declared.events.Key.{Key}
@@ -19,3 +19,16 @@ has_ended seat log = list_any (λ entry. entry.seat == seat && is_end entry.call
 
 abbrev pub has_used : ℕ → Key → List Entry → Bool
 has_used seat key log = list_any (λ entry. entry.seat == seat && uses_key key entry.call) log
+
+-- the first three bytes of a key's name, as one number
+abbrev pub rank : Key → ℕ
+rank key = get_or key.name 0 0 * 65536 + get_or key.name 1 0 * 256 + get_or key.name 2 0
+
+-- it ends a seat, or finds a key of this rank or above
+abbrev pub is_from : ℕ → Call → Bool
+is_from least call.End = true
+is_from least (call.Find key) = nat_le least (rank key)
+is_from least _ = false
+
+abbrev pub has_from : ℕ → ℕ → List Entry → Bool
+has_from seat least log = list_any (λ entry. entry.seat == seat && is_from least entry.call) log

@@ -1,7 +1,9 @@
--- A configuration with one scope, which the tests try. This project's own.
+-- A configuration with one scope and a list of patterns, which the tests try. This project's own.
 use Rattle.std.specs.Prelude.{[], ◌∷◌, codes}
 use Rattle.stat_defs.specs.declared.configs.Config.{Config}
 use Rattle.stat_defs.specs.declared.configs.MatchSpec.{MatchSpec}
+use Rattle.stat_defs.specs.declared.configs.MatchSpec.TheVariants.{Include}
+use Rattle.stat_defs.specs.declared.configs.Pattern.TheVariants.{Prefix}
 
 abbrev pub tried_config : MatchSpec → Config
 tried_config matcher = record {
@@ -15,3 +17,7 @@ tried_config matcher = record {
   flush_every = 1000;
   reads = 0;
 }
+
+-- the names that begin with `cluster.` alone
+abbrev pub tried_list : MatchSpec
+tried_list = Include (Prefix (codes "cluster.") ∷ [])

@@ -1,5 +1,5 @@
 //! Books of two workers, each driven by the lines of a script.
-ghost use Rattle.std.specs.Prelude.{◌≡◌, ◌<◌, IfOk, OnOk, IsTrue};
+ghost use Rattle.std.specs.Prelude.{◌≡◌, ◌<◌, ◌≤◌, false, IfOk, OnOk, IsTrue, get_or};
 ghost use Rattle.std.specs.List.{list_all};
 ghost use Rattle.stat_defs.specs.Names as names;
 ghost use Rattle.stat_defs.specs.Names.{IsLocalName, IsScopePrefix};
@@ -9,14 +9,14 @@ ghost use Rattle.book_state.specs.declared.limits.TheConstants.{MAX_OPENINGS};
 ghost use Rattle.book_state.specs.Step.{Working, Works};
 ghost use Rattle.stat_book.specs.Calls.{state_of, openings_by};
 ghost use Rattle.book_state.specs.SeatLaws.{is_end};
-ghost use Rattle.stat_book.specs.Free.{has_ended, has_used, uses_key};
-ghost use Rattle.stat_book.specs.Tried.{tried_config};
+ghost use Rattle.stat_book.specs.Free.{has_ended, has_used, uses_key, rank, is_from, has_from};
+ghost use Rattle.stat_book.specs.Tried.{tried_config, tried_list};
 
 use crate::Book;
 use name_map::HashKey;
 use stat_defs::{
     Call, Config, Entry, Key, Kind, Life, List, MAX_NAME_BYTES, MatchSpec, MetricId, Mode,
-    NoMemory, Reply, ScopeSpec, Txt, Verdict, is_name_byte,
+    NoMemory, Pattern, Reply, ScopeSpec, Txt, Verdict, is_name_byte,
 };
 use std::alloc::Global;
 use std::process::Abort;
@@ -473,6 +473,42 @@ fn rejects_a_name(rt: HostRuntime) -> Result<(), Fail> {
     Ok(())
 }
 
+// Admits the names that begin with `cluster.` alone.
+fn clusters(alloc: Global) -> Result<MatchSpec, NoMemory>
+    ensures { IfOk result (λ matcher. matcher ≡ tried_list) }
+{
+    let prefix = Pattern::Prefix(Txt::of(alloc, b"cluster.")?);
+    Ok(MatchSpec::Include(List::of(vec![in alloc; prefix]?)))
+}
+
+#[tactic(auto, using(crate::proofs::TriedConfig::lawful_list))]
+fn book_of_clusters(alloc: Global) -> Result<Book, Fail>
+    ensures { IfOk result (λ book. book.workers ≡ 2) }
+{
+    let matcher = clusters(alloc)?;
+    book(alloc, matcher)
+}
+
+const LISTED: &str = "1 counter root cluster.x
+1 counter root server.y
+2 counter root cluster.x
+2 counter root server.y";
+
+const INCLUDED: &str = "made 0: 1 2
+rejected
+found 0
+rejected
+";
+
+#[test]
+fn rejects_what_is_not_included(rt: HostRuntime) -> Result<(), Fail> {
+    let alloc = rt.alloc();
+    let mut book = book_of_clusters(alloc)?;
+    let text = play(&rt, alloc, &mut book, LISTED)?;
+    assert_eq!(rt; text.as_str(), INCLUDED);
+    Ok(())
+}
+
 // Finds this many histograms.
 fn find_many(rt: &impl Abort, alloc: Global, book: &mut Book, count: u32) -> Result<(), Fail>
     requires { book.old.workers ≡ 2 }
@@ -494,5 +530,117 @@ fn limits_histograms(rt: HostRuntime) -> Result<(), Fail> {
     assert_eq!(rt; text.as_str(), "over limit");
     let text = play(&rt, alloc, &mut book, "1 counter root c")?;
     assert_eq!(rt; text.as_str(), "made 1024: 1025\n");
+    Ok(())
+}
+
+fn byte_at(name: &[u8], at: usize) -> u32
+    ensures byte { result ≡ get_or name.now at 0 }
+    ensures small { result < 256 }
+{
+    match name.get(at) {
+        Some(b) => u32::from(*b),
+        None => 0,
+    }
+}
+
+// The first three bytes of a name, as one number.
+fn rank(key: &Key) -> u32
+    ensures rank { result ≡ rank key.now }
+    ensures small { result < 16_777_216 }
+{
+    let name = key.name.bytes();
+    byte_at(name, 0) * 65_536 + byte_at(name, 1) * 256 + byte_at(name, 2)
+}
+
+fn is_from(least: u32, call: &Call) -> bool
+    ensures { result ≡ is_from least call.now }
+{
+    match call {
+        Call::End => true,
+        Call::Find { key } => least <= rank(key),
+        _ => false,
+    }
+}
+
+fn has_from(log: &[Entry], seat: u32, least: u32) -> bool
+    ensures { result ≡ has_from seat least log.now }
+{
+    log.iter()
+        .any(|entry| entry.seat == seat && is_from(least, &entry.call))
+}
+
+fn counter(alloc: Global, i: u32) -> Result<Key, NoMemory> {
+    let name = [
+        b'0' + (i / 4_096 % 64) as u8,
+        b'0' + (i / 64 % 64) as u8,
+        b'0' + (i % 64) as u8,
+    ];
+    Ok(Key {
+        label: Txt::of(alloc, b"root")?,
+        kind: Kind::Counter,
+        mode: Mode::Uninit,
+        name: Txt::of(alloc, &name)?,
+    })
+}
+
+// The rank of a key, which is this one at least.
+fn higher_rank(rt: &impl Abort, least: u32, key: &Key) -> u32
+    ensures rank { result ≡ rank key.now }
+    ensures higher { least ≤ result }
+    ensures small { result < 16_777_216 }
+{
+    let rank = rank(key);
+    assert!(rt; least <= rank);
+    rank
+}
+
+// Finds a key of a higher rank than all that seat 1 found. The result is the least rank that is higher still.
+fn find_next(
+    rt: &impl Abort,
+    alloc: Global,
+    book: &mut Book,
+    least: u32,
+    key: &Key,
+) -> Result<u32, Fail>
+    requires workers { book.old.workers ≡ 2 }
+    requires free { has_from 1 least book.old.log ≡ false }
+    ensures workers { OnOk result (book.new.workers ≡ 2) }
+    ensures free { IfOk result (λ next. has_from 1 next book.new.log ≡ false) }
+{
+    let rank = higher_rank(rt, least, key);
+    assert!(rt; is_name(key.name.bytes()));
+    let _answer = book.find(alloc, 1, key)?;
+    Ok(rank + 1)
+}
+
+// Finds this many counters, whose names have three bytes.
+fn find_counters(rt: &impl Abort, alloc: Global, book: &mut Book, count: u32) -> Result<(), Fail>
+    requires { book.old.workers ≡ 2 }
+    ensures { OnOk result (book.new.workers ≡ 2) }
+{
+    let mut least = 0;
+    assert!(rt; !has_from(book.log(), 1, least));
+    for i in 0..count {
+        let key = counter(alloc, i)?;
+        least = find_next(rt, alloc, book, least, &key)?;
+    }
+    Ok(())
+}
+
+#[test]
+fn limits_metrics(rt: HostRuntime) -> Result<(), Fail> {
+    let alloc = rt.alloc();
+    let mut book = book(alloc, MatchSpec::AdmitAll)?;
+    find_counters(&rt, alloc, &mut book, 16_385)?;
+    let text = told_last(alloc, book.log())?;
+    assert_eq!(rt; text.as_str(), "no room");
+    assert_eq!(rt; book.made(), 16_384);
+    let text = play(
+        &rt,
+        alloc,
+        &mut book,
+        "2 counter root 3oo\n2 counter root 400",
+    )?;
+    assert_eq!(rt; text.as_str(), "found 16383\nno room\n");
     Ok(())
 }
