@@ -25,6 +25,11 @@ pub const UNWRITTEN: u8 = 5;
 /// Memory was wanting.
 pub const NO_MEMORY: u8 = 6;
 
+// The numbers that a shell sees: contracts have them by name.
+const _: () = prove!(DONE == 0 && NO_COMMAND == 1 && BAD_BOOT == 2 && BAD_FILE == 3);
+
+const _: () = prove!(UNREADABLE == 4 && UNWRITTEN == 5 && NO_MEMORY == 6);
+
 fn status_of(end: FileEnd) -> u8
     ensures { result ≡ status_of end }
 {
