@@ -37,11 +37,19 @@ fn config_of(alloc: Global, text: &str) -> Result<Config, Fail>
 }
 
 // The verdicts on these lines in a new store.
+fn verdicts_in(alloc: Global, config: &Config, lines: &[u8]) -> Result<Vec<Verdict>, Fail>
+    requires { IsConfig config.now }
+{
+    let mut store = store_of(alloc, config)?;
+    let source = lines_of(alloc, lines)?;
+    let applied = apply_lines(alloc, source, &mut store)?;
+    Ok(applied.verdicts)
+}
+
+// The same, under the configuration of a bootstrap.
 fn verdicts_on(alloc: Global, text: &str, lines: &[u8]) -> Result<Vec<Verdict>, Fail> {
     let config = config_of(alloc, text)?;
-    let mut store = store_of(alloc, &config)?;
-    let applied = apply_lines(alloc, lines_of(alloc, lines)?, &mut store)?;
-    Ok(applied.verdicts)
+    verdicts_in(alloc, &config, lines)
 }
 
 // A line for each of so many numbers.
@@ -99,20 +107,22 @@ fn metric_limits(rt: HostRuntime) -> Result<(), Fail> {
     Ok(())
 }
 
+// Says whether the verdict at that place, from 0, is this one.
+fn stands_at(verdicts: &[Verdict], place: usize, verdict: Verdict) -> bool {
+    verdicts.get(place) == Some(&verdict)
+}
+
 #[test]
 fn histogram_limits(rt: HostRuntime) -> Result<(), Fail> {
     let alloc = rt.alloc();
     let mut lines = numbered_lines(alloc, "rec", 1025)?;
-    lines.extend_from_slice(b"inc root new 1\nrec root n1023 1\n")?;
+    lines.extend_from_slice(b"inc root c 1\nrec root n1023 1\n")?;
     let verdicts = verdicts_on(alloc, NO_TAGS, &lines)?;
-    let behind = [
-        Verdict::OverLimit,
-        Verdict::Accepted(MetricId(1024)),
-        Verdict::Accepted(MetricId(1023)),
-    ];
-    assert!(rt;
-        verdicts.len() == 1027 && accepted(&verdicts, 1024) && verdicts.ends_with(behind.as_slice())
-    );
+    assert!(rt; verdicts.len() == 1027);
+    assert!(rt; accepted(&verdicts, 1024));
+    assert!(rt; stands_at(&verdicts, 1024, Verdict::OverLimit));
+    assert!(rt; stands_at(&verdicts, 1025, Verdict::Accepted(MetricId(1024))));
+    assert!(rt; stands_at(&verdicts, 1026, Verdict::Accepted(MetricId(1023))));
     Ok(())
 }
 
