@@ -14,14 +14,14 @@ use Rattle.plain_store.specs.Store.{StoreHistory, new_store, Applied, Flushes}
 use Rattle.replay_report.specs.Applying.{AreApplied}
 use Rattle.library_examples.specs.StoreOf.{IsStoreOf, IsReportOfStore}
 
--- an event was applied twice to a new store, and then came a flush, whose record this is
-pub record CountsTwice (config : Config) (e : Event) (flush : FlushRecord) : Type 0 where
+-- an event was applied twice, and then came a flush, whose record this is
+pub record CountsTwice (old : StoreHistory) (e : Event) (flush : FlushRecord) : Type 0 where
   pub first : Verdict
   pub second : Verdict
   pub once : StoreHistory
   pub twice : StoreHistory
   pub last : StoreHistory
-  pub applied : Applied (new_store config) e first once
+  pub applied : Applied old e first once
   pub again : Applied once e second twice
   pub flushed : Flushes twice flush last
 

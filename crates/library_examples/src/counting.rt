@@ -1,5 +1,5 @@
 //! Stores that count.
-ghost use Rattle.std.specs.Prelude.{◌≡◌, ◌≤◌, ◌+◌, ◌*◌, IfOk, length};
+ghost use Rattle.std.specs.Prelude.{◌≡◌, ◌≤◌, ◌<◌, ◌+◌, ◌*◌, IfOk, length};
 ghost use Rattle.stat_defs.specs.Configs.{IsConfig};
 ghost use Rattle.stat_defs.specs.Events.{IsLawfulEvent};
 ghost use Rattle.event_script.specs.declared.limits.TheConstants as file;
@@ -12,7 +12,7 @@ use crate::flushing::flush_often;
 use crate::reading::{apply_lines, flush_in_turn};
 use crate::showing::finish_report;
 use plain_store::PlainStore;
-use stat_defs::{Config, Event, FlushRecord, Report};
+use stat_defs::{Config, Event, FlushRecord, NoMemory, Report};
 use stats_io::Source;
 use std::alloc::Global;
 use tag_rules::{Matcher, RegexMaker, TagFault, TagRules, config_law};
@@ -30,17 +30,30 @@ pub fn store_of(alloc: Global, config: &Config) -> Result<PlainStore, TagFault>
     Ok(PlainStore::new(alloc, config, rules, matcher)?)
 }
 
+// Applies an event twice, and flushes.
+fn apply_twice(
+    alloc: Global,
+    store: &mut PlainStore,
+    event: &Event,
+) -> Result<FlushRecord, NoMemory>
+    requires lawful { IsLawfulEvent event.now }
+    requires few { length store.old.worker.events + 1 < worker.MAX_EVENTS }
+    ensures { IfOk result (λ flush. CountsTwice store.old event.now flush) }
+{
+    store.apply(alloc, event)?;
+    store.apply(alloc, event)?;
+    Ok(store.flush(alloc)?)
+}
+
 /// Applies an event twice to a new store, and flushes: the record of the flush. It has a delta for each counter and a
 /// reading for each gauge that was made, and a part for each histogram with a value.
 pub fn count_twice(alloc: Global, config: &Config, event: &Event) -> Result<FlushRecord, TagFault>
     requires config { IsConfig config.now }
     requires event { IsLawfulEvent event.now }
-    ensures { IfOk result (λ flush. CountsTwice config.now event.now flush) }
+    ensures { IfOk result (λ flush. CountsTwice (new_store config.now) event.now flush) }
 {
     let mut store = store_of(alloc, config)?;
-    store.apply(alloc, event)?;
-    store.apply(alloc, event)?;
-    Ok(store.flush(alloc)?)
+    Ok(apply_twice(alloc, &mut store, event)?)
 }
 
 /// Applies the events of a source's lines to a new store, and finishes it: the report of its one flush. It has no

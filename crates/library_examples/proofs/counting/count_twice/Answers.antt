@@ -1,16 +1,13 @@
 use Rattle.std.proofs.Common.{subst}
-use Rattle.plain_store.specs.Store.{StoreHistory, Applied}
+use Rattle.plain_store.specs.Store.{StoreHistory}
+use Rattle.library_examples.specs.Counting.{CountsTwice}
+use Rattle.library_examples.proofs.Counted.{room_for_two}
 use Rattle.library_examples.proofs.counting.count_twice.Goals as goal
 
+pub apply_twice-requires-clause-few : goal.apply_twice-requires-clause-few
+apply_twice-requires-clause-few c = room_for_two c.args.config.now c.in_ok-store.store c.in_ok-store.ensures
+
 pub returns : goal.returns
-returns c = record {
-  first = c.in_ok-apply.field-0;
-  second = c.in_ok-apply-2.field-0;
-  once = c.apply.new.self;
-  twice = c.apply-2.new.self;
-  last = c.flush.new.self;
-  applied = subst (λ (s : StoreHistory). Applied s c.args.event.now c.in_ok-apply.field-0 c.apply.new.self)
-      c.in_ok-store.ensures c.in_ok-apply.ensures.ok;
-  again = c.in_ok-apply-2.ensures.ok;
-  flushed = c.in_ok-flush.ensures.ok;
-}
+returns c =
+    subst (λ (s : StoreHistory). CountsTwice s c.args.event.now c.in_ok-apply_twice.field-0)
+    c.in_ok-store.ensures c.in_ok-apply_twice.ensures
