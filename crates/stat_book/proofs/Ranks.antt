@@ -77,5 +77,5 @@ found_next old new n key v answers un above =
     ap (λ (book : BookHistory). has_from 1 m book.log) answers.2.logged
     ∙ (list_any-append (λ (entry : Entry). entry.seat == 1 && is_from m entry.call) old.log (e ∷ [])
     ∙ neither (has_from 1 m old.log) (has_from 1 m (e ∷ []))
-      (none_less (is_from n) (is_from m) 1 (still_below n m (omega (arith, above))) old.log un)
+    (none_less (is_from n) (is_from m) 1 (still_below n m (omega (arith, above))) old.log un)
     (neither (nat_le m (rank key)) false (lt-leb m (rank key) (omega arith)) refl))
