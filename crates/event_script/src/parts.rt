@@ -18,24 +18,39 @@ fn behind<'a>(text: &'a [u8], front: &[u8]) -> Option<&'a [u8]>
     text.strip_prefix(front)
 }
 
+// The same of 4 bytes, which are compared as one number.
+#[inline(always)]
+fn behind_four<'a>(text: &'a [u8], front: &[u8; 4]) -> Option<&'a [u8]>
+    ensures { MatchOption result ((rest : List ℕ) → text.now ≢ front.now ++ rest)
+        (λ rest. text.now ≡ front.now ++ rest.now) }
+{
+    let Some(first) = text.first_chunk::<4>() else {
+        return None;
+    };
+    if u32::from_le_bytes(*first) != u32::from_le_bytes(*front) {
+        return None;
+    }
+    Some(&text[4..])
+}
+
 // The word that a space ends, and what stands behind that.
 #[inline(always)]
 pub fn word_first(text: &[u8]) -> Option<(Word, &[u8])>
     ensures { MatchOption result (LacksPart read_word text.now) (λ p. HasPart read_word text.now p.0 p.1.now) }
 {
-    if let Some(rest) = behind(text, b"inc ") {
+    if let Some(rest) = behind_four(text, b"inc ") {
         return Some((Word::Inc, rest));
     }
-    if let Some(rest) = behind(text, b"add ") {
+    if let Some(rest) = behind_four(text, b"add ") {
         return Some((Word::Add, rest));
     }
-    if let Some(rest) = behind(text, b"sub ") {
+    if let Some(rest) = behind_four(text, b"sub ") {
         return Some((Word::Sub, rest));
     }
-    if let Some(rest) = behind(text, b"set ") {
+    if let Some(rest) = behind_four(text, b"set ") {
         return Some((Word::Set, rest));
     }
-    if let Some(rest) = behind(text, b"rec ") {
+    if let Some(rest) = behind_four(text, b"rec ") {
         return Some((Word::Rec, rest));
     }
     if let Some(rest) = behind(text, b"text ") {
@@ -58,7 +73,7 @@ pub fn mode_first(text: &[u8]) -> Option<(Mode, &[u8])>
     if let Some(rest) = behind(text, b"uninit ") {
         return Some((Mode::Uninit, rest));
     }
-    if let Some(rest) = behind(text, b"acc ") {
+    if let Some(rest) = behind_four(text, b"acc ") {
         return Some((Mode::Accumulate, rest));
     }
     if let Some(rest) = behind(text, b"never ") {

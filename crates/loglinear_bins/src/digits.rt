@@ -1,5 +1,5 @@
 //! The bin of a value, from its decimal digits.
-ghost use Rattle.std.specs.Prelude.{◌≡◌, ◌+◌, ◌*◌, ◌^◌, ◌<◌, ◌≤◌, IsTrue};
+ghost use Rattle.std.specs.Prelude.{◌≡◌, ◌+◌, ◌*◌, ◌/◌, ◌^◌, ◌<◌, ◌≤◌, IsTrue};
 ghost use Rattle.loglinear_bins.specs.Bins.{bin_of_value, is_lawful};
 
 use stat_defs::Bin;
@@ -62,6 +62,22 @@ fn digits_after_first(v: u64) -> usize
     }
 }
 
+// A number without its last digits, so many of them. A division by a constant is a multiplication.
+fn without_digits(v: u64, count: usize) -> u64
+    requires { count < 20 }
+    ensures { result ≡ v / 10 ^ count }
+{
+    match count {
+        0 => v,
+        1 => v / 10,
+        2 => v / 100,
+        3 => v / 1_000,
+        4 => v / 10_000,
+        5 => v / 100_000,
+        _ => v / power_of_ten(count),
+    }
+}
+
 /// The bin of a value: its first two decimal digits, or ten times its one digit, and how many digits follow the first
 /// one.
 pub fn bin_of(v: u64) -> Bin
@@ -75,7 +91,7 @@ pub fn bin_of(v: u64) -> Bin
         };
     }
     let exp = digits_after_first(v);
-    let val = v / power_of_ten(exp - 1);
+    let val = without_digits(v, exp - 1);
     Bin {
         val: val as u8,
         exp: exp as i8,

@@ -1,3 +1,4 @@
+pub mod TextLemmas
 pub mod ScopeLemmas
 pub mod Shown
 pub mod Finding

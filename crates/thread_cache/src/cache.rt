@@ -81,7 +81,7 @@ fn take_room(rooms: &mut Rooms, query: &Query<'_>) -> Option<CacheKey>
         × (length rooms.new.keys + 1 ≡ length rooms.old.keys)) }
     ensures none { result ≡ None → has_room (asked query.now) (map key_of rooms.old.keys) ≡ false }
 {
-    rooms.shift_take(*query)
+    rooms.shift_take(query)
 }
 
 impl Cache {

@@ -14,6 +14,7 @@ mod scopes;
 mod table;
 #[cfg(test)]
 mod tests;
+mod texts;
 
 pub use cache::Cache;
 pub use laws::{a_drop_is_an_acknowledgement, a_fill_is_a_find, an_end_is_an_empty_cache};

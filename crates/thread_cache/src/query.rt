@@ -7,6 +7,7 @@ ghost use Rattle.thread_cache.specs.Held.{is_at};
 ghost use Rattle.thread_cache.specs.KeyLaws.{hashed_as, found_as};
 
 use crate::key::CacheKey;
+use crate::texts::texts_equal;
 use indexmap::Equivalent;
 use stat_defs::{Kind, Mode};
 use std::hash::{Hash, Hasher};
@@ -33,18 +34,18 @@ impl Hash for Query<'_> {
     }
 }
 
-impl Equivalent<CacheKey> for Query<'_> {
-    ghost equivalent = { λ query. is_at (asked query) };
+impl<'a> Equivalent<CacheKey> for &Query<'a> {
+    ghost equivalent = { λ query. is_at (asked query.now) };
 
-    ghost respects_hash = { hashed_as };
+    ghost respects_hash = { λ query. hashed_as query.now };
 
-    ghost respects_eq = { found_as };
+    ghost respects_eq = { λ query. found_as query.now };
 
     #[inline(always)]
     fn equivalent(&self, key: &CacheKey) -> bool {
-        self.label == key.label.bytes()
+        texts_equal(self.label, key.label.bytes())
             && self.kind == key.kind
             && self.mode == key.mode
-            && self.name == key.name.bytes()
+            && texts_equal(self.name, key.name.bytes())
     }
 }

@@ -27,7 +27,7 @@ pub(crate) type Table = NameMap<CacheKey, Slot>;
 pub(crate) fn slot_of(table: &Table, query: &Query<'_>) -> Option<Slot>
     ensures { result ≡ slot_under (asked query.now) table.now.entries }
 {
-    match table.get(*query) {
+    match table.get(query) {
         Some(slot) => Some(*slot),
         None => None,
     }

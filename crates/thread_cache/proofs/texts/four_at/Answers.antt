@@ -1,0 +1,16 @@
+use Rattle.std.proofs.Common.{◌≡◌, ◌-◌, ◌∙◌, ap, arith, drop, length, take}
+use Rattle.std.specs.Int.{from_le_bytes, w32}
+use Rattle.std.proofs.lemmas.List.{length-drop, length-take-le, take_all}
+use Rattle.std.proofs.lemmas.Nat.{le_bytes_4}
+use Rattle.thread_cache.proofs.TextLemmas.{part_fits}
+use Rattle.thread_cache.proofs.texts.four_at.Goals as goal
+
+pub returns-clause-bytes : goal.returns-clause-bytes
+returns-clause-bytes c =
+    let rest = drop c.args.at c.args.text.now in
+    let long = length-take-le 4 rest (omega (arith, length-drop c.args.at c.args.text.now, c.requires)) in
+    let whole = take_all (length c.args.text.now - c.args.at) rest (omega (arith, length-drop c.args.at c.args.text.now)) in
+    let same : c.in-Some.bytes.now ≡ take 4 rest = c.in-Some.ensures.cases.same ∙ ap (take 4) whole in
+    le_bytes_4 (take 4 rest) c.from_le_bytes.result long
+    (part_fits c.args.text.now c.args.at 4 c.requires c.type_inv.text)
+    (c.from_le_bytes.ensures ∙ ap (from_le_bytes w32) same)
