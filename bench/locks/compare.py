@@ -3,7 +3,7 @@
 
 usage: bench/locks/compare.py [ROUNDS] [cpu]      at the top of the repository, with `rt` and `cargo` on the path
 
-Both programs print a line "NAME: X ns" per measure when they are given the word `time`. Each figure is the least time of all rounds.
+Both programs print a line "NAME: X ns" per measure when they are given their word. Each figure is the least time of all rounds.
 The first ratio is that of the least times, and the second the median of the rounds' ratios, since the two programs of one round ran one
 after the other. Where threads contend the median tells more: the least time is that of a round in which a thread had to wait. What only
 the plain program measures stands at the end.
@@ -20,7 +20,7 @@ import tempfile
 from pathlib import Path
 
 TOP = Path(__file__).resolve().parents[2]
-OURS = TOP / "crates/locks_bench/out/locks_bench"
+OURS = TOP / "crates/threads_bench/out/threads_bench"
 PLAIN = TOP / "bench/locks/target/release/locks"
 LIMIT = {"releases": 1.2}
 OTHERS = 2.0
@@ -36,7 +36,7 @@ int clock_gettime(clockid_t clock, struct timespec *time) { return syscall(SYS_c
 
 
 def build():
-    subprocess.run(["rt", "run"], cwd=TOP / "crates/locks_bench", check=True, capture_output=True)
+    subprocess.run(["rt", "run"], cwd=TOP / "crates/threads_bench", check=True, capture_output=True)
     subprocess.run(["cargo", "build", "--release", "--quiet", "--offline"], cwd=TOP / "bench/locks", check=True)
 
 
@@ -47,8 +47,8 @@ def processor_clock(folder):
     return {**os.environ, "LD_PRELOAD": str(library)}
 
 
-def measure(program, environment):
-    text = subprocess.run([str(program), "time"], check=True, capture_output=True, text=True, env=environment).stdout
+def measure(program, word, environment):
+    text = subprocess.run([str(program), word], check=True, capture_output=True, text=True, env=environment).stdout
     return {name: float(ns) for name, ns in re.findall(r"^(.*): ([0-9.]+) ns$", text, re.M)}
 
 
@@ -60,8 +60,8 @@ def main():
     with tempfile.TemporaryDirectory() as folder:
         environment = processor_clock(folder) if "cpu" in words else None
         for _ in range(rounds):
-            ours.append(measure(OURS, environment))
-            plain.append(measure(PLAIN, environment))
+            ours.append(measure(OURS, "locks", environment))
+            plain.append(measure(PLAIN, "time", environment))
     print(f"{'measure':40} {'lock':>11} {'plain Rust':>11} {'least':>6} {'median':>6}")
     for name in ours[0]:
         a = min(o[name] for o in ours)

@@ -14,7 +14,7 @@ import sys
 from pathlib import Path
 
 TOP = Path(__file__).resolve().parents[2]
-OURS = TOP / "crates/turns_bench/out/turns_bench"
+OURS = TOP / "crates/threads_bench/out/threads_bench"
 PLAIN = TOP / "bench/turns/target/release/turns"
 POLLS, ROUNDS = 100_000_000, 4_000_000
 SHARED = {"asked": POLLS, "exchange": ROUNDS}
@@ -23,7 +23,7 @@ LIMIT = {"asked": 1.2}
 
 
 def build():
-    subprocess.run(["rt", "run"], cwd=TOP / "crates/turns_bench", check=True, capture_output=True)
+    subprocess.run(["rt", "run"], cwd=TOP / "crates/threads_bench", check=True, capture_output=True)
     subprocess.run(["cargo", "build", "--release", "--quiet", "--offline"], cwd=TOP / "bench/turns", check=True)
 
 

@@ -15,18 +15,18 @@ import sys
 from pathlib import Path
 
 TOP = Path(__file__).resolve().parents[2]
-OURS = TOP / "crates/words_bench/out/words_bench"
+OURS = TOP / "crates/threads_bench/out/threads_bench"
 PLAIN = TOP / "bench/words/target/release/words"
 LIMIT = 1.2
 
 
 def build():
-    subprocess.run(["rt", "run"], cwd=TOP / "crates/words_bench", check=True, capture_output=True)
+    subprocess.run(["rt", "run"], cwd=TOP / "crates/threads_bench", check=True, capture_output=True)
     subprocess.run(["cargo", "build", "--release", "--quiet", "--offline"], cwd=TOP / "bench/words", check=True)
 
 
-def measure(program):
-    text = subprocess.run([str(program), "time"], check=True, capture_output=True, text=True).stdout
+def measure(program, word):
+    text = subprocess.run([str(program), word], check=True, capture_output=True, text=True).stdout
     return {name: float(ns) for name, ns in re.findall(r"^(.*): ([0-9.]+) ns$", text, re.M)}
 
 
@@ -35,8 +35,8 @@ def main():
     build()
     ours, plain = [], []
     for _ in range(rounds):
-        ours.append(measure(OURS))
-        plain.append(measure(PLAIN))
+        ours.append(measure(OURS, "words"))
+        plain.append(measure(PLAIN, "time"))
     print(f"{'measure':40} {'words':>11} {'plain Rust':>11} {'least':>6} {'median':>6}")
     for name in ours[0]:
         a = min(o[name] for o in ours)

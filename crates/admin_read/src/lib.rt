@@ -11,8 +11,6 @@ ghost use Rattle.admin_read.specs.Rows.{stat_of, CanBeRead};
 mod laws;
 mod lines;
 mod rows;
-#[cfg(test)]
-mod tests;
 
 pub use laws::order_law;
 use lines::put_row;

@@ -22,8 +22,3 @@ mod view;
 pub use held::{Held, Try};
 pub use lock::{BookLock, LockSeat};
 pub use view::{LockKey, LockKind, LockPart, LockStep, LockView};
-
-#[cfg(test)]
-mod fake_book;
-#[cfg(test)]
-mod tests;

@@ -10,8 +10,6 @@ mod run;
 mod scopes;
 mod sinks;
 mod tags;
-#[cfg(test)]
-mod tests;
 
 pub use boot::{read, usual};
 pub use boot_values::BootFault;

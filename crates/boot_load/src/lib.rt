@@ -6,8 +6,6 @@ mod fault;
 mod loading;
 mod reading;
 mod telling;
-#[cfg(test)]
-mod tests;
 
 pub use fault::LoadFault;
 pub use loading::{Boot, load};

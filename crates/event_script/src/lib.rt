@@ -11,8 +11,6 @@ mod lines;
 mod numbers;
 mod parts;
 mod step;
-#[cfg(test)]
-mod tests;
 mod words;
 mod writing;
 

@@ -7,9 +7,6 @@ ghost use base.Stored.{coded_list};
 
 use std::marker::{Model, PhantomData};
 
-#[cfg(test)]
-mod tests;
-
 /// Values, oldest first. The list takes no memory, and its calls do nothing when they run.
 ///
 /// The items are ghost data, which nothing that runs can read. A clause on them alone says nothing of what ran: what

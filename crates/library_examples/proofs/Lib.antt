@@ -3,4 +3,4 @@ mod StoreShown
 mod LinesRead
 mod LinesFlushed
 mod InTurn
-mod Counted
+pub mod Counted

@@ -1,12 +1,12 @@
 //! Stores that count.
-ghost use Rattle.std.specs.Prelude.{◌≡◌, ◌≤◌, ◌<◌, ◌+◌, ◌*◌, IfOk, length};
+ghost use Rattle.std.specs.Prelude.{◌≡◌, ◌≤◌, ◌<◌, ◌+◌, ◌*◌, IfOk, OnOk, length};
 ghost use Rattle.stat_defs.specs.Configs.{IsConfig};
 ghost use Rattle.stat_defs.specs.Events.{IsLawfulEvent};
 ghost use Rattle.event_script.specs.declared.limits.TheConstants as file;
 ghost use Rattle.flush_view.specs.Showing.{IsShowable};
 ghost use Rattle.lone_worker.specs.declared.worker.TheConstants as worker;
 ghost use Rattle.plain_store.specs.Store.{new_store};
-ghost use Rattle.library_examples.specs.Counting.{CountsTwice, CountsLines, CountsInTurn};
+ghost use Rattle.library_examples.specs.Counting.{CountsTwice, CountsLines, CountsInTurn, Stays};
 
 use crate::flushing::flush_often;
 use crate::reading::{apply_lines, flush_in_turn};
@@ -53,7 +53,9 @@ pub fn count_twice(alloc: Global, config: &Config, event: &Event) -> Result<Flus
     ensures { IfOk result (λ flush. CountsTwice (new_store config.now) event.now flush) }
 {
     let mut store = store_of(alloc, config)?;
-    Ok(apply_twice(alloc, &mut store, event)?)
+    let flush = apply_twice(alloc, &mut store, event);
+    drop(store);
+    Ok(flush?)
 }
 
 /// Applies the events of a source's lines to a new store, and finishes it: the report of its one flush. It has no
@@ -68,8 +70,13 @@ pub fn count_lines<S: Source + Drop>(
     ensures showable { IfOk result (λ report. IsShowable config.now report) }
 {
     let mut store = store_of(alloc, config)?;
-    apply_lines(alloc, source, &mut store)?;
-    Ok(finish_report(alloc, store, Vec::new(alloc))?)
+    match apply_lines(alloc, source, &mut store) {
+        Ok(_lines) => Ok(finish_report(alloc, store, Vec::new(alloc))?),
+        Err(fault) => {
+            drop(store);
+            Err(TagFault::from(fault))
+        }
+    }
 }
 
 /// Applies the events of each source's lines in turn to a new store, flushes behind each source, and finishes the
@@ -87,8 +94,32 @@ pub fn count_in_turn<S: Source + Drop>(
 {
     let mut store = store_of(alloc, config)?;
     let mut flushes = Vec::new(alloc);
-    flush_in_turn(alloc, sources, &mut store, &mut flushes)?;
-    Ok(finish_report(alloc, store, flushes)?)
+    match flush_in_turn(alloc, sources, &mut store, &mut flushes) {
+        Ok(()) => Ok(finish_report(alloc, store, flushes)?),
+        Err(fault) => {
+            drop(store);
+            Err(TagFault::from(fault))
+        }
+    }
+}
+
+// Applies the events of a source's lines, and flushes so many times.
+fn flush_after_lines<S: Source + Drop>(
+    alloc: Global,
+    source: S,
+    store: &mut PlainStore,
+    flushes: u32,
+    records: &mut Vec<FlushRecord>,
+) -> Result<(), NoMemory>
+    requires room { length store.old.worker.events + file.MAX_EVENTS ≤ worker.MAX_EVENTS }
+    requires flushes { records.old.items ≡ store.old.flushes }
+    ensures flushes { OnOk result (records.new.items ≡ store.new.flushes) }
+    ensures kept { OnOk result (Stays store.old store.new) }
+    ensures more { OnOk result (length records.new.items ≡ length records.old.items + flushes) }
+{
+    apply_lines(alloc, source, store)?;
+    flush_often(alloc, store, flushes, records)?;
+    Ok(())
 }
 
 /// Applies the events of a source's lines to a new store, flushes so many times with nothing new in between, and
@@ -104,8 +135,12 @@ pub fn count_often<S: Source + Drop>(
     ensures flushes { IfOk result (λ report. length report.flushes ≡ flushes + 1) }
 {
     let mut store = store_of(alloc, config)?;
-    apply_lines(alloc, source, &mut store)?;
     let mut records = Vec::new(alloc);
-    flush_often(alloc, &mut store, flushes, &mut records)?;
-    Ok(finish_report(alloc, store, records)?)
+    match flush_after_lines(alloc, source, &mut store, flushes, &mut records) {
+        Ok(()) => Ok(finish_report(alloc, store, records)?),
+        Err(fault) => {
+            drop(store);
+            Err(TagFault::from(fault))
+        }
+    }
 }

@@ -6,8 +6,6 @@ mod flushing;
 mod laws;
 mod reading;
 mod showing;
-#[cfg(test)]
-mod tests;
 
 pub use counting::{count_in_turn, count_lines, count_often, count_twice, store_of};
 pub use flushing::flush_often;

@@ -7,6 +7,3 @@
 mod releasing;
 
 pub use releasing::release_under;
-
-#[cfg(test)]
-mod tests;

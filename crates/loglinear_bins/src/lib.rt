@@ -6,8 +6,6 @@ mod digits;
 mod laws;
 mod measures;
 mod place;
-#[cfg(test)]
-mod tests;
 
 pub use bins::Bins;
 pub use digits::bin_of;

@@ -7,8 +7,6 @@ mod listing;
 mod parents;
 mod slots;
 mod tables;
-#[cfg(test)]
-mod tests;
 mod workers;
 
 pub use half::{Half, MAX_HALF_COUNT};

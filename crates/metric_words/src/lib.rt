@@ -30,8 +30,3 @@ pub use laws::{
 pub use limits::{MAX_SIZE, MAX_UNITS, MAX_WORKERS};
 pub use seats::{FlushSeat, ReadSeat, WordSeats, WorkerSeat};
 pub use view::{BankKey, CountKind, CountPart, CountStep, CountView, SeatRole};
-
-#[cfg(test)]
-mod gauge_tests;
-#[cfg(test)]
-mod tests;

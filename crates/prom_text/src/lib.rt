@@ -12,8 +12,6 @@ mod labels;
 mod laws;
 mod lines;
 mod rows;
-#[cfg(test)]
-mod tests;
 
 pub use laws::{groups_law, text_law};
 use lines::{put_row, put_type};

@@ -4,8 +4,6 @@
 mod laws;
 mod reading;
 mod replaying;
-#[cfg(test)]
-mod tests;
 
 pub use laws::each_unopened_file_has_its_fault;
 pub use replaying::{MAX_FILES, replay_files};

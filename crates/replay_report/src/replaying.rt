@@ -53,7 +53,14 @@ pub fn replay_files<F: Shelf>(
         shelf.old shelf.new) }
 {
     let mut store = PlainStore::with_key(alloc, key, config, rules, matcher)?;
-    let runs = read_files(alloc, shelf, names, &mut store)?;
-    let given = store.finish(alloc)?;
-    report_of(alloc, runs, given)
+    match read_files(alloc, shelf, names, &mut store) {
+        Ok(runs) => {
+            let given = store.finish(alloc)?;
+            report_of(alloc, runs, given)
+        }
+        Err(fault) => {
+            drop(store);
+            Err(fault)
+        }
+    }
 }

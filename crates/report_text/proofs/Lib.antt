@@ -3,5 +3,3 @@ mod Shown
 mod FlushTexts
 mod Told
 mod WholeText
-mod TriedReport
-mod Tried

@@ -1,3 +1,2 @@
 pub mod ReportText
 pub mod Parts
-pub mod Tried

@@ -5,8 +5,6 @@ mod options;
 mod readings;
 mod sections;
 mod symbols;
-#[cfg(test)]
-mod tests;
 mod workers;
 mod writing;
 

@@ -7,7 +7,4 @@ mod Deciding
 mod Making
 mod Freeing
 mod SweptNames
-mod Freedom
-mod Ranks
-mod TriedConfig
 pub mod CallerLemmas

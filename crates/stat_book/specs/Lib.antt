@@ -4,5 +4,3 @@ pub mod Symbols
 pub mod Finds
 pub mod Sweeps
 pub mod BookKept
-pub mod Free
-pub mod Tried

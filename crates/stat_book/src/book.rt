@@ -1,6 +1,6 @@
 //! The book: its state is the replay of its log.
 ghost use Rattle.std.specs.Prelude.{◌≡◌, ℕ, ◌≤◌, ◌<◌, ◌++◌, ◌∷◌, [], true, false, None, length, drop, All, IfOk, OnOk};
-ghost use Rattle.std.specs.Prelude.{OnErr, slice_get};
+ghost use Rattle.std.specs.Prelude.{OnErr, slice_get, nat_lt};
 ghost use Rattle.std.specs.Option.{IsSomeAnd};
 ghost use Rattle.stat_defs.specs.Names.{IsScopePrefix};
 ghost use Rattle.stat_defs.specs.Configs.{IsConfig};
@@ -192,6 +192,14 @@ impl Book {
         let tag = self.newest_tag();
         self.append(alloc, seat, Call::Ack, Reply::Acked(tag))?;
         Ok(Acked { tag, scopes })
+    }
+
+    /// Says whether there are releases that the seat has not acknowledged.
+    pub fn is_due(&self, seat: u32) -> bool
+        requires { Works (state_of self.now) seat }
+        ensures { result ≡ nat_lt (tag_of (state_of self.now) seat) (state_of self.now).releases }
+    {
+        self.state.tag(seat) < self.newest_tag()
     }
 
     /// Ends a seat, which then holds nothing.

@@ -8,6 +8,3 @@ mod sweeps;
 
 pub use book::Book;
 pub use laws::thread_law;
-
-#[cfg(test)]
-mod tests;

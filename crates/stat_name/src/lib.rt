@@ -8,6 +8,3 @@ pub use names::{MAX_NUMBERS, StatName, stored_names_differ_at_once, written_name
 pub use numbers::{
     put_number, spellings_differ_at_once, take_number, written_numbers_are_read_again,
 };
-
-#[cfg(test)]
-mod tests;

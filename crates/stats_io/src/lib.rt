@@ -10,8 +10,6 @@ mod pulling;
 mod shelf;
 mod sink;
 mod source;
-#[cfg(test)]
-mod tests;
 
 pub use adapters::{FileSource, FolderShelf, StdSink};
 pub use file::MemFile;

@@ -8,8 +8,6 @@ ghost use Rattle.statsd_text.specs.Statsd.{gauge_lines, statsd_text};
 ghost use Rattle.statsd_text.specs.Parts.{shown_counter};
 
 mod lines;
-#[cfg(test)]
-mod tests;
 
 use lines::{put_counter, put_gauge};
 use stat_defs::{CounterRow, FlushView, GaugeRow, Txt};

@@ -7,6 +7,3 @@ mod table;
 
 pub use laws::texts_stay;
 pub use table::{MAX_USES, SymbolTable};
-
-#[cfg(test)]
-mod tests;

@@ -14,8 +14,6 @@ mod pat;
 mod regex_maker;
 mod safe_regex;
 mod tag_rules;
-#[cfg(test)]
-mod tests;
 mod text;
 
 pub use buckets::Buckets;

@@ -7,8 +7,6 @@ mod fault;
 mod listed;
 mod measures;
 mod numbers;
-#[cfg(test)]
-mod tests;
 
 pub use buffer::{PUSH_BYTES, push_full};
 pub use fault::TextFault;

@@ -12,8 +12,6 @@ mod laws;
 mod query;
 mod scopes;
 mod table;
-#[cfg(test)]
-mod tests;
 mod texts;
 
 pub use cache::Cache;

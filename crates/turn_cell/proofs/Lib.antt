@@ -1,4 +1,4 @@
 mod Fits
-mod Seats
+pub mod Seats
 mod Keeps
 mod Ends

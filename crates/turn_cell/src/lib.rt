@@ -7,8 +7,6 @@ mod flusher;
 mod limits;
 mod making;
 mod plays;
-#[cfg(test)]
-mod tests;
 mod tokens;
 mod view;
 mod worker;

@@ -14,10 +14,10 @@ flush_in_turn-requires-clause-flushes g c =
     no_records c.args.config.now c.in_ok-store.store c.in_ok-store.ensures _ c.in_ok-store.store
     c.new-flushes.ensures.items refl
 
-pub returns : goal.returns
-returns g c =
-    let turns = c.in_ok-flush_in_turn.ensures in
-    let reported = c.in_ok-finish_report.ensures in
+pub returns-in_ok-finish_report-in-Ok : goal.returns-in_ok-finish_report-in-Ok
+returns-in_ok-finish_report-in-Ok g c =
+    let turns = c.in-Ok.ensures in
+    let reported = c.in_ok-finish_report-in-Ok.ensures in
     record {
       counted = record {
         store = c.flush_in_turn.new.store;
@@ -26,8 +26,8 @@ returns g c =
         reported = reported;
       };
       showable = showable_after c.args.config.now c.in_ok-store.store c.in_ok-store.ensures c.flush_in_turn.new.store
-          c.in_ok-finish_report.field-0 reported c.requires.config turns.kept;
+          c.in_ok-finish_report-in-Ok.field-0 reported c.requires.config turns.kept;
       flushes = records_and_last c.args.config.now c.in_ok-store.store c.in_ok-store.ensures
-          c.flush_in_turn.new.store c.in_ok-finish_report.field-0 reported c.flush_in_turn.new.flushes.items _ _
+          c.flush_in_turn.new.store c.in_ok-finish_report-in-Ok.field-0 reported c.flush_in_turn.new.flushes.items _ _
           turns.flushes turns.more (ap (λ (fs : List FlushRecord). length fs) c.new-flushes.ensures.items);
     }

@@ -10,21 +10,21 @@ apply_lines-requires g c = room_for_lines c.args.config.now c.in_ok-store.store 
 pub finish_report-requires : goal.finish_report-requires
 finish_report-requires g c =
     no_records c.args.config.now c.in_ok-store.store c.in_ok-store.ensures _ c.apply_lines.new.store c.new.ensures.items
-    c.in_ok-apply_lines.ensures.flushes
+    c.in-Ok.ensures.flushes
 
-pub returns-clause-showable : goal.returns-clause-showable
-returns-clause-showable g c =
+pub returns-in_ok-finish_report-in-Ok-clause-showable : goal.returns-in_ok-finish_report-in-Ok-clause-showable
+returns-in_ok-finish_report-in-Ok-clause-showable g c =
     showable_after c.args.config.now c.in_ok-store.store c.in_ok-store.ensures c.apply_lines.new.store
-    c.in_ok-finish_report.field-0 c.in_ok-finish_report.ensures c.requires c.in_ok-apply_lines.ensures.kept
+    c.in_ok-finish_report-in-Ok.field-0 c.in_ok-finish_report-in-Ok.ensures c.requires c.in-Ok.ensures.kept
 
-pub returns-clause-counted : goal.returns-clause-counted
-returns-clause-counted g c =
-    let lines = c.in_ok-apply_lines.ensures in
+pub returns-in_ok-finish_report-in-Ok-clause-counted : goal.returns-in_ok-finish_report-in-Ok-clause-counted
+returns-in_ok-finish_report-in-Ok-clause-counted g c =
+    let lines = c.in-Ok.ensures in
     record {
       store = c.apply_lines.new.store;
-      verdicts = c.in_ok-apply_lines.field-0.verdicts.items;
-      end = c.in_ok-apply_lines.field-0.end;
+      verdicts = c.in-Ok._lines.verdicts.items;
+      end = c.in-Ok._lines.end;
       read = subst (λ (s : StoreHistory). AreLinesApplied g.S.Source.state c.args.source s c.apply_lines.new.store
-          c.in_ok-apply_lines.field-0.verdicts.items c.in_ok-apply_lines.field-0.end) c.in_ok-store.ensures lines.applied;
-      reported = c.in_ok-finish_report.ensures;
+          c.in-Ok._lines.verdicts.items c.in-Ok._lines.end) c.in_ok-store.ensures lines.applied;
+      reported = c.in_ok-finish_report-in-Ok.ensures;
     }

@@ -4,10 +4,10 @@ use Rattle.library_examples.specs.Counting.{CountsTwice}
 use Rattle.library_examples.proofs.Counted.{room_for_two}
 use Rattle.library_examples.proofs.counting.count_twice.Goals as goal
 
-pub apply_twice-requires-clause-few : goal.apply_twice-requires-clause-few
-apply_twice-requires-clause-few c = room_for_two c.args.config.now c.in_ok-store.store c.in_ok-store.ensures
+pub apply_twice-flush-requires-clause-few : goal.apply_twice-flush-requires-clause-few
+apply_twice-flush-requires-clause-few c = room_for_two c.args.config.now c.in_ok-store.store c.in_ok-store.ensures
 
 pub returns : goal.returns
 returns c =
-    subst (λ (s : StoreHistory). CountsTwice s c.args.event.now c.in_ok-apply_twice.field-0)
-    c.in_ok-store.ensures c.in_ok-apply_twice.ensures
+    subst (λ (s : StoreHistory). CountsTwice s c.args.event.now c.in_ok-flush.field-0)
+    c.in_ok-store.ensures c.in_ok-flush.ensures

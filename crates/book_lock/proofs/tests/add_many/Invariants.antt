@@ -1,6 +1,0 @@
-use Rattle.std.proofs.Common.{◌≡◌}
-use Rattle.book_lock.specs.Seats.{lock_id, seat_number, AtRest}
-use Rattle.book_lock.proofs.tests.add_many.Given as goal
-
-abbrev pub invariant-loop-count : goal.invariant-loop-count
-invariant-loop-count g l = AtRest (lock_id l.fn.lock) l.seat × (seat_number l.seat ≡ l.fn.number)

@@ -1,0 +1,3 @@
+mod Fours
+mod Weightless
+mod Pushes

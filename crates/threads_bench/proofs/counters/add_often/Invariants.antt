@@ -1,0 +1,7 @@
+use Rattle.std.proofs.Common.{◌≡◌, ◌≤◌}
+use Rattle.metric_words.specs.Counters.{firsts}
+use Rattle.metric_words.specs.Seats.{bank_id, worker_bank, worker_steps}
+use Rattle.threads_bench.proofs.counters.add_often.Given as goal
+
+abbrev pub invariant-loop : goal.invariant-loop
+invariant-loop l = (worker_bank l.seat ≡ bank_id l.bank) × (firsts l.id.0 (worker_steps l.seat) ≤ l.counter)

@@ -1,0 +1,38 @@
+//! The smallest book with a log: each of its words is the number of the seat that pushed it.
+ghost use Rattle.std.specs.Prelude.{◌≡◌, ◌++◌, ◌∷◌, [], MatchResult};
+
+use stat_defs::{Booked, NoMemory};
+use std::alloc::Global;
+
+#[derive(Drop)]
+pub struct Tally {
+    pub words: Vec<u64>,
+}
+
+impl Booked for Tally {
+    ghost use Rattle.threads_bench.specs.Tallies.{history_of};
+
+    ghost history = { λ tally. history_of tally.words.items };
+
+    fn releases(&self) -> u64 {
+        0
+    }
+}
+
+impl Tally {
+    pub fn new(alloc: Global) -> Tally
+        ensures { result.words.items ≡ [] }
+    {
+        Tally {
+            words: Vec::new(alloc),
+        }
+    }
+
+    pub fn push(&mut self, number: u32) -> Result<(), NoMemory>
+        ensures { MatchResult result (λ _. self.new.words.items ≡ self.old.words.items ++ number ∷ [])
+            (λ _. self.new.words.items ≡ self.old.words.items) }
+    {
+        self.words.push(u64::from(number))?;
+        Ok(())
+    }
+}

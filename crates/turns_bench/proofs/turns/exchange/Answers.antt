@@ -1,7 +1,0 @@
-use Rattle.std.proofs.Common.{arith}
-use Rattle.turn_cell.specs.Tokens.{worker_known}
-use Rattle.turns_bench.proofs.Weightless.{weightless}
-use Rattle.turns_bench.proofs.turns.exchange.Goals as goal
-
-pub turn-mine-requires-clause-weights : goal.turn-mine-requires-clause-weights
-turn-mine-requires-clause-weights g = let z = weightless (worker_known g.asked.new.w) in omega (arith, z)

@@ -1,6 +1,0 @@
-use Rattle.std.proofs.Common.{◌≡◌}
-use Rattle.metric_words.specs.GaugeLedger.{gauges_id, gauge_bank}
-use Rattle.words_bench.proofs.gauges.set_often.Given as goal
-
-abbrev pub invariant-loop : goal.invariant-loop
-invariant-loop l = gauge_bank l.seat ≡ gauges_id l.bank
