@@ -1,4 +1,4 @@
-ghost use Rattle.std.specs.Prelude.{IfOk, OnOk, All};
+ghost use Rattle.std.specs.Prelude.{IfOk};
 ghost use Rattle.tag_rules.specs.Admission.{IsReadable};
 ghost use Rattle.tag_rules.specs.Tagging.{IsReadableRule};
 
@@ -166,37 +166,30 @@ fn bounds_of(alloc: Global, buckets: &Buckets, name: &str) -> Result<(usize, u64
     Ok((bounds.len(), bounds.first().map_or(0, |bound| bound.halves)))
 }
 
-// The default rules, one a line: a tag and its pattern.
-const DEFAULT_RULES: &str = r"envoy.response_code _rq(_(\d{3}))$
-envoy.response_code_class _rq_(\d)xx$
-envoy.cluster_name ^cluster\.((.*?)\.)
-envoy.http_conn_manager_prefix ^http\.((.*?)\.)";
-
-fn add_rule(specs: &mut Vec<TagSpec>, spec: TagSpec) -> Result<(), Fail>
-    requires all { All IsReadableRule specs.old.items }
-    requires one { IsReadableRule spec }
-    ensures { OnOk result (All IsReadableRule specs.new.items) }
-{
-    specs.push(spec)?;
-    Ok(())
-}
-
-fn default_specs(alloc: Global) -> Result<Vec<TagSpec>, Fail>
-    ensures { IfOk result (λ specs. All IsReadableRule specs.items) }
-{
-    let mut specs = Vec::new(alloc);
-    for row in DEFAULT_RULES.split('\n') {
-        let (tag_name, text) = row.split_once(' ').unwrap_or(("", ""));
-        let spec = rule(alloc, Way::Regex, tag_name, text)?;
-        add_rule(&mut specs, spec)?;
-    }
-    Ok(specs)
-}
-
 #[test]
 fn default_rules(rt: HostRuntime) -> Result<(), Fail> {
     let alloc = rt.alloc();
-    let specs = default_specs(alloc)?;
+    let specs = [
+        rule(alloc, Way::Regex, "envoy.response_code", r"_rq(_(\d{3}))$")?,
+        rule(
+            alloc,
+            Way::Regex,
+            "envoy.response_code_class",
+            r"_rq_(\d)xx$",
+        )?,
+        rule(
+            alloc,
+            Way::Regex,
+            "envoy.cluster_name",
+            r"^cluster\.((.*?)\.)",
+        )?,
+        rule(
+            alloc,
+            Way::Regex,
+            "envoy.http_conn_manager_prefix",
+            r"^http\.((.*?)\.)",
+        )?,
+    ];
     let mut maker = RegexMaker::new(Vec::new(alloc));
     let rules = TagRules::build(alloc, &mut maker, &specs)?;
     for row in SPLITS.split('\n') {
