@@ -1,4 +1,5 @@
 pub mod Lists
+pub mod Members
 pub mod Sums
 pub mod Words
 pub mod Pieces
@@ -17,3 +18,5 @@ pub mod Names
 pub mod WorkLists
 pub mod Sweeps
 pub mod OneWorker
+pub mod TellingEntries
+pub mod ScopeEntries

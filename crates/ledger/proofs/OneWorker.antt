@@ -13,13 +13,9 @@ use Rattle.ledger.specs.Segments.{segments, left_over, taken_now}
 use Rattle.ledger.specs.Flushes.{Fits, FitSoFar, FitAll, flushed, ids_made}
 use Rattle.ledger.specs.Ledger.{RunPlan, Account}
 use Rattle.ledger.proofs.FlushesFit.{all_last}
+use Rattle.ledger.proofs.Members.{of_last}
 use Rattle.ledger.proofs.Pieces.{segments_whole}
 use Rattle.ledger.proofs.Words.{one_worker}
-
-last_push : {X : Type 0} (P : X → Type 0) (xs : List X) (x : X) → P x → OfLast P (xs ++ x ∷ [])
-last_push P [] x p = p
-last_push P (y ∷ []) x p = p
-last_push P (y ∷ (z ∷ xs)) x p = last_push P (z ∷ xs) x p
 
 all_segments : (work : Work) (flushes : List FlushRecord) → left_over 1 work flushes ≡ [] → flat_map (λ segment. segment) (segments 1 work flushes) ≡ recordings work
 all_segments work flushes none =
@@ -43,5 +39,5 @@ accounts plan work flushes last report are each fits units none words = record {
   units = units;
   values = (all_segments work report.flushes none, tt);
   words = subst (λ (l : List FlushRecord). OfLast (λ f. AllByRecursion (λ reading. GaugeFits reading.id.0 reading.word (work ∷ [])) f.gauges) l) (sym are)
-      (last_push (λ f. AllByRecursion (λ reading. GaugeFits reading.id.0 reading.word (work ∷ [])) f.gauges) flushes last (words_fit work last.gauges words));
+      (of_last (λ f. AllByRecursion (λ reading. GaugeFits reading.id.0 reading.word (work ∷ [])) f.gauges) flushes last (words_fit work last.gauges words));
 }

@@ -6,5 +6,6 @@ pub mod Flushes
 pub mod Readings
 pub mod Ledger
 pub mod OneReport
+pub mod Once
 pub mod Laws
 pub mod Worked

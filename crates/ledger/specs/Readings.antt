@@ -1,21 +1,13 @@
 -- What one reading of a report shows. This project's own.
-use Rattle.std.specs.Prelude.{◌≡◌, ◌≤◌, ℕ, ◌==◌, if◌then◌else◌, List, length, map, take, sum_by}
+use Rattle.std.specs.Prelude.{◌≡◌, ◌≤◌, List, length, map, take}
 use Rattle.std.specs.List.{AllByRecursion}
 use Rattle.stat_defs.specs.declared.ids.Kind.TheVariants.{Counter, Gauge}
 use Rattle.stat_defs.specs.declared.history.Entry.{Entry}
-use Rattle.stat_defs.specs.declared.reports.Reading.{Reading}
 use Rattle.stat_defs.specs.declared.reports.ReadRecord.{ReadRecord}
 use Rattle.book_state.specs.State.{NameRules}
 use Rattle.book_state.specs.Log.{replay}
 use Rattle.ledger.specs.Work.{Work, units_of}
 use Rattle.ledger.specs.Flushes.{ids_not_gone, id_of_reading}
-
-abbrev pub word_on : ℕ → Reading → ℕ
-word_on id reading = if reading.id.0 == id then reading.word else 0
-
--- the value of a counter in a reading, which is 0 where it has none
-abbrev pub value_in : ReadRecord → ℕ → ℕ
-value_in read id = sum_by (word_on id) read.counters
 
 -- a reading whose names are those of the first entries of this log
 pub record ReadingFits (rules : NameRules) (log : List Entry) (workers : List Work) (read : ReadRecord) : Type 0 where
@@ -28,6 +20,7 @@ pub record ReadingFits (rules : NameRules) (log : List Entry) (workers : List Wo
   -- no counter is above its units
   pub at_most : AllByRecursion (λ reading. reading.word ≤ units_of reading.id.0 workers) read.counters
 
--- no counter is below its value in an earlier reading
+-- no counter has less than in an earlier reading that has it too
 abbrev pub NoneFalls : ReadRecord → ReadRecord → Type 0
-NoneFalls earlier later = AllByRecursion (λ reading. value_in earlier reading.id.0 ≤ reading.word) later.counters
+NoneFalls earlier later = AllByRecursion (λ before.
+    AllByRecursion (λ now. before.id.0 ≡ now.id.0 → before.word ≤ now.word) later.counters) earlier.counters

@@ -1,6 +1,7 @@
 //! Laws of ledgers, which hold without any call. Each function does nothing.
 ghost use Rattle.ledger.specs.OneReport.{OneReply, OneWay, OneReport, OneDirect};
 ghost use Rattle.ledger.specs.Laws.{WorkGrows, UnitsGrow, WordsGrow, SegmentsGrow, FitsGrow, FlushAtSweep, PartsTake};
+ghost use Rattle.ledger.specs.Once.{LedgersHaveScopesOnce};
 ghost use Rattle.ledger.specs.Laws.{OneWorkerAccounts, NamesShown, FollowsFromOpenings};
 
 /// A law: the work of a file grows by one event with its verdict, and that of a replay by one file.
@@ -82,4 +83,10 @@ pub fn one_report()
 /// replay, but for the counts of faults in the ends of the files.
 pub fn one_direct()
     ensures { OneDirect }
+{}
+
+/// A law: over all verdicts of the report of a run, each scope was opened once at most, and released once at
+/// most.
+pub fn scopes_once()
+    ensures { LedgersHaveScopesOnce }
 {}

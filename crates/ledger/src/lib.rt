@@ -7,7 +7,7 @@ mod worked;
 
 pub use laws::{
     fits_grow, flush_at_sweep, follows_from_openings, names_shown, one_direct, one_reply,
-    one_report, one_way, one_worker_accounts, parts_take, segments_grow, units_grow, words_grow,
+    one_report, one_way, one_worker_accounts, parts_take, scopes_once, segments_grow, units_grow, words_grow,
     work_grows,
 };
 pub use worked::{
