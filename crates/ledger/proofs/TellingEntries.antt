@@ -1,6 +1,6 @@
 -- What all workers' verdicts tell stands in the log, each time for one entry.
 use Rattle.std.proofs.Common.{◌≡◌, ◌==◌, ◌&&◌, ◌+◌, ◌≤◌, nat_le, ℕ, zero, suc, cond, Bool, true, false, Option, None, Some, List, [], ◌∷◌, ◌++◌, slice_get, refl, ap, sym, ◌∙◌, subst, arith, inl, inr, ◌⊎◌}
-use Rattle.std.specs.Prelude.{count_by, option_map, filter}
+use Rattle.std.specs.Prelude.{count_by, option_map}
 use Rattle.std.specs.Option.{option_map_or}
 use Rattle.std.specs.List.{AllByRecursion, flat_map}
 use Rattle.std.proofs.lemmas.Bool.{le-leb, lt-leb, leb-true}
@@ -19,7 +19,7 @@ use Rattle.stat_defs.specs.declared.history.Verdict.TheVariants as verdict
 use Rattle.stat_defs.specs.Keys.{Held, held_under, same_key}
 use Rattle.book_state.specs.State.{NameRules, Seat, State, held_in}
 use Rattle.book_state.specs.Finding.{scope_of}
-use Rattle.book_state.specs.Step.{effect, change_at, on_seat, on_metric, hold, acknowledged, ended, is_live, found as found_row, made as made_row}
+use Rattle.book_state.specs.Step.{effect, on_seat, on_metric, hold, acknowledged, ended, is_live, found as found_row, made as made_row}
 use Rattle.book_state.specs.Log.{empty}
 use Rattle.book_state.specs.Follows.{Own, own, verdict_of, held_verdict, MakesOne, Finds, Makes, MakesAcked, Applied, IsChain, verdicts_of, entries_of, state_after, after_all, AreOfEvents, Follows}
 use Rattle.book_state.proofs.Lists.{some_same, not_some, true_false}

@@ -20,7 +20,7 @@ pub record ReadingFits (rules : NameRules) (log : List Entry) (workers : List Wo
   -- no counter is above its units
   pub at_most : AllByRecursion (λ reading. reading.word ≤ units_of reading.id.0 workers) read.counters
 
--- no counter has less than in an earlier reading that has it too
+-- no counter has less than an earlier reading has of it
 abbrev pub NoneFalls : ReadRecord → ReadRecord → Type 0
-NoneFalls earlier later = AllByRecursion (λ before.
-    AllByRecursion (λ now. before.id.0 ≡ now.id.0 → before.word ≤ now.word) later.counters) earlier.counters
+NoneFalls earlier later = AllByRecursion (λ now.
+    AllByRecursion (λ before. before.id.0 ≡ now.id.0 → before.word ≤ now.word) earlier.counters) later.counters

@@ -1,0 +1,11 @@
+pub mod Metrics
+pub mod GaugeWords
+pub mod Halves
+pub mod Flushes
+pub mod Counts
+pub mod Words
+pub mod History
+pub mod Readings
+pub mod Accounts
+pub mod Grows
+pub mod Ends
