@@ -153,7 +153,7 @@ pub gauge_legal : Legal plain root_alone 1 gauge_log
 gauge_legal = legal_log 1 _ refl ((inl refl, refl, refl), (((refl, refl), (refl, drawn_all [] (codes "g" ∷ []) (1 ∷ []) refl)), ((refl, tt), ((refl, refl), tt))))
 
 -- the bin of 7 has it alone
-bins_of_7 : ◌≡◌ {A = List BinCount} (bins_of (7 ∷ [])) part_of_7.bins
+pub bins_of_7 : ◌≡◌ {A = List BinCount} (bins_of (7 ∷ [])) part_of_7.bins
 unfolding bin_of_value
 bins_of_7 = refl
 
