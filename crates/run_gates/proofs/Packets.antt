@@ -1,5 +1,5 @@
 -- What a worker has added by packets.
-use Rattle.std.proofs.Common.{◌≡◌, ◌≢◌, bit_and, ◌+◌, ◌*◌, ◌<◌, ◌≤◌, ◌%◌, ◌-◌, ◌==◌, ◌^◌, ℕ, zero, suc, cond, Bool, refl, ap, sym, ◌∙◌, arith, inl, inr, eqb, eq-eqb, ne_eqb}
+use Rattle.std.proofs.Common.{◌≡◌, ◌≢◌, bit_and, ◌+◌, ◌*◌, ◌<◌, ◌≤◌, ◌%◌, ◌-◌, ◌==◌, ◌^◌, ℕ, zero, suc, cond, Bool, refl, ap, sym, ◌∙◌, arith, inl, inr, eq-eqb, ne_eqb}
 use Rattle.std.proofs.lemmas.Bool.Decides.{eqb_tells}
 use Rattle.std.proofs.lemmas.Nat.{and_mask, mod-mul-add, pow_pos}
 use Rattle.std.proofs.Math.Nat.{suc-mul, zero-mul}

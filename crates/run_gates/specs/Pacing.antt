@@ -1,5 +1,5 @@
 -- How workers count their events together, which pace the rounds of a run. This project's own.
-use Rattle.std.specs.Prelude.{◌≡◌, ℕ, zero, suc, ◌+◌, ◌-◌, ◌*◌, ◌^◌, ◌%◌, ◌<◌, ◌≤◌, ◌==◌, if◌then◌else◌, max}
+use Rattle.std.specs.Prelude.{ℕ, zero, suc, ◌+◌, ◌*◌, ◌^◌, ◌%◌, ◌<◌, ◌≤◌, ◌==◌, if◌then◌else◌, max}
 
 -- packets of 2 to this power events, one of each worker, are at most the events of a round, or one event of each
 abbrev pub IsShared : ℕ → ℕ → ℕ → Type 0

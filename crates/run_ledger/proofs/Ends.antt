@@ -15,7 +15,6 @@ use Rattle.ledger.proofs.Members.{all_as, all_pushed}
 use Rattle.run_ledger.specs.Accounts.{IsLatched}
 use Rattle.run_ledger.specs.Ends.{RunEnds}
 
-
 still : (seats : List CountPart) (steps : List CountStep) (id other : MetricId) (units : ℕ) → IsLatched seats (step_of count.Latch id.0 0 units ∷ steps) id → IsLatched seats steps other
     → IsLatched seats (step_of count.Latch id.0 0 units ∷ steps) other
 still seats steps id other units now before = elim (eqb_tells id.0 other.0) [

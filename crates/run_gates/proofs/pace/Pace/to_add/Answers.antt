@@ -1,4 +1,4 @@
-use Rattle.std.proofs.Common.{◌≤◌, sym, ◌∙◌, arith}
+use Rattle.std.proofs.Common.{sym, ◌∙◌}
 use Rattle.run_gates.proofs.Packets.{added-first, added-later}
 use Rattle.run_gates.proofs.pace.Pace.to_add.Goals as goal
 
