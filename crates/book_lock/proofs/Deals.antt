@@ -10,10 +10,11 @@ use Rattle.seat_parts.proofs.Cuts.{split-total, split-all, join-total, join-all}
 use Rattle.stat_defs.specs.Books.{BookHistory, releases_in}
 use Rattle.book_lock.specs.declared.view.LockPart.{LockPart}
 use Rattle.book_lock.specs.declared.lock.LockSeat.{LockSeat}
-use Rattle.book_lock.specs.History.{entries_by, new_part}
+use Rattle.seat_history.specs.History.{entries_by}
+use Rattle.seat_history.proofs.Logs.{goes-on-not, past-none}
+use Rattle.book_lock.specs.History.{new_part}
 use Rattle.book_lock.specs.Locked.{View, Sat, bit, numbered, holding, FitsLock, Locked, new_parts, lock_view, own_part}
 use Rattle.book_lock.specs.Seats.{seat_part}
-use Rattle.book_lock.proofs.Logs.{goes-on-not, past-none}
 
 module _ (first : BookHistory) where
   none-hold : (k n : ℕ) → total holding (new_parts first k n) ≡ 0

@@ -14,9 +14,10 @@ use Rattle.seat_parts.proofs.Cuts.{step-total, step-beside, own-fits, one-part, 
 use Rattle.stat_defs.specs.declared.history.Entry.{Entry}
 use Rattle.stat_defs.specs.Books.{BookHistory, releases_in}
 use Rattle.book_lock.specs.declared.view.LockPart.{LockPart}
-use Rattle.book_lock.specs.History.{GoesOn, Finds, MayLeave, past, entries_by, with_log, took, missed, published, gave, left, loaded}
+use Rattle.seat_history.specs.History.{GoesOn, Finds, MayLeave, past, entries_by, with_log}
+use Rattle.seat_history.proofs.Logs.{goes-on-not, goes-on-same, goes-on-far, past-goes-on, past-longer, longer-than, by-append, by-own, by-others, releases-rise}
+use Rattle.book_lock.specs.History.{took, missed, published, gave, left, counted}
 use Rattle.book_lock.specs.Locked.{View, Sat, bit, numbered, holding, FitsLock, Locked, blank_part, own_part, Taken, Published, Given, Loaded}
-use Rattle.book_lock.proofs.Logs.{goes-on-not, goes-on-same, goes-on-far, past-goes-on, past-longer, longer-than, by-append, by-own, by-others, releases-rise}
 
 bit-other : (i k : ℕ) → bit (eqb i k) ≡ 0 → i ≢ k
 bit-other i k z e = let o = ap bit (eq-eqb i k e) in omega arith
@@ -60,12 +61,12 @@ module _ {B : Type 0} (history_of : B → BookHistory) (first : BookHistory) (se
   module _ (s : St) (r : L s) where
     -- the seat id, whose part p becomes q, makes a step
     placed : (i y id : ℕ) (p q : LockPart) (c : List (ℕ × Option B)) (a : Act (Option B)) (log : List Entry) → get_elem? s.views id ≡ some (led_by p [])
-        → q.number ≡ p.number → GoesOn (λ e. e.seat < seats) r.log log
+        → q.seat.number ≡ p.seat.number → GoesOn (λ e. e.seat < seats) r.log log
         → get_or (set s.words i y) 0 0 + holding p ≡ get_or s.words 0 0 + holding q → get_or (set s.words i y) 0 0 ≤ 1
         → get_or (set s.words i y) 1 0 ≡ releases_in log
         → length (homes_after s.homes c a) ≡ 1
         → (get_or (set s.words i y) 0 0 ≡ 0 → (book : B) × (get_elem? (homes_after s.homes c a) 0 ≡ some (some (Some book))) × (history_of book ≡ with_log log first))
-        → ((x : LockPart) → F r.log x → x.number ≢ p.number → holding q + holding x ≤ 1 → F log x)
+        → ((x : LockPart) → F r.log x → x.seat.number ≢ p.seat.number → holding q + holding x ≤ 1 → F log x)
         → F log q
         → L (stepped s i y id c (led_by q []) a)
     placed i y id p q c a log at number grows turn small released slots home up fits =
@@ -87,7 +88,7 @@ module _ {B : Type 0} (history_of : B → BookHistory) (first : BookHistory) (se
           numbers = few;
           each = step-beside (F r.log) (F log) s.views id p q [] at
               (λ x fx le. up x fx
-              (bit-other x.number p.number (let a = le (numbered p.number) in let b = few p.number in let o = same p.number in let w = ap bit (eq-eqb p.number p.number refl) in omega arith))
+              (bit-other x.seat.number p.seat.number (let a = le (numbered p.seat.number) in let b = few p.seat.number in let o = same p.seat.number in let w = ap bit (eq-eqb p.seat.number p.seat.number refl) in omega arith))
               (let a = le holding in omega arith)) r.each fits;
         }
 
@@ -103,11 +104,11 @@ module _ {B : Type 0} (history_of : B → BookHistory) (first : BookHistory) (se
         (λ ne. get_or-set_other s.words i k (get_or s.words i 0) 0 ne)
 
     -- what the seat finds that takes the turn
-    finds : (id : ℕ) (p : LockPart) (book : B) → get_elem? s.views id ≡ some (led_by p []) → history_of book ≡ with_log r.log first → Finds p (history_of book)
+    finds : (id : ℕ) (p : LockPart) (book : B) → get_elem? s.views id ≡ some (led_by p []) → history_of book ≡ with_log r.log first → Finds p.seat (history_of book)
     finds id p book at e = let h = (own id p at).history in let m = h.made_with in record {
       config = ap (λ (z : BookHistory). z.config) e ∙ sym (ap (λ (z : BookHistory). z.config) m);
       workers = ap (λ (z : BookHistory). z.workers) e ∙ sym (ap (λ (z : BookHistory). z.workers) m);
-      log = goes-on-same (λ x. x.seat ≢ p.number) p.known r.log (history_of book).log (ap (λ (z : BookHistory). z.log) e) h.known;
+      log = goes-on-same (λ x. x.seat ≢ p.seat.number) p.seat.known r.log (history_of book).log (ap (λ (z : BookHistory). z.log) e) h.known;
       releases = (let n = ap (λ (z : BookHistory). releases_in z.log) e in let t = h.seen in omega arith);
     }
 
@@ -126,7 +127,7 @@ module _ {B : Type 0} (history_of : B → BookHistory) (first : BookHistory) (se
           number = o.number;
           history = record {
             made_with = h.made_with;
-            known = goes-on-same (λ x. x.seat ≢ p.number) log log r.log (sym is) (goes-on-not (λ x. x.seat ≢ p.number) log);
+            known = goes-on-same (λ x. x.seat ≢ p.seat.number) log log r.log (sym is) (goes-on-not (λ x. x.seat ≢ p.seat.number) log);
             made = h.made;
             seen = (let n = ap releases_in is in omega arith);
             fewest = le_refl _;
@@ -135,7 +136,7 @@ module _ {B : Type 0} (history_of : B → BookHistory) (first : BookHistory) (se
         })
 
     -- a step that changes no word, and leaves the seat without the turn or with it
-    same-words : (i id : ℕ) (p q : LockPart) (c : List (ℕ × Option B)) → get_elem? s.views id ≡ some (led_by p []) → i < 2 → q.number ≡ p.number → q.holds ≡ p.holds → F r.log q
+    same-words : (i id : ℕ) (p q : LockPart) (c : List (ℕ × Option B)) → get_elem? s.views id ≡ some (led_by p []) → i < 2 → q.seat.number ≡ p.seat.number → q.holds ≡ p.holds → F r.log q
         → L (stepped s i (get_or s.words i 0) id c (led_by q []) keeps)
     same-words i id p q c at small number holds fits = let x : ℕ = get_or s.words i 0 in let w = same-word i in let t = r.turn in let o = r.one in
         placed i x id p q c keeps r.log at number (goes-on-not (λ e. e.seat < seats) r.log)
@@ -151,31 +152,31 @@ module _ {B : Type 0} (history_of : B → BookHistory) (first : BookHistory) (se
     misses id n p c at = let o = own id p at in let h = o.history in same-words 0 id p (missed n p) c at (omega arith) refl refl
         (record { number = o.number; history = record { made_with = h.made_with; known = h.known; made = h.made; seen = h.seen; fewest = h.fewest }; current = o.current })
 
-    sees : (id : ℕ) (p : LockPart) → get_elem? s.views id ≡ some (led_by p []) → p.seen ≤ get_or s.words 1 0
+    sees : (id : ℕ) (p : LockPart) → get_elem? s.views id ≡ some (led_by p []) → p.seat.seen ≤ get_or s.words 1 0
     sees id p at = let o = (own id p at).history.seen in let e = r.released in omega arith
 
-    loads : (id : ℕ) (p : LockPart) (c : List (ℕ × Option B)) → get_elem? s.views id ≡ some (led_by p []) → L (stepped s 1 (get_or s.words 1 0) id c (led_by (loaded (get_or s.words 1 0) p) []) keeps)
-    loads id p c at = let o = own id p at in let h = o.history in let e = r.released in same-words 1 id p (loaded (get_or s.words 1 0) p) c at (omega arith) refl refl
+    loads : (id : ℕ) (p : LockPart) (c : List (ℕ × Option B)) → get_elem? s.views id ≡ some (led_by p []) → L (stepped s 1 (get_or s.words 1 0) id c (led_by (counted (get_or s.words 1 0) p) []) keeps)
+    loads id p c at = let o = own id p at in let h = o.history in let e = r.released in same-words 1 id p (counted (get_or s.words 1 0) p) c at (omega arith) refl refl
         (record { number = o.number; history = record { made_with = h.made_with; known = h.known; made = h.made; seen = omega arith; fewest = (let a = h.seen in let b = h.fewest in omega arith) }; current = o.current })
 
     -- to another seat the log that the holder leaves has further entries of the holder's number
-    others-keep : (p x : LockPart) (log more : List Entry) → log ≡ r.log ++ more → All (λ e. e.seat ≡ p.number) more → F r.log x → x.number ≢ p.number → holding x ≡ 0 → F log x
+    others-keep : (p x : LockPart) (log more : List Entry) → log ≡ r.log ++ more → All (λ e. e.seat ≡ p.seat.number) more → F r.log x → x.seat.number ≢ p.seat.number → holding x ≡ 0 → F log x
     others-keep p x log more is all f ne rests = let h = f.history in
-        let others : GoesOn (λ e. e.seat ≢ x.number) r.log log = (more, is, All-weaker (λ e. e.seat ≡ p.number) (λ e. e.seat ≢ x.number) (λ e own-of own-x. ne (sym own-x ∙ own-of)) more all) in
+        let others : GoesOn (λ e. e.seat ≢ x.seat.number) r.log log = (more, is, All-weaker (λ e. e.seat ≡ p.seat.number) (λ e. e.seat ≢ x.seat.number) (λ e own-of own-x. ne (sym own-x ∙ own-of)) more all) in
         record {
           number = f.number;
           history = record {
             made_with = h.made_with;
-            known = goes-on-far (λ e. e.seat ≢ x.number) x.known r.log log h.known others;
-            made = ap (entries_by x.number) (past-longer first.log r.log log more (longer-than first.log r.log r.origin.0 r.origin.1) is)
-                ∙ (by-append x.number (past first.log r.log) more ∙ (ap (λ ys. entries_by x.number (past first.log r.log) ++ ys) (by-others x.number more others.2) ∙ (append-nil _ ∙ h.made)));
+            known = goes-on-far (λ e. e.seat ≢ x.seat.number) x.seat.known r.log log h.known others;
+            made = ap (entries_by x.seat.number) (past-longer first.log r.log log more (longer-than first.log r.log r.origin.0 r.origin.1) is)
+                ∙ (by-append x.seat.number (past first.log r.log) more ∙ (ap (λ ys. entries_by x.seat.number (past first.log r.log) ++ ys) (by-others x.seat.number more others.2) ∙ (append-nil _ ∙ h.made)));
             seen = (let a = releases-rise r.log log more is in let b = h.seen in omega arith);
             fewest = h.fewest;
           };
           current = λ holds. absurd (let b = ap bit holds in omega arith);
         }
 
-    publishes : (id : ℕ) (p : LockPart) (book : B) → get_elem? s.views id ≡ some (led_by p []) → p.holds ≡ true → MayLeave p (history_of book)
+    publishes : (id : ℕ) (p : LockPart) (book : B) → get_elem? s.views id ≡ some (led_by p []) → p.holds ≡ true → MayLeave p.seat (history_of book)
         → L (stepped s 1 (releases_in (history_of book).log) id ((0, Some book) ∷ []) (led_by (published (history_of book).log p) []) keeps)
     publishes id p book at holds may = let log : List Entry = (history_of book).log in let y : ℕ = releases_in log in let o = own id p at in let h = o.history in
         let w = r.words in let le = held-le id p at in let b = ap bit holds in let one-at-most = r.one in let t = r.turn in
@@ -184,7 +185,7 @@ module _ {B : Type 0} (history_of : B → BookHistory) (first : BookHistory) (se
         let other : get_or (set s.words 1 y) 0 0 ≡ get_or s.words 0 0 = get_or-set_other s.words 1 0 y 0 (λ e. omega arith) in
         let number = o.number in
         placed 1 y id p (published log p) ((0, Some book) ∷ []) keeps log at refl
-        (more, is, All-weaker (λ e. e.seat ≡ p.number) (λ e. e.seat < seats) (λ e own-of. omega arith) more all)
+        (more, is, All-weaker (λ e. e.seat ≡ p.seat.number) (λ e. e.seat < seats) (λ e own-of. omega arith) more all)
         (omega arith) (omega arith)
         (get_or-set_same s.words 1 y 0 (omega arith))
         r.slots
@@ -194,17 +195,17 @@ module _ {B : Type 0} (history_of : B → BookHistory) (first : BookHistory) (se
           number = o.number;
           history = record {
             made_with = h.made_with;
-            known = goes-on-not (λ e. e.seat ≢ p.number) log;
-            made = ap (entries_by p.number) (past-longer first.log r.log log more (longer-than first.log r.log r.origin.0 r.origin.1) is)
-                ∙ (by-append p.number (past first.log r.log) more ∙ (ap (λ xs. xs ++ entries_by p.number more) h.made
-                ∙ (ap (λ ys. p.made ++ ys) (by-own p.number more all) ∙ ap (λ ys. p.made ++ ys) (sym (past-goes-on p.known log more may.log.1)))));
+            known = goes-on-not (λ e. e.seat ≢ p.seat.number) log;
+            made = ap (entries_by p.seat.number) (past-longer first.log r.log log more (longer-than first.log r.log r.origin.0 r.origin.1) is)
+                ∙ (by-append p.seat.number (past first.log r.log) more ∙ (ap (λ xs. xs ++ entries_by p.seat.number more) h.made
+                ∙ (ap (λ ys. p.seat.made ++ ys) (by-own p.seat.number more all) ∙ ap (λ ys. p.seat.made ++ ys) (sym (past-goes-on p.seat.known log more may.log.1)))));
             seen = le_refl _;
             fewest = le_refl _;
           };
           current = λ _. refl;
         })
 
-    gives-back : (id : ℕ) (p : LockPart) (book : B) → get_elem? s.views id ≡ some (led_by p []) → p.holds ≡ true → (history_of book).log ≡ p.known → (history_of book).config ≡ p.config → (history_of book).workers ≡ p.workers
+    gives-back : (id : ℕ) (p : LockPart) (book : B) → get_elem? s.views id ≡ some (led_by p []) → p.holds ≡ true → (history_of book).log ≡ p.seat.known → (history_of book).config ≡ p.seat.config → (history_of book).workers ≡ p.seat.workers
         → L (stepped s 0 0 id ((0, Some book) ∷ []) (led_by (gave p) []) gives)
     gives-back id p book at holds is config workers = let o = own id p at in let h = o.history in let w = r.words in let le = held-le id p at in let b = ap bit holds in let one-at-most = r.one in let t = r.turn in let sl = r.slots in
         let zero-there : get_or (set s.words 0 0) 0 0 ≡ 0 = get_or-set_same s.words 0 0 0 (omega arith) in
@@ -248,9 +249,9 @@ module _ {B : Type 0} (history_of : B → BookHistory) (first : BookHistory) (se
     pub allows-load : (m : Sat B) → length m.0.parts ≡ 1 → m.1 ≡ [] → Allows L slots id m 1 (λ x. x) (Loaded (step slots 1 0 0 none) m)
     unfolding one
     allows-load m alone free = let p = own_part m.0 in subst (λ (z : Sat B). Allows L slots id z 1 (λ x. x) (Loaded (step slots 1 0 0 none) z)) (sym (alone-as m [] alone free))
-        (λ s r _ at _. (led_by (loaded (get_or s.words 1 0) p) [], keeps, tt, loads s r id p [] at, (refl, sees s r id p at)))
+        (λ s r _ at _. (led_by (counted (get_or s.words 1 0) p) [], keeps, tt, loads s r id p [] at, (refl, sees s r id p at)))
 
-    pub allows-publish : (m : Sat B) (book : B) → length m.0.parts ≡ 1 → m.1 ≡ (0, Some book) ∷ [] → (own_part m.0).holds ≡ true → MayLeave (own_part m.0) (history_of book)
+    pub allows-publish : (m : Sat B) (book : B) → length m.0.parts ≡ 1 → m.1 ≡ (0, Some book) ∷ [] → (own_part m.0).holds ≡ true → MayLeave (own_part m.0).seat (history_of book)
         → (n : ℕ) → n ≡ releases_in (history_of book).log → Allows L slots id m 1 (λ _. n) (λ _. Published history_of (step slots 1 n 0 none) m n)
     unfolding one
     allows-publish m book alone out holds may n count = let p = own_part m.0 in let c : List (ℕ × Option B) = (0, Some book) ∷ [] in
@@ -264,7 +265,7 @@ module _ {B : Type 0} (history_of : B → BookHistory) (first : BookHistory) (se
         ))
 
     pub allows-give : (m : Sat B) (book : B) → length m.0.parts ≡ 1 → m.1 ≡ (0, Some book) ∷ [] → (own_part m.0).holds ≡ true
-        → (history_of book).log ≡ (own_part m.0).known → (history_of book).config ≡ (own_part m.0).config → (history_of book).workers ≡ (own_part m.0).workers
+        → (history_of book).log ≡ (own_part m.0).seat.known → (history_of book).config ≡ (own_part m.0).seat.config → (history_of book).workers ≡ (own_part m.0).seat.workers
         → Allows L slots id m 0 (λ _. 0) (λ _. Given (step slots 0 0 0 none) m 0)
     unfolding one
     allows-give m book alone out holds is config workers = let p = own_part m.0 in let c : List (ℕ × Option B) = (0, Some book) ∷ [] in
@@ -281,16 +282,16 @@ book-in d (Some b) = b
 
 module _ {B : Type 0} (history_of : B → BookHistory) where
   -- what the slot has that the seat took
-  pub found-book : (m m1 : Sat B) (found : Option B) → (t : (b : B) × (m1 ≡ (own_changed (took (history_of b).log) m.0, (0, Some b) ∷ m.1)) × Finds (own_part m.0) (history_of b)) → m1.1 ≡ (0, found) ∷ rest m1.1 → found ≡ Some t.0
+  pub found-book : (m m1 : Sat B) (found : Option B) → (t : (b : B) × (m1 ≡ (own_changed (took (history_of b).log) m.0, (0, Some b) ∷ m.1)) × Finds (own_part m.0).seat (history_of b)) → m1.1 ≡ (0, found) ∷ rest m1.1 → found ≡ Some t.0
   unfolding head-found
   found-book m m1 found t x = ap (head-found found) (sym x) ∙ ap (λ (z : Sat B). head-found found z.1) t.1
 
   -- the seat once the book is out of its slot
-  pub out-of-slot : (m m1 m2 : Sat B) (found : Option B) (book : B) → m.1 ≡ [] → (t : (b : B) × (m1 ≡ (own_changed (took (history_of b).log) m.0, (0, Some b) ∷ m.1)) × Finds (own_part m.0) (history_of b))
-      → m1.1 ≡ (0, found) ∷ rest m1.1 → found ≡ Some book → m2 ≡ (m1.0, (0, None) ∷ rest m1.1) → (m2 ≡ (own_changed (took (history_of book).log) m.0, (0, None) ∷ [])) × Finds (own_part m.0) (history_of book)
+  pub out-of-slot : (m m1 m2 : Sat B) (found : Option B) (book : B) → m.1 ≡ [] → (t : (b : B) × (m1 ≡ (own_changed (took (history_of b).log) m.0, (0, Some b) ∷ m.1)) × Finds (own_part m.0).seat (history_of b))
+      → m1.1 ≡ (0, found) ∷ rest m1.1 → found ≡ Some book → m2 ≡ (m1.0, (0, None) ∷ rest m1.1) → (m2 ≡ (own_changed (took (history_of book).log) m.0, (0, None) ∷ [])) × Finds (own_part m.0).seat (history_of book)
   unfolding book-in
   out-of-slot m m1 m2 found book free t x is e2 = let b = t.0 in let same : b ≡ book = ap (book-in b) (sym (found-book m m1 found t x) ∙ is) in
-      subst (λ (z : B). (m2 ≡ at-view (own_changed (took (history_of z).log) m.0) ((0, None) ∷ [])) × Finds (own_part m.0) (history_of z)) same
+      subst (λ (z : B). (m2 ≡ at-view (own_changed (took (history_of z).log) m.0) ((0, None) ∷ [])) × Finds (own_part m.0).seat (history_of z)) same
       (e2 ∙ (ap (λ (z : Sat B). at-view z.0 ((0, None) ∷ rest z.1)) t.1 ∙ ap (λ c. at-view (own_changed (took (history_of b).log) m.0) ((0, None) ∷ c)) free), t.2)
 
   -- the seat once the book lies in its slot again
@@ -315,5 +316,5 @@ module _ {B : Type 0} (history_of : B → BookHistory) where
 pub missed-free : {B : Type 0} (m m1 : Sat B) (r : ℕ) → m.1 ≡ [] → m1 ≡ (own_changed (missed r) m.0, m.1) → m1 ≡ (own_changed (missed r) m.0, [])
 missed-free m m1 r free e = e ∙ ap (at-view (own_changed (missed r) m.0)) free
 
-pub loaded-free : {B : Type 0} (m m1 : Sat B) (r : ℕ) → m.1 ≡ [] → m1 ≡ (own_changed (loaded r) m.0, m.1) → m1 ≡ (own_changed (loaded r) m.0, [])
-loaded-free m m1 r free e = e ∙ ap (at-view (own_changed (loaded r) m.0)) free
+pub counted-free : {B : Type 0} (m m1 : Sat B) (r : ℕ) → m.1 ≡ [] → m1 ≡ (own_changed (counted r) m.0, m.1) → m1 ≡ (own_changed (counted r) m.0, [])
+counted-free m m1 r free e = e ∙ ap (at-view (own_changed (counted r) m.0)) free

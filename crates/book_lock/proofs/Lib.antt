@@ -1,4 +1,3 @@
-mod Logs
 mod Keeps
 mod Deals
 mod Ends

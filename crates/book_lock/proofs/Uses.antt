@@ -1,37 +1,16 @@
--- What a caller owes and gets between `enter` and `leave`, and where it takes the seats of a new lock.
-use Rattle.std.proofs.Common.{◌≡◌, ℕ, ◌+◌, List, [], ◌∷◌, ◌++◌, map, sym, refl, ap, ◌∙◌, arith, Some, Result, Ok, Err, MatchResult, append-nil, append_assoc, All}
+-- What a call of the book adds to its log, and how the seats of a new lock are taken off their list.
+use Rattle.std.proofs.Common.{◌≡◌, ℕ, ◌+◌, List, [], ◌∷◌, ◌++◌, map, sym, refl, ap, ◌∙◌, arith, Some, Result, Ok, Err, MatchResult, append-nil, All}
 use Rattle.std.proofs.lemmas.List.{map-append}
-use Rattle.std.proofs.lemmas.List.Elements.{All-nil, All-cons, All-append, All-pop}
+use Rattle.std.proofs.lemmas.List.Elements.{All-nil, All-cons, All-pop}
 use Rattle.atomic_table.specs.Seated.{TableId}
 use Rattle.stat_defs.specs.declared.history.Entry.{Entry}
 use Rattle.stat_defs.specs.Books.{BookHistory}
 use Rattle.book_lock.specs.declared.view.LockPart.{LockPart}
 use Rattle.book_lock.specs.declared.lock.LockSeat.{LockSeat}
-use Rattle.book_lock.specs.History.{Finds, MayLeave, took, tried, left, new_part}
+use Rattle.book_lock.specs.History.{new_part}
 use Rattle.book_lock.specs.Locked.{new_parts}
 use Rattle.book_lock.specs.Seats.{AtRest, seat_part, AreNew}
-use Rattle.book_lock.proofs.Logs.{past-goes-on}
 use Rattle.book_lock.proofs.Deals.{one-more}
-
--- a book may be left as it was found
-pub leaves-as-found : (misses : ℕ) (p q : LockPart) (found : BookHistory) → q ≡ took found.log (tried misses p) → Finds p found → MayLeave q found
-leaves-as-found misses p q found e f = record {
-  config = f.config ∙ ap (λ (z : LockPart). z.config) (sym e);
-  workers = f.workers ∙ ap (λ (z : LockPart). z.workers) (sym e);
-  log = ([], ap (λ (z : LockPart). z.known) (sym e) ∙ sym (append-nil q.known), All-nil (λ x. x.seat ≡ q.number));
-}
-
--- and with further entries of the seat's number
-pub leaves-more : (q : LockPart) (before after : BookHistory) (more : List Entry) → MayLeave q before → after.config ≡ before.config → after.workers ≡ before.workers → after.log ≡ before.log ++ more → All (λ x. x.seat ≡ q.number) more → MayLeave q after
-leaves-more q before after more m c w is all = record {
-  config = c ∙ m.config;
-  workers = w ∙ m.workers;
-  log = (m.log.0 ++ more, is ∙ (ap (λ l. l ++ more) m.log.1 ∙ append_assoc q.known m.log.0 more), All-append (λ x. x.seat ≡ q.number) m.log.0 more m.log.2 all);
-}
-
--- the entries that its calls made, once it has left
-pub made-more : (q : LockPart) (last : BookHistory) (more : List Entry) → last.log ≡ q.known ++ more → (left last.log q).made ≡ q.made ++ more
-made-more q last more is = ap (λ ys. q.made ++ ys) (past-goes-on q.known last.log more is)
 
 -- the entries that a call of the book added, by what it answered
 pub added : {T E : Type 0} (r : Result T E) (e : Entry) (old new : List Entry) → MatchResult r (λ _. new ≡ old ++ e ∷ []) (λ _. new ≡ old)

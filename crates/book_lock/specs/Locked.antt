@@ -33,8 +33,8 @@ use Rattle.stat_defs.specs.declared.configs.Config.{Config}
 use Rattle.stat_defs.specs.declared.configs.MatchSpec.TheVariants as matcher
 use Rattle.stat_defs.specs.Books.{BookHistory, releases_in}
 use Rattle.book_lock.specs.declared.view.LockPart.{LockPart}
-use Rattle.book_lock.specs.History.{GoesOn, SeatHistory, Finds, with_log, took, missed, published, gave, loaded}
-use Rattle.book_lock.specs.History.{new_part}
+use Rattle.seat_history.specs.History.{GoesOn, SeatHistory, Finds, with_log}
+use Rattle.book_lock.specs.History.{took, missed, published, gave, counted, new_part}
 
 abbrev pub View : Type 0
 View = Parts LockPart
@@ -45,16 +45,16 @@ bit false = 0
 
 -- 1 for the seat of this number, and 1 for a seat that has the turn
 abbrev pub numbered : ℕ → LockPart → ℕ
-numbered k p = bit (p.number == k)
+numbered k p = bit (p.seat.number == k)
 
 abbrev pub holding : LockPart → ℕ
 holding p = bit p.holds
 
 -- what a seat of a lock with so many seats is: the seat that holds knows the whole log
 pub record FitsLock (first : BookHistory) (seats : ℕ) (log : List Entry) (p : LockPart) : Type 0 where
-  pub number : p.number < seats
-  pub history : SeatHistory first log p
-  pub current : p.holds ≡ true → p.known ≡ log
+  pub number : p.seat.number < seats
+  pub history : SeatHistory first log p.seat
+  pub current : p.holds ≡ true → p.seat.known ≡ log
 
 -- the history of a book in a box, as it lies in the slot
 abbrev pub in_box : {B A : Type 0} → (B → BookHistory) → Box B A → BookHistory
@@ -114,7 +114,7 @@ module _ {B : Type 0} where
   abbrev pub Taken : (B → BookHistory) → Step (Option B) → Sat B → ℕ → Sat B → Type 0
   Taken history_of st m r m' =
       (r ≡ 0 → (book : B) × (m' ≡ (own_changed (took (history_of book).log) m.0, (0, Some book) ∷ m.1))
-      × Finds (own_part m.0) (history_of book))
+      × Finds (own_part m.0).seat (history_of book))
       × (r ≢ 0 → (r ≡ 1) × (m' ≡ (own_changed (missed r) m.0, m.1)))
 
   -- at a publish the book lies in the slot again, which is still the seat's
@@ -126,4 +126,4 @@ module _ {B : Type 0} where
   Given st m r m' = m' ≡ (own_changed gave m.0, rest m.1)
 
   abbrev pub Loaded : Step (Option B) → Sat B → ℕ → Sat B → Type 0
-  Loaded st m r m' = (m' ≡ (own_changed (loaded r) m.0, m.1)) × ((own_part m.0).seen ≤ r)
+  Loaded st m r m' = (m' ≡ (own_changed (counted r) m.0, m.1)) × ((own_part m.0).seat.seen ≤ r)

@@ -2,6 +2,7 @@
 use Rattle.std.specs.Prelude.{◌≡◌, ℕ, true, false, List, [], ◌∷◌, None, length, map, All}
 use Rattle.atomic_table.specs.Seated.{TableId}
 use Rattle.stat_defs.specs.Books.{BookHistory}
+use Rattle.seat_history.specs.declared.known.LogKnown.{LogKnown}
 use Rattle.book_lock.specs.declared.view.LockPart.{LockPart}
 use Rattle.book_lock.specs.declared.lock.BookLock.{BookLock}
 use Rattle.book_lock.specs.declared.lock.LockSeat.{LockSeat}
@@ -21,15 +22,18 @@ module _ {B : Type 0} where
   abbrev pub seats_of : BookLock B → ℕ
   seats_of l = l.table.shared.key.seats
 
-  -- a seat: its lock, what it knows, and its number
+  -- a seat: its lock, its part, what it knows of the log, and its number
   abbrev pub seat_lock : LockSeat B → TableId
   seat_lock s = s.place.table_id
 
   abbrev pub seat_part : LockSeat B → LockPart
   seat_part s = own_part s.place.me.0
 
+  abbrev pub seat_known : LockSeat B → LogKnown
+  seat_known s = (seat_part s).seat
+
   abbrev pub seat_number : LockSeat B → ℕ
-  seat_number s = (seat_part s).number
+  seat_number s = (seat_known s).number
 
   -- the seat is of the lock, and has not the book
   abbrev pub AtRest : TableId → LockSeat B → Type 0

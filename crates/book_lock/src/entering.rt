@@ -1,8 +1,9 @@
 //! How a seat comes to the book, leaves it, and asks for the number of releases. None of these calls takes
 //! memory.
 ghost use Rattle.std.specs.Prelude.{◌≡◌, ◌≤◌};
-ghost use Rattle.book_lock.specs.History.{Finds, MayLeave, Entered, took, missed, left, loaded};
-ghost use Rattle.book_lock.specs.Seats.{lock_id, seat_lock, seat_part, AtRest, HasBook, held_book, OnHeld, OnBusy};
+ghost use Rattle.seat_history.specs.History.{Finds, MayLeave};
+ghost use Rattle.book_lock.specs.History.{Entered, took, missed, left, counted};
+ghost use Rattle.book_lock.specs.Seats.{lock_id, seat_part, seat_known, AtRest, HasBook, held_book, OnHeld, OnBusy};
 
 use crate::held::{Held, Try};
 use crate::lock::{BookLock, LockSeat};
@@ -33,7 +34,7 @@ impl<B: Booked + Drop> BookLock<B> {
     pub fn enter<R: Wait>(&self, rt: &R, seat: &mut LockSeat<B>) -> Held<B>
         requires { AtRest (lock_id self.now) seat.old }
         ensures seat { HasBook (lock_id self.now) seat.new }
-        ensures found { Finds (seat_part seat.old) (B.history (held_book result)) }
+        ensures found { Finds (seat_known seat.old) (B.history (held_book result)) }
         ensures part { Entered (B.history (held_book result)).log (seat_part seat.old) (seat_part seat.new) }
     {
         let mut pauses = 1;
@@ -50,7 +51,7 @@ impl<B: Booked + Drop> BookLock<B> {
     pub fn try_enter(&self, seat: &mut LockSeat<B>) -> Try<B>
         requires { AtRest (lock_id self.now) seat.old }
         ensures held { OnHeld result (λ book. HasBook (lock_id self.now) seat.new) }
-        ensures found { OnHeld result (λ book. Finds (seat_part seat.old) (B.history book)) }
+        ensures found { OnHeld result (λ book. Finds (seat_known seat.old) (B.history book)) }
         ensures took { OnHeld result (λ b. seat_part seat.new ≡ took (B.history b).log (seat_part seat.old)) }
         ensures busy { OnBusy result (λ word. (word ≡ 1) × AtRest (lock_id self.now) seat.new) }
         ensures missed { OnBusy result (λ word. seat_part seat.new ≡ missed word (seat_part seat.old)) }
@@ -64,7 +65,7 @@ impl<B: Booked + Drop> BookLock<B> {
     /// Publishes the number of the book's releases, and gives the turn back with the book.
     pub fn leave(&self, seat: &mut LockSeat<B>, held: Held<B>)
         requires seat { HasBook (lock_id self.now) seat.old }
-        requires book { MayLeave (seat_part seat.old) (B.history (held_book held)) }
+        requires book { MayLeave (seat_known seat.old) (B.history (held_book held)) }
         ensures seat { AtRest (lock_id self.now) seat.new }
         ensures part { seat_part seat.new ≡ left (B.history (held_book held)).log (seat_part seat.old) }
     {
@@ -76,8 +77,8 @@ impl<B: Booked + Drop> BookLock<B> {
     pub fn releases(&self, seat: &mut LockSeat<B>) -> u64
         requires { AtRest (lock_id self.now) seat.old }
         ensures seat { AtRest (lock_id self.now) seat.new }
-        ensures part { seat_part seat.new ≡ loaded result (seat_part seat.old) }
-        ensures rises { (seat_part seat.old).seen ≤ result }
+        ensures part { seat_part seat.new ≡ counted result (seat_part seat.old) }
+        ensures rises { (seat_known seat.old).seen ≤ result }
     {
         steps::load(&self.table.shared, &mut seat.place)
     }

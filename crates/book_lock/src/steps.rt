@@ -1,7 +1,8 @@
 //! The steps of a lock, on a place with one part.
 ghost use Rattle.std.specs.Prelude.{◌≡◌, ◌≤◌, [], ◌∷◌, None, MatchResult, length, true};
 ghost use Rattle.seat_parts.specs.Parts.{own_changed};
-ghost use Rattle.book_lock.specs.History.{Finds, MayLeave, took, missed, left, loaded};
+ghost use Rattle.seat_history.specs.History.{Finds, MayLeave};
+ghost use Rattle.book_lock.specs.History.{took, missed, left, counted};
 ghost use Rattle.book_lock.specs.Locked.{own_part};
 
 use crate::plays::{Giving, Loading, Locking, Publishing, Taking};
@@ -21,7 +22,7 @@ pub(crate) fn take<B: Booked>(top: &Top<B>, place: &mut Place<B>) -> Result<Box<
     ensures table { (place.new.table_id ≡ place.old.table_id) × (place.new.id ≡ place.old.id) }
     ensures told { MatchResult result
         (λ book. (place.new.me ≡ (own_changed (took (B.history book.value).log) place.old.me.0, (0, None) ∷ []))
-        × Finds (own_part place.old.me.0) (B.history book.value))
+        × Finds (own_part place.old.me.0).seat (B.history book.value))
         (λ word. (word ≡ 1) × (place.new.me ≡ (own_changed (missed word) place.old.me.0, []))) }
 {
     let found = top.compare_exchange::<Taking>(place, 0, 0, 1);
@@ -38,7 +39,7 @@ pub(crate) fn give<B: Booked + Drop>(top: &Top<B>, place: &mut Place<B>, book: B
         × (top.now.table_id.slots ≡ 1) }
     requires holds { (length place.old.me.0.parts ≡ 1) × (place.old.me.1 ≡ (0, None) ∷ [])
         × ((own_part place.old.me.0).holds ≡ true) }
-    requires book { MayLeave (own_part place.old.me.0) (B.history book.value) }
+    requires book { MayLeave (own_part place.old.me.0).seat (B.history book.value) }
     ensures table { (place.new.table_id ≡ place.old.table_id) × (place.new.id ≡ place.old.id) }
     ensures told { place.new.me ≡ (own_changed (left (B.history book.value).log) place.old.me.0, []) }
 {
@@ -53,8 +54,8 @@ pub(crate) fn load<B: Booked>(top: &Top<B>, place: &mut Place<B>) -> u64
     requires table { (place.old.table_id ≡ top.now.table_id) × (top.now.table_id.words ≡ 2) }
     requires rests { (length place.old.me.0.parts ≡ 1) × (place.old.me.1 ≡ []) }
     ensures table { (place.new.table_id ≡ place.old.table_id) × (place.new.id ≡ place.old.id) }
-    ensures told { (place.new.me ≡ (own_changed (loaded result) place.old.me.0, []))
-        × ((own_part place.old.me.0).seen ≤ result) }
+    ensures told { (place.new.me ≡ (own_changed (counted result) place.old.me.0, []))
+        × ((own_part place.old.me.0).seat.seen ≤ result) }
 {
     top.load::<Loading>(place, 1)
 }

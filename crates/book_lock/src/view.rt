@@ -1,7 +1,7 @@
 //! What a seat of a lock knows. No value of these types is made but a `LockKey`.
 
+use seat_history::LogKnown;
 use seat_parts::Parts;
-use stat_defs::{Config, Entry};
 use std::collections::LinkedList;
 use std::snapshot::Snapshot;
 
@@ -19,19 +19,10 @@ pub struct LockStep {
     pub word: u64,
 }
 
-/// A seat by its number, and what it knows.
+/// What a seat knows.
 pub struct LockPart {
-    pub number: u64,
-    /// The configuration, the number of workers and the log of the book that the lock was made with.
-    pub config: Config,
-    pub workers: u64,
-    pub first: LinkedList<Entry>,
-    /// The log that the seat found or left last, or the first one where it has not entered.
-    pub known: LinkedList<Entry>,
-    /// The entries that its calls made, in order.
-    pub made: LinkedList<Entry>,
-    /// The most releases that it found, left or loaded.
-    pub seen: u64,
+    /// Its number, and what it knows of the log of the book.
+    pub seat: LogKnown,
     /// Whether it has the turn.
     pub holds: bool,
     /// Its steps, the newest first.

@@ -1,70 +1,78 @@
--- What a caller owes between `enter` and `leave`, and what its seat is then.
-use Rattle.std.proofs.Common.{◌≡◌, ◌≢◌, ℕ, ◌++◌, false, [], ◌∷◌, List, refl, ap, sym, ◌∙◌, subst, Result, Ok, Err, IfOk, OnErr, All}
-use Rattle.std.specs.Option.{IsSomeAnd}
-use Rattle.std.proofs.lemmas.List.Elements.{All-nil, All-cons, All-weaker}
-use Rattle.stat_defs.specs.Books.{BookHistory}
-use Rattle.stat_defs.specs.declared.history.Call.{Call}
+-- What a call owes between `enter` and `leave`, and what its seat knows behind it.
+use Rattle.std.proofs.Common.{◌≡◌, ℕ, ◌<◌, List, [], ◌∷◌, refl, ap, sym, ◌∙◌, subst, Result, Ok, Err, IfOk, OnErr, OnOk}
+use Rattle.std.proofs.lemmas.List.Elements.{All-nil, All-cons}
+use Rattle.stat_defs.specs.Books.{BookHistory, releases_in}
 use Rattle.stat_defs.specs.declared.history.Entry.{Entry}
-use Rattle.stat_defs.specs.declared.history.Verdict.{Verdict}
-use Rattle.book_state.specs.State.{State, seat_of}
-use Rattle.book_state.specs.Step.{Works}
-use Rattle.book_state.specs.Log.{empty}
-use Rattle.book_state.proofs.Growing.{replayed_on, left_seats}
-use Rattle.stat_book.specs.Calls.{rules_of, state_of, Answers}
+use Rattle.book_state.specs.State.{Seat}
+use Rattle.book_state.specs.Step.{Working}
+use Rattle.stat_book.specs.Calls.{state_of, IsLegal, openings_by}
+use Rattle.seat_history.specs.declared.known.LogKnown.{LogKnown}
+use Rattle.seat_history.specs.History.{Finds, MayLeave, found_log, left_log}
+use Rattle.seat_history.proofs.Leaves.{leaves-as-found, leaves-more}
 use Rattle.book_lock.specs.declared.view.LockPart.{LockPart}
-use Rattle.book_lock.specs.History.{Finds, MayLeave, Entered, took, tried, left}
-use Rattle.book_lock.proofs.Uses.{leaves-more}
-use Rattle.locked_book.specs.Under.{known_history, WorksUnder, CallsUnder}
+use Rattle.book_lock.specs.History.{Entered, left}
+use Rattle.book_access.specs.Making.{IsAsFound, AddsOne}
+use Rattle.book_access.specs.Calling.{Calls, WorkingUnder, opened}
+use Rattle.book_access.proofs.Called.{told_calls, done_calls, kept_calls, working_found, due_found, openings_found}
 
--- entries of other seats leave a worker at work
-works_on : (known : BookHistory) (seat : ℕ) (more : List Entry) → All (λ entry. entry.seat ≢ seat) more → Works (state_of known) seat → Works (state_of (record known { log = known.log ++ more })) seat
-works_on known seat more others works =
-    subst (λ o. IsSomeAnd o (λ row. (row.ended ≡ false) × Unit {0}))
-    (sym (ap (λ (s : State). seat_of s seat) (replayed_on (rules_of known) (empty known.workers) known.log more)
-    ∙ left_seats (rules_of known) (state_of known) seat more (All-weaker (λ (entry : Entry). entry.seat ≢ seat) (λ entry. seat ≢ entry.seat) (λ entry other same. other (sym same)) more others)))
-    works
+-- a seat entered, and knows the log that it found
+entered_seat : (p q : LockPart) (found : List Entry) → Entered found p q → q.seat ≡ found_log found p.seat
+entered_seat p q found e = ap (λ (z : LockPart). z.seat) e.1
 
-found_is : (p : LockPart) (found : BookHistory) (f : Finds p found) → found ≡ record (known_history p) { log = p.known ++ f.log.0 }
-found_is p found f = λ i. record { config = f.config i; workers = f.workers i; log = f.log.1 i }
+-- and left another
+left_seat : (p q r : LockPart) (found last : List Entry) → Entered found p q → r ≡ left last q → r.seat ≡ left_log last (found_log found p.seat)
+left_seat p q r found last e is = ap (λ (z : LockPart). z.seat) is ∙ ap (left_log last) (entered_seat p q found e)
 
--- a worker is one in the book that it finds
-pub works_found : (p : LockPart) (found : BookHistory) → Finds p found → WorksUnder p → Works (state_of found) p.number
-works_found p found f works =
-    subst (λ (h : BookHistory). Works (state_of h) p.number) (sym (found_is p found f)) (works_on (known_history p) p.number f.log.0 f.log.2 works)
+pub as_if : {T E : Type 0} (r : Result T E) (P : Type 0) → OnOk r P → IfOk r (λ _. P)
+as_if (Ok x) P is = is
+as_if (Err x) P is = tt
 
-known_as_found : (p : LockPart) (found : BookHistory) → Finds p found → found ≡ record { config = p.config; workers = p.workers; log = found.log }
-known_as_found p found f = λ i. record { config = f.config i; workers = f.workers i; log = found.log }
+pub kept_same : {T E : Type 0} (r : Result T E) (book : BookHistory) → OnErr r (book ≡ book)
+kept_same (Ok x) book = tt
+kept_same (Err x) book = refl
 
--- and once it has left the book as it was
-pub works_as_found : (misses : ℕ) (p q : LockPart) (found : BookHistory) → Finds p found → WorksUnder p → q ≡ left found.log (took found.log (tried misses p)) → WorksUnder q
-works_as_found misses p q found f works is =
-    subst WorksUnder (sym is) (subst (λ (h : BookHistory). Works (state_of h) p.number) (known_as_found p found f) (works_found p found f works))
+may_leave : {T E : Type 0} (r : Result T E) (k : LogKnown) (old new : BookHistory) (number : ℕ) (Makes : T → ℕ → BookHistory → BookHistory → Type 0) → k.number ≡ number → MayLeave k old
+    → ((x : T) → Makes x number old new → AddsOne number old new) → IfOk r (λ x. Makes x number old new) → OnErr r (new ≡ old) → MayLeave k new
+may_leave (Ok x) k old new number Makes is may one makes err =
+    let adds = one x makes in let l = adds.2.logged in let e : Entry = record { seat = number; call = adds.0; reply = adds.1 } in
+    leaves-more k old new (e ∷ []) may (ap (λ (h : BookHistory). h.config) l) (ap (λ (h : BookHistory). h.workers) l) (ap (λ (h : BookHistory). h.log) l)
+    (All-cons (λ (x : Entry). x.seat ≡ k.number) e [] (sym is) (All-nil (λ (x : Entry). x.seat ≡ k.number)))
+may_leave (Err x) k old new number Makes is may one makes err = subst (λ (h : BookHistory). MayLeave k h) (sym err) may
 
--- what one call made may be left
-pub may_leave : {E : Type 0} (r : Result Verdict E) (q : LockPart) (old new : BookHistory) (by : ℕ) (c : Call) → q.number ≡ by → MayLeave q old
-    → IfOk r (λ verdict. Answers old by c verdict new) → OnErr r (new ≡ old) → MayLeave q new
-may_leave (Ok verdict) q old new by c number may step err =
-    let l = step.2.logged in let e : Entry = record { seat = by; call = c; reply = step.0 } in
-    leaves-more q old new (e ∷ []) may (ap (λ (h : BookHistory). h.config) l) (ap (λ (h : BookHistory). h.workers) l) (ap (λ (h : BookHistory). h.log) l)
-    (All-cons (λ (x : Entry). x.seat ≡ q.number) e [] (sym number) (All-nil (λ (x : Entry). x.seat ≡ q.number)))
-may_leave (Err x) q old new by c number may step err = subst (λ (h : BookHistory). MayLeave q h) (sym err) may
+-- The seat found a book, which is lent to the call.
+module _ (k : LogKnown) (found lent : BookHistory) (number : ℕ) (finds : Finds k found) (is : k.number ≡ number) (lends : lent ≡ found) where
+  pub working_lent : (May : Seat → Type 0) → WorkingUnder k May → Working (state_of lent) number May
+  working_lent May works = subst (λ (h : BookHistory). Working (state_of h) number May) (sym lends) (working_found k found number May finds is works)
 
--- what the answer tells of the seat
-pub told_left : {E : Type 0} (r : Result Verdict E) (p q : LockPart) (old found new : BookHistory) (by : ℕ) (c : Call) → old ≡ found → q ≡ left new.log p
-    → IfOk r (λ verdict. Answers old by c verdict new) → IfOk r (λ verdict. (last : BookHistory) × Answers found by c verdict last × (q ≡ left last.log p))
-told_left (Ok verdict) p q old found new by c is leaves step = (new, subst (λ (h : BookHistory). Answers h by c verdict new) is step, leaves)
-told_left (Err x) p q old found new by c is leaves step = tt
+  pub due_lent : WorkingUnder k (λ row. row.tag < k.seen) → Working (state_of lent) number (λ row. row.tag < releases_in lent.log)
+  due_lent works = subst (λ (h : BookHistory). Working (state_of h) number (λ row. row.tag < releases_in h.log)) (sym lends) (due_found k found number finds is works)
 
-pub kept_left : {E : Type 0} (r : Result Verdict E) (p q : LockPart) (old found new : BookHistory) → old ≡ found → q ≡ left new.log p → OnErr r (new ≡ old) → OnErr r (q ≡ left found.log p)
-kept_left (Ok verdict) p q old found new is leaves err = tt
-kept_left (Err x) p q old found new is leaves err = leaves ∙ ap (λ (h : BookHistory). left h.log p) (err ∙ is)
+  pub opened_lent : (max : ℕ) → opened k < max → openings_by number lent.log < max
+  opened_lent max room =
+      let same : openings_by number lent.log ≡ opened k = ap (λ (h : BookHistory). openings_by number h.log) lends ∙ (ap (λ (n : ℕ). openings_by n found.log) (sym is) ∙ openings_found k found finds) in
+      subst (λ (n : ℕ). n < max) (sym same) room
 
-pub told_under : {E : Type 0} (r : Result Verdict E) (p inside q : LockPart) (found : BookHistory) (by : ℕ) (c : Call) → Finds p found → Entered found.log p inside
-    → IfOk r (λ verdict. (last : BookHistory) × Answers found by c verdict last × (q ≡ left last.log inside)) → IfOk r (λ verdict. CallsUnder (λ old new. Answers old by c verdict new) p q)
-told_under (Ok verdict) p inside q found by c f e step = record { found = found; last = step.0; inside = inside; finds = f; entered = e; makes = step.1; leaves = step.2 }
-told_under (Err x) p inside q found by c f e step = tt
+-- A call by the seat of this number, between its entry and its leave.
+module _ {T E : Type 0} (answer : Result T E) (p q : LockPart) (found lent last : BookHistory) (number : ℕ) (finds : Finds p.seat found)
+    (entered : Entered found.log p q) (is : p.seat.number ≡ number) (lends : lent ≡ found) where
+  -- the book may be left as it is lent
+  pub leaves_same : MayLeave q.seat lent
+  leaves_same = subst (λ (h : BookHistory). MayLeave q.seat h) (sym lends) (leaves-as-found p.seat q.seat found (entered_seat p q found.log entered) finds)
 
-pub kept_under : {E : Type 0} (r : Result Verdict E) (p inside q : LockPart) (found : BookHistory) → Finds p found → Entered found.log p inside
-    → OnErr r (q ≡ left found.log inside) → OnErr r (CallsUnder (λ old new. new ≡ old) p q)
-kept_under (Ok verdict) p inside q found f e err = tt
-kept_under (Err x) p inside q found f e err = record { found = found; last = found; inside = inside; finds = f; entered = e; makes = refl; leaves = err }
+  -- and as the call made it
+  pub leaves_made : (Makes : T → ℕ → BookHistory → BookHistory → Type 0) → ((x : T) → Makes x number lent last → AddsOne number lent last)
+      → IfOk answer (λ x. Makes x number lent last) → OnErr answer (last ≡ lent) → MayLeave q.seat last
+  leaves_made Makes one makes err = may_leave answer q.seat lent last number Makes (ap (λ (k : LogKnown). k.number) (entered_seat p q found.log entered) ∙ is) leaves_same one makes err
+
+  module _ (r : LockPart) (legal : IsLegal last) (leaves : r ≡ left last.log q) where
+    pub told : (Makes : T → ℕ → BookHistory → BookHistory → Type 0) → IfOk answer (λ x. Makes x number lent last) → IfOk answer (λ x. Calls (Makes x) p.seat r.seat)
+    told Makes makes = told_calls answer p.seat r.seat found last finds legal (left_seat p q r found.log last.log entered leaves) Makes
+        (subst (λ (h : BookHistory). IfOk answer (λ x. Makes x p.seat.number h last)) lends (subst (λ (n : ℕ). IfOk answer (λ x. Makes x n lent last)) (sym is) makes))
+
+    pub done : (Makes : ℕ → BookHistory → BookHistory → Type 0) → OnOk answer (Makes number lent last) → OnOk answer (Calls Makes p.seat r.seat)
+    done Makes makes = done_calls answer p.seat r.seat found last finds legal (left_seat p q r found.log last.log entered leaves) Makes
+        (subst (λ (h : BookHistory). OnOk answer (Makes p.seat.number h last)) lends (subst (λ (n : ℕ). OnOk answer (Makes n lent last)) (sym is) makes))
+
+    pub kept : OnErr answer (last ≡ lent) → OnErr answer (Calls IsAsFound p.seat r.seat)
+    kept err = kept_calls answer p.seat r.seat found last finds legal (left_seat p q r found.log last.log entered leaves)
+        (subst (λ (h : BookHistory). OnErr answer (last ≡ h)) lends err)

@@ -1,9 +1,16 @@
-//! Calls of the store's book of scopes and names, each under its lock.
+//! The store's book of scopes and names behind its lock: every call of it that a seat makes.
 //!
-//! A seat of the lock calls the book under its own number. A call enters, calls once and leaves, so that no
-//! other seat's entry stands between what it found and what it left. It may wait.
+//! A call enters the lock, calls the book once under the seat's number, and leaves, so that no entry of another seat
+//! stands between what it found and what it left. All but `releases` may wait for the lock.
 #![tactic(auto)]
 
-mod releasing;
+mod access;
+mod calls;
+mod closing;
+mod listing;
+mod making;
+mod shared;
+mod sweeping;
 
-pub use releasing::release_under;
+pub use listing::Listing;
+pub use shared::{LockedBook, SharedBook, Way};

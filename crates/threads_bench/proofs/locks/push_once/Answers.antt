@@ -1,13 +1,14 @@
 use Rattle.std.proofs.Common.{◌++◌, refl, ap, ◌∙◌, sym, map}
 use Rattle.threads_bench.specs.Tallies.{entry_of, history_of}
-use Rattle.book_lock.specs.Seats.{seat_part}
-use Rattle.book_lock.proofs.Uses.{added, leaves-as-found, leaves-more}
+use Rattle.seat_history.proofs.Leaves.{leaves-as-found, leaves-more}
+use Rattle.book_lock.specs.Seats.{seat_known}
+use Rattle.book_lock.proofs.Uses.{added}
 use Rattle.threads_bench.proofs.Pushes.{pushed}
 use Rattle.threads_bench.proofs.locks.push_once.Goals as goal
 
 pub leave-requires-clause-book : goal.leave-requires-clause-book
-leave-requires-clause-book g c = let new = c.push.new.self.words.items in let old = c.book.result.now.words.items in let q = seat_part c.enter-held.new.seat in let e = c.enter-held.ensures.part in
+leave-requires-clause-book g c = let new = c.push.new.self.words.items in let old = c.book.result.now.words.items in let q = seat_known c.enter-held.new.seat in let e = c.enter-held.ensures.part in
     let found = c.enter-held.result.book.value.words.items in
     let a = added c.push.result (entry_of c.args.number) (map entry_of old) (map entry_of new) (pushed c.push.result c.args.number old new c.push.ensures) in
-    leaves-more q (history_of found) (history_of new) a.0 (leaves-as-found e.0 (seat_part c.args.seat.now) q (history_of found) e.1 c.enter-held.ensures.found) refl refl
-    (a.1 ∙ ap (λ b. map entry_of b.words.items ++ a.0) c.book.ensures.value) (a.2 _ (sym c.requires.1 ∙ sym (ap (λ p. p.number) e.1)))
+    leaves-more q (history_of found) (history_of new) a.0 (leaves-as-found (seat_known c.args.seat.now) q (history_of found) (ap (λ p. p.seat) e.1) c.enter-held.ensures.found) refl refl
+    (a.1 ∙ ap (λ b. map entry_of b.words.items ++ a.0) c.book.ensures.value) (a.2 _ (sym c.requires.1 ∙ sym (ap (λ p. p.seat.number) e.1)))

@@ -1,8 +1,8 @@
-use Rattle.std.proofs.Common.{rules, subst, sym, map}
+use Rattle.std.proofs.Common.{rules, ap, subst, sym, map, ◌∙◌}
 use Rattle.book_lock.specs.History.{IsOneHistory}
-use Rattle.book_lock.specs.Seats.{lock_id, first_book, seats_of, seat_part}
+use Rattle.book_lock.specs.Seats.{lock_id, first_book, seats_of, seat_known}
 use Rattle.book_lock.specs.Locked.{in_box}
-use Rattle.book_lock.proofs.Ends.{all-ends, taken-last, last-book}
+use Rattle.book_lock.proofs.Ends.{known_of, known-seats, all-ends, taken-last, last-book}
 use Rattle.book_lock.proofs.lock.BookLock.close.Goals as goal
 
 pub unwrap-book-requires : goal.unwrap-book-requires
@@ -13,6 +13,6 @@ unwrap-book-requires g c = let r = c.requires in let first = g.B.Booked.history 
 pub returns : goal.returns
 returns g c = let r = c.requires in let first = g.B.Booked.history (first_book c.args.self) in let seats = seats_of c.args.self in
     let t = all-ends (in_box g.B.Booked.history) first seats _ _ _ _ (lock_id c.args.self) c.args.seats.items c.close_with-closed.ensures.values.2 c.gather-all.ensures.parts r.rest r.all in
-    subst (λ b. IsOneHistory first seats (map seat_part c.args.seats.items) (g.B.Booked.history b)) (sym c.into_inner.ensures)
-    (subst (λ ps. IsOneHistory first seats ps (g.B.Booked.history c.unwrap-book.result.value)) c.gather-all.ensures.parts
+    subst (λ b. IsOneHistory first seats (map seat_known c.args.seats.items) (g.B.Booked.history b)) (sym c.into_inner.ensures)
+    (subst (λ ks. IsOneHistory first seats ks (g.B.Booked.history c.unwrap-book.result.value)) (ap (map known_of) c.gather-all.ensures.parts ∙ known-seats c.args.seats.items)
     (last-book (in_box g.B.Booked.history) first seats _ _ _ c.unwrap-book.result c.take.ensures.value (search rules) t))

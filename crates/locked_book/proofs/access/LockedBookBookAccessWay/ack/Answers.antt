@@ -1,0 +1,27 @@
+use Rattle.book_lock.specs.Seats.{seat_part, seat_known, held_book}
+use Rattle.book_access.specs.Making.{AcksAll}
+use Rattle.book_access.proofs.Called.{one_acked}
+use Rattle.locked_book.proofs.Called.{leaves_made, due_lent, told, kept}
+use Rattle.locked_book.proofs.access.LockedBookBookAccessWay.ack.Goals as goal
+
+pub ack_in-acked-requires : goal.ack_in-acked-requires
+ack_in-acked-requires g c =
+    record { due = due_lent (seat_known c.args.self.now.seat) (held_book c.enter-held.result) c.book.result.now c.args.self.now.number c.enter-held.ensures.found c.args.self.now.numbered c.book.ensures.value c.requires.due }
+
+pub leave-requires-clause-book : goal.leave-requires-clause-book
+leave-requires-clause-book g c =
+    let e = c.enter-held.ensures in let t = c.ack_in-acked in
+    leaves_made t.result (seat_part c.args.self.now.seat) (seat_part c.enter-held.new.seat) (held_book c.enter-held.result) c.book.result.now t.new.book c.args.self.now.number e.found e.part c.args.self.now.numbered c.book.ensures.value
+    (λ x. AcksAll x) (λ x. one_acked x c.args.self.now.number c.book.result.now t.new.book) t.ensures.step t.ensures.err
+
+pub returns-clause-step : goal.returns-clause-step
+returns-clause-step g c =
+    let e = c.enter-held.ensures in let t = c.ack_in-acked in
+    told t.result (seat_part c.args.self.now.seat) (seat_part c.enter-held.new.seat) (held_book c.enter-held.result) c.book.result.now t.new.book c.args.self.now.number e.found e.part c.args.self.now.numbered c.book.ensures.value
+    (seat_part c.leave.new.seat) t.ensures.legal c.leave.ensures.part (λ x. AcksAll x) t.ensures.step
+
+pub returns-clause-err : goal.returns-clause-err
+returns-clause-err g c =
+    let e = c.enter-held.ensures in let t = c.ack_in-acked in
+    kept t.result (seat_part c.args.self.now.seat) (seat_part c.enter-held.new.seat) (held_book c.enter-held.result) c.book.result.now t.new.book c.args.self.now.number e.found e.part c.args.self.now.numbered c.book.ensures.value
+    (seat_part c.leave.new.seat) t.ensures.legal c.leave.ensures.part t.ensures.err

@@ -1,0 +1,28 @@
+use Rattle.stat_defs.specs.declared.history.Call.TheVariants as call
+use Rattle.book_lock.specs.Seats.{seat_part, seat_known, held_book}
+use Rattle.book_access.specs.Making.{AnswersCall}
+use Rattle.book_access.proofs.Called.{one_answered}
+use Rattle.locked_book.proofs.Called.{leaves_made, working_lent, told, kept}
+use Rattle.locked_book.proofs.access.LockedBookBookAccessWay.release.Goals as goal
+
+pub release_in-verdict-requires : goal.release_in-verdict-requires
+release_in-verdict-requires g c =
+    record { works = working_lent (seat_known c.args.self.now.seat) (held_book c.enter-held.result) c.book.result.now c.args.self.now.number c.enter-held.ensures.found c.args.self.now.numbered c.book.ensures.value (λ row. Unit {0}) c.requires.works }
+
+pub leave-requires-clause-book : goal.leave-requires-clause-book
+leave-requires-clause-book g c =
+    let e = c.enter-held.ensures in let t = c.release_in-verdict in
+    leaves_made t.result (seat_part c.args.self.now.seat) (seat_part c.enter-held.new.seat) (held_book c.enter-held.result) c.book.result.now t.new.book c.args.self.now.number e.found e.part c.args.self.now.numbered c.book.ensures.value
+    (λ x. AnswersCall (call.Release c.args.label.now) x) (λ x. one_answered (call.Release c.args.label.now) x c.args.self.now.number c.book.result.now t.new.book) t.ensures.step t.ensures.err
+
+pub returns-clause-step : goal.returns-clause-step
+returns-clause-step g c =
+    let e = c.enter-held.ensures in let t = c.release_in-verdict in
+    told t.result (seat_part c.args.self.now.seat) (seat_part c.enter-held.new.seat) (held_book c.enter-held.result) c.book.result.now t.new.book c.args.self.now.number e.found e.part c.args.self.now.numbered c.book.ensures.value
+    (seat_part c.leave.new.seat) t.ensures.legal c.leave.ensures.part (λ x. AnswersCall (call.Release c.args.label.now) x) t.ensures.step
+
+pub returns-clause-err : goal.returns-clause-err
+returns-clause-err g c =
+    let e = c.enter-held.ensures in let t = c.release_in-verdict in
+    kept t.result (seat_part c.args.self.now.seat) (seat_part c.enter-held.new.seat) (held_book c.enter-held.result) c.book.result.now t.new.book c.args.self.now.number e.found e.part c.args.self.now.numbered c.book.ensures.value
+    (seat_part c.leave.new.seat) t.ensures.legal c.leave.ensures.part t.ensures.err

@@ -1,0 +1,43 @@
+-- What clauses read of a shared book and of its seats (this project's own).
+use Rattle.std.specs.Prelude.{◌≡◌, ℕ, zero, suc, List, [], ◌∷◌, length, map, All}
+use Rattle.stat_defs.specs.Books.{BookHistory}
+use Rattle.seat_history.specs.declared.known.LogKnown.{LogKnown}
+use Rattle.seat_history.specs.History.{new_known}
+use Rattle.book_lock.specs.declared.lock.LockSeat.{LockSeat}
+use Rattle.book_lock.specs.Seats.{lock_id, first_book, seats_of, seat_lock, seat_known}
+use Rattle.locked_book.specs.declared.shared.SharedBook.{SharedBook}
+use Rattle.locked_book.specs.declared.shared.LockedBook.{LockedBook}
+
+-- the history of the book that it was made with, and with how many seats
+abbrev pub first_of : SharedBook → BookHistory
+first_of book = first_book book.lock
+
+abbrev pub seat_count : SharedBook → ℕ
+seat_count book = seats_of book.lock
+
+-- what a seat knows of the book's log
+abbrev pub known_by : LockedBook → LogKnown
+known_by seat = seat_known seat.seat
+
+-- the seat is one of this book's
+abbrev pub IsSeatOf : SharedBook → LockedBook → Type 0
+IsSeatOf book seat = seat_lock seat.seat ≡ lock_id book.lock
+
+-- the seat of the lock, without its number
+abbrev pub bare_seat : LockedBook → LockSeat BookHistory
+bare_seat seat = seat.seat
+
+-- n seats that have made no call, numbered from `number` on
+abbrev pub new_seats : BookHistory → ℕ → ℕ → List LogKnown
+new_seats first number zero = []
+new_seats first number (suc n) = new_known first number ∷ new_seats first (suc number) n
+
+-- the seats of a new book, in the order of their numbers from 0 on
+pub record AreNewSeats (book : SharedBook) (seats : List LockedBook) : Type 0 where
+  pub own : All (IsSeatOf book) seats
+  pub known : map known_by seats ≡ new_seats (first_of book) 0 (seat_count book)
+
+-- as many seats of the book as it was made with
+pub record AreAllSeats (book : SharedBook) (seats : List LockedBook) : Type 0 where
+  pub own : All (IsSeatOf book) seats
+  pub all : length seats ≡ seat_count book

@@ -1,0 +1,49 @@
+//! How a shared book and its seats are made.
+ghost use Rattle.std.specs.Prelude.{◌≡◌, ◌<◌, ◌≤◌, [], IfOk, length, map, vec_capacity};
+ghost use Rattle.book_lock.specs.Seats.{lock_id, first_book, AreNew};
+ghost use Rattle.locked_book.specs.Sharing.{first_of, seat_count, bare_seat, AreNewSeats};
+
+use crate::shared::{LockedBook, SharedBook};
+use book_lock::{BookLock, LockSeat};
+use stat_book::Book;
+use stat_defs::NoMemory;
+use std::alloc::Global;
+
+impl SharedBook {
+    /// Puts a book behind a lock with so many seats, which come in the order of their numbers from 0. Where there is no
+    /// memory, the book is gone.
+    pub fn new(
+        alloc: Global,
+        book: Book,
+        seats: u32,
+    ) -> Result<(SharedBook, Vec<LockedBook>), NoMemory>
+        requires { 0 < seats }
+        ensures book { IfOk result (λ r. (first_of r.0 ≡ book) × (seat_count r.0 ≡ seats)) }
+        ensures seats { IfOk result (λ r. AreNewSeats r.0 r.1.items) }
+    {
+        let Ok(mut numbered) = Vec::with_capacity(alloc, seats as usize) else {
+            drop(book);
+            return Err(NoMemory);
+        };
+        let (lock, bare) = BookLock::new(alloc, book, seats)?;
+        number_seats(&lock, bare, seats, &mut numbered);
+        Ok((SharedBook { lock }, numbered))
+    }
+}
+
+// The number of a seat is its place.
+fn number_seats(
+    lock: &BookLock<Book>,
+    seats: Vec<LockSeat<Book>>,
+    count: u32,
+    numbered: &mut Vec<LockedBook>,
+)
+    requires seats { AreNew (lock_id lock.now) (first_book lock.now) count seats.items }
+    requires room { (numbered.old.items ≡ []) × (count ≤ vec_capacity numbered.old) }
+    ensures { map bare_seat numbered.new.items ≡ seats.items }
+{
+    for seat in seats {
+        let number = numbered.len() as u32;
+        numbered.push_reserved(LockedBook { seat, number });
+    }
+}
