@@ -1,0 +1,10 @@
+pub mod Sitting
+pub mod SeatLemmas
+pub mod PartLemmas
+pub mod CallLemmas
+pub mod EntryLemmas
+pub mod Followed
+pub mod Results
+pub mod Stepping
+pub mod Decided
+pub mod NamedMetrics
