@@ -3,13 +3,13 @@ use Rattle.std.proofs.Common.{◌≡◌, ℕ, ◌<◌, ◌≤◌, Bool, true, fa
 use Rattle.std.proofs.lemmas.List.Elements.{All-nil, All-cons}
 use Rattle.seat_parts.specs.Parts.{total, others_of}
 use Rattle.seat_parts.proofs.Sums.{total-append, all-mapped}
-use Rattle.metric_words.specs.declared.view.CountKind.{CountKind}
-use Rattle.metric_words.specs.declared.view.CountKind.TheVariants.{First, Second, Latch, Load}
-use Rattle.metric_words.specs.declared.view.CountStep.{CountStep}
-use Rattle.metric_words.specs.declared.view.CountPart.{CountPart}
-use Rattle.metric_words.specs.declared.seats.WordSeats.{WordSeats}
+use Rattle.metric_words.specs.declared.counter_view.CountKind.{CountKind}
+use Rattle.metric_words.specs.declared.counter_view.CountKind.TheVariants.{First, Second, Latch, Load}
+use Rattle.metric_words.specs.declared.counter_view.CountStep.{CountStep}
+use Rattle.metric_words.specs.declared.counter_view.CountPart.{CountPart}
+use Rattle.metric_words.specs.declared.counter_seats.WordSeats.{WordSeats}
 use Rattle.metric_words.specs.Counters.{choose, as_load, firsts, seconds, seen_by, Rises}
-use Rattle.metric_words.specs.Seats.{worker_part, flush_taken, flush_steps, read_steps, workers_total, IsLedger}
+use Rattle.metric_words.specs.CounterLedger.{worker_part, flush_known, flush_steps, read_steps, workers_total, IsLedger}
 use Rattle.metric_words.specs.CounterLaws.{as_loaded, loads_of, SumsGrow, worker_parts, IsCounterEnd}
 
 -- all of these words are at most `top`
@@ -59,13 +59,13 @@ module _ {A B : Type 0} (f : B → ℕ) (g : A → B) where
 
 -- the sum over the workers' seats is that over the list of their parts
 pub workers-list : (f : CountPart → ℕ) (s : WordSeats) → workers_total f s ≡ total f (worker_parts s)
-workers-list f s = omega (arith, total-append f (map worker_part s.workers.items) (flush_taken s.flusher), total-map f worker_part s.workers.items)
+workers-list f s = omega (arith, total-append f (map worker_part s.workers.items) (flush_known s.flusher).taken, total-map f worker_part s.workers.items)
 
 pub end-of-one : (size workers id : ℕ) (s : WordSeats) (values pending : List ℕ) → IsLedger size workers s values pending → id < size
-    → IsCounterEnd id (worker_parts s) (flush_steps s.flusher) (read_steps s.reader) (get_or values id 0) (get_or pending id 0)
+    → IsCounterEnd id (worker_parts s) (flush_steps s) (read_steps s) (get_or values id 0) (get_or pending id 0)
 end-of-one size workers id s values pending l h = record {
   firsts = l.value id h ∙ workers-list (λ p. firsts id p.steps) s;
   seconds = l.even id h ∙ (l.accepted id h ∙ workers-list (λ p. seconds id p.steps) s);
   latched = (let e = l.even id h in omega arith);
-  loads = loads-below id (get_or values id 0) (read_steps s.reader) (l.loads id h);
+  loads = loads-below id (get_or values id 0) (read_steps s) (l.loads id h);
 }

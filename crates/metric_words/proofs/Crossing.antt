@@ -1,9 +1,9 @@
 -- Threads may share the seats of a bank.
 use denote.Param.Send.{IsSync, sendable}
 use Rattle.seat_parts.proofs.Crossing.{seat_sync}
-use Rattle.metric_words.specs.contracts.seats.WorkerSeat as worker
-use Rattle.metric_words.specs.contracts.seats.FlushSeat as flush
-use Rattle.metric_words.specs.contracts.seats.ReadSeat as reader
+use Rattle.metric_words.specs.contracts.counter_seats.WorkerSeat as worker
+use Rattle.metric_words.specs.contracts.counter_seats.FlushSeat as flush
+use Rattle.metric_words.specs.contracts.counter_seats.ReadSeat as reader
 use Rattle.metric_words.specs.contracts.gauge_seats.GaugeSeat as gauge
 
 pub worker_sync : IsSync worker.the_row

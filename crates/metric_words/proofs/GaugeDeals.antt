@@ -1,18 +1,15 @@
 -- A gauge bank begins under its rule, and splits and joins of seats keep it.
-use Rattle.std.proofs.Common.{◌≡◌, ℕ, zero, suc, ◌+◌, ◌-◌, ◌%◌, ◌^◌, ◌<◌, inl, inr, ⊎_elim, List, [], ◌∷◌, ◌++◌, length, map, get_or, set, replicate, sym, refl, ap, ◌∙◌, arith, All}
-use Rattle.std.proofs.lemmas.List.{length-replicate, map-append}
-use Rattle.std.specs.List.{range_with_len}
+use Rattle.std.proofs.Common.{◌≡◌, ℕ, zero, suc, ◌+◌, ◌%◌, ◌^◌, inl, inr, ⊎_elim, List, [], ◌∷◌, ◌++◌, length, get_or, set, replicate, sym, refl, ap, ◌∙◌, arith, All}
+use Rattle.std.proofs.lemmas.List.{length-replicate}
 use Rattle.std.proofs.lemmas.List.Elements.{All-nil, All-cons}
-use Rattle.atomic_table.specs.Table.{State, Me, Splits, Joins, opening}
+use Rattle.atomic_table.specs.Table.{State, Splits, Joins, opening}
 use Rattle.seat_parts.specs.Parts.{total, parts_total, AllParts, AnyPart, dealt, undealt, joined, spent}
 use Rattle.seat_parts.proofs.Cuts.{split-total, split-all, join-total, join-all, parts-mapped}
 use Rattle.seat_parts.proofs.Anys.{split-any, join-any}
 use Rattle.metric_words.specs.declared.gauge_view.GaugePart.{GaugePart}
 use Rattle.metric_words.specs.declared.gauge_view.GaugeKey.{GaugeKey}
-use Rattle.metric_words.specs.declared.gauge_seats.GaugeSeat.{GaugeSeat}
-use Rattle.metric_words.specs.Gauges.{View, net, written, Alone, WroteLast, Gauged, new_gauge, new_gauges, gauge_view, own_gauge, taken_gauges}
-use Rattle.metric_words.specs.GaugeLedger.{gauge_number}
-use Rattle.metric_words.proofs.Deals.{zeros-at, range-more}
+use Rattle.metric_words.specs.Gauges.{View, net, written, Alone, WroteLast, Gauged, new_gauge, new_gauges, gauge_view}
+use Rattle.metric_words.proofs.CounterDeals.{zeros-at}
 
 module _ (workers : ℕ) where
   new-count : (seat n : ℕ) → total (λ (_ : GaugePart). 1) (new_gauges workers seat n) ≡ n
@@ -75,29 +72,3 @@ joins key id other v w s r at ne at' =
     (join-all (λ p. p.workers ≡ key.workers) s.views id other v w at ne at' r.knows)
     (join-all (LonePart s.words s.views) s.views id other v w at ne at' r.alone)
     (λ k. join-any (WroteLast k (get_or s.words k 0)) s.views id other v w at ne at')
-
-abbrev Sat : Type 0
-Sat = Me (Unit {0}) View
-
-abbrev pub one_of : ℕ → ℕ → Sat
-one_of workers seat = (record { parts = new_gauge workers seat ∷ [] }, [])
-
-abbrev pub rest_of : ℕ → ℕ → ℕ → Sat
-rest_of workers seat n = (record { parts = new_gauges workers seat n }, [])
-
-cut-new : (workers seat n : ℕ) → 0 < n → ((dealt (rest_of workers seat n).0, []) ≡ one_of workers seat) × ((undealt (rest_of workers seat n).0, []) ≡ rest_of workers (seat + 1) (n - 1))
-cut-new workers seat zero h = absurd (omega arith)
-cut-new workers seat (suc n) h = (refl, (let e : suc seat ≡ seat + 1 = omega arith in let f : n ≡ suc n - 1 = omega arith in λ i. rest_of workers (e i) (f i)))
-
--- a seat is cut off
-pub cut : (m : Sat) (workers seat n seat' n' : ℕ) → m ≡ rest_of workers seat n → 0 < n → seat' ≡ seat + 1 → n' ≡ n - 1 → ((dealt m.0, []) ≡ one_of workers seat) × ((undealt m.0, m.1) ≡ rest_of workers seat' n')
-cut m workers seat n seat' n' e h es en = let c = cut-new workers seat n h in
-    (ap (λ (z : Sat). (dealt z.0, [])) e ∙ c.0, ap (λ (z : Sat). (undealt z.0, z.1)) e ∙ (c.1 ∙ (λ i. rest_of workers (sym es i) (sym en i))))
-
--- a seat with this part alone
-pub part-of : (m : Sat) (workers seat : ℕ) → m ≡ one_of workers seat → (0 < length m.0.parts) × (length m.1 ≡ 0) × (own_gauge m.0 ≡ new_gauge workers seat) × (taken_gauges m.0 ≡ [])
-part-of m workers seat e = (omega (arith, ap (λ (z : Sat). length z.0.parts) e), ap (λ (z : Sat). length z.1) e, ap (λ (z : Sat). own_gauge z.0) e, ap (λ (z : Sat). taken_gauges z.0) e)
-
-pub numbers-push : (ws all : List GaugeSeat) (w : GaugeSeat) (n : ℕ) → map gauge_number ws ≡ range_with_len 1 n → all ≡ ws ++ w ∷ [] → gauge_number w ≡ 1 + n → map gauge_number all ≡ range_with_len 1 (n + 1)
-numbers-push ws all w n is e number =
-    ap (map gauge_number) e ∙ (map-append gauge_number ws (w ∷ []) ∙ (ap (λ z. z ++ gauge_number w ∷ []) is ∙ (ap (λ k. range_with_len 1 n ++ k ∷ []) number ∙ sym (range-more 1 n))))

@@ -13,28 +13,20 @@ use Rattle.metric_words.specs.declared.gauge_view.GaugePart.{GaugePart}
 use Rattle.metric_words.specs.declared.gauge_view.GaugeKey.{GaugeKey}
 use Rattle.metric_words.specs.declared.gauge_seats.GaugeSeat.{GaugeSeat}
 use Rattle.metric_words.specs.declared.gauge_seats.GaugeSeats.{GaugeSeats}
-use Rattle.metric_words.specs.Gauges.{View, IsGaugeWord, Gauged, own_gauge, taken_gauges}
-use Rattle.metric_words.specs.GaugeLedger.{gauge_part, gauge_taken, gauge_all, gauge_parts, AreAllGauges, SameWords, IsGaugeLedger}
+use Rattle.metric_words.specs.Gauges.{View, IsGaugeWord, Gauged, new_gauge}
+use Rattle.metric_words.specs.GaugeLedger.{gauge_known, gauge_part, gauge_all, gauge_parts, AreAllGauges, SameWords, IsGaugeLedger}
+use Rattle.metric_words.proofs.Knowing.{known-parts}
 use Rattle.metric_words.proofs.GaugeKeeps.{all-steps}
-use Rattle.metric_words.proofs.Ends.{place-push}
+use Rattle.metric_words.proofs.CounterEnds.{place-push}
 
 abbrev Sat : Type 0
 Sat = Me (Unit {0}) View
 
-behind-own : (ps qs : List GaugePart) → 0 < length ps → let v : View = record { parts = ps } in let w : View = record { parts = ps ++ qs } in
-    (own_gauge w ≡ own_gauge v) × (taken_gauges w ≡ taken_gauges v ++ qs) × (0 < length w.parts)
-behind-own [] qs h = absurd (omega arith)
-behind-own (p ∷ ps) qs h = (refl, refl, omega arith)
-
--- a seat that took another in
-pub joined-gauge : (m : Sat) (v w : View) (c : List (ℕ × Unit {0})) → m ≡ (joined v w, c) → 0 < length v.parts
-    → (own_gauge m.0 ≡ own_gauge v) × (taken_gauges m.0 ≡ taken_gauges v ++ w.parts) × (0 < length m.0.parts) × (length m.1 ≡ length c) × (m.0.parts ≡ v.parts ++ w.parts)
-joined-gauge m v w c e h = let j = behind-own v.parts w.parts h in (
-  ap (λ (z : Sat). own_gauge z.0) e ∙ j.0,
-  ap (λ (z : Sat). taken_gauges z.0) e ∙ j.1,
-  (let n = ap (λ (z : Sat). length z.0.parts) e in let k = j.2 in omega arith),
-  ap (λ (z : Sat). length z.1) e,
-  ap (λ (z : Sat). z.0.parts) e,
+-- a seat whose parts, those of others behind them, were gathered
+pub joined-all : (g : GaugeSeat) (w : View) (m : Sat) → m ≡ (joined g.seat.me.0 w, g.seat.me.1) → (m.0.parts ≡ gauge_all g ++ w.parts) × (length m.1 ≡ 0)
+joined-all g w m e = (
+  ap (λ (z : Sat). z.0.parts) e ∙ ap (λ ps. ps ++ w.parts) (known-parts (new_gauge 0 0) g.seat.table_id g.seat.me g.leads.0),
+  ap (λ (z : Sat). length z.1) e ∙ g.leads.1,
 )
 
 -- the last of a list of seats goes before the parts that were gathered
@@ -50,27 +42,22 @@ words-push n words copy copy' x has e at = (
   place-push (λ k. get_or words k 0) copy copy' x n has.0 has.1 e (sym (at-or words n x 0 at)),
 )
 
--- a seat with one part has its own alone, and no seat has fewer
-one-own : (ps : List GaugePart) → length ps ≤ 1 → 0 < length ps → let v : View = record { parts = ps } in ps ≡ own_gauge v ∷ []
-one-own [] h l = absurd (omega arith)
-one-own (p ∷ []) h l = refl
-one-own (p ∷ q ∷ ps) h l = absurd (omega arith)
+-- a seat with one part has its own alone
+one-own : (p : GaugePart) (ps : List GaugePart) → length (p ∷ ps) ≤ 1 → p ∷ ps ≡ p ∷ []
+one-own p [] h = refl
+one-own p (q ∷ ps) h = absurd (omega arith)
 
 each-leads : (gs : List GaugeSeat) → length gs ≤ length (flat_map gauge_all gs)
 each-leads [] = omega arith
-each-leads (g ∷ gs) = omega (arith, g.leads.0, each-leads gs, length-append (gauge_all g) (flat_map gauge_all gs))
+each-leads (g ∷ gs) = omega (arith, each-leads gs, length-append (gauge_all g) (flat_map gauge_all gs))
 
 each-own : (gs : List GaugeSeat) → length (flat_map gauge_all gs) ≤ length gs → flat_map gauge_all gs ≡ map gauge_part gs
 each-own [] h = refl
-each-own (g ∷ gs) h = let a = length-append (gauge_all g) (flat_map gauge_all gs) in let b = each-leads gs in let l = g.leads.0 in
-    (λ i. one-own (gauge_all g) (omega arith) l i ++ each-own gs (omega arith) i)
-
-led-length : (ps : List GaugePart) → 0 < length ps → let v : View = record { parts = ps } in length ps ≡ 1 + length (taken_gauges v)
-led-length [] h = absurd (omega arith)
-led-length (p ∷ ps) h = omega arith
+each-own (g ∷ gs) h = let a = length-append (gauge_all g) (flat_map gauge_all gs) in let b = each-leads gs in let k = gauge_known g in
+    (λ i. one-own k.own k.taken (omega arith) i ++ each-own gs (omega arith) i)
 
 parts-count : (bank : TableId) (workers : ℕ) (s : GaugeSeats) → AreAllGauges bank workers s → workers + 2 ≤ length (gauge_parts s)
-parts-count bank workers s all = omega (arith, led-length (gauge_all s.flusher) s.flusher.leads.0, length-append (gauge_all s.flusher) (map gauge_part s.workers.items ++ gauge_part s.reader ∷ []), length-append (map gauge_part s.workers.items) (gauge_part s.reader ∷ []), length-map s.workers.items gauge_part, all.count)
+parts-count bank workers s all = omega (arith, length-append (gauge_all s.flusher) (map gauge_part s.workers.items ++ gauge_part s.reader ∷ []), length-append (map gauge_part s.workers.items) (gauge_part s.reader ∷ []), length-map s.workers.items gauge_part, all.count)
 
 -- where all seats are given, no worker and no reader took one in
 pub all-own : (bank : TableId) (workers : ℕ) (s : GaugeSeats) (ps : List GaugePart) → AreAllGauges bank workers s
@@ -78,9 +65,8 @@ pub all-own : (bank : TableId) (workers : ℕ) (s : GaugeSeats) (ps : List Gauge
 all-own bank workers s ps all is few =
     let f = gauge_all s.flusher in let ws = flat_map gauge_all s.workers.items in let r = gauge_all s.reader in
     let a = length-append f (ws ++ r) in let b = length-append ws r in let n = ap length is in let c = all.count in
-    let own : length f ≡ 1 + length (gauge_taken s.flusher) = led-length f s.flusher.leads.0 in
-    let e = each-leads s.workers.items in let l = s.reader.leads.0 in
-    is ∙ (λ i. f ++ (each-own s.workers.items (omega arith) i ++ one-own r (omega arith) l i))
+    let e = each-leads s.workers.items in let k = gauge_known s.reader in
+    is ∙ (λ i. f ++ (each-own s.workers.items (omega arith) i ++ one-own k.own k.taken (omega arith) i))
 
 pub closes : (key : GaugeKey) (id : ℕ) (v : View) (words : List ℕ) (xs : List (Unit {0})) (bank : TableId) (seats : GaugeSeats) (copy : List ℕ)
     → Final (Seen (Gauged key) id v) words xs → AreAllGauges bank key.workers seats → v.parts ≡ gauge_all seats.flusher ++ (flat_map gauge_all seats.workers.items ++ gauge_all seats.reader)

@@ -7,16 +7,15 @@ use lib.ListN.{get_elem?}
 use Rattle.atomic_table.specs.Table.{State, Me, keeps, stepped, Allows}
 use Rattle.seat_parts.specs.Parts.{total, parts_total, led_by}
 use Rattle.seat_parts.proofs.Sums.{total-ones, all-at, all-mapped}
-use Rattle.seat_parts.proofs.Cuts.{step-total, step-all, step-beside, own-fits, one-view, led, after-own}
+use Rattle.seat_parts.proofs.Cuts.{step-total, step-all, step-beside, own-fits, one-view, led}
 use Rattle.seat_parts.proofs.Anys.{step-any, own-any, one-any}
 use Rattle.metric_words.specs.declared.gauge_view.GaugeKind.{GaugeKind}
 use Rattle.metric_words.specs.declared.gauge_view.GaugeKind.TheVariants.{Add, Sub, Set, Load}
-use Rattle.metric_words.specs.declared.gauge_view.GaugeStep.{GaugeStep}
 use Rattle.metric_words.specs.declared.gauge_view.GaugePart.{GaugePart}
 use Rattle.metric_words.specs.declared.gauge_view.GaugeKey.{GaugeKey}
 use Rattle.metric_words.specs.Counters.{when, choose}
-use Rattle.metric_words.specs.Gauges.{View, gauge_step, counts, net, writes, written, left_by, fold_of, set_or, if_same, LastSet, Alone, WroteLast, IsGaugeWord, Gauged, HasAllSeats, new_gauge, own_gauge, taken_gauges, longer_gauge, with_gauge_step}
-use Rattle.metric_words.proofs.Keeps.{when-same, when-other}
+use Rattle.metric_words.specs.Gauges.{View, gauge_step, counts, net, writes, written, left_by, fold_of, set_or, if_same, LastSet, Alone, WroteLast, IsGaugeWord, Gauged, HasAllSeats, longer_gauge, with_gauge_step}
+use Rattle.metric_words.proofs.CounterKeeps.{when-same, when-other}
 
 abbrev St : Type 0
 St = State (Unit {0}) View
@@ -187,10 +186,3 @@ module _ (key : GaugeKey) (slots id i : ℕ) where
         load-placed key s r i id p ps at small,
         (refl, λ count. taken-all key s r id p ps at count i),
       ))
-
--- what a step leaves of a seat
-pub after-gauge : (m m' : Sat) (x : GaugeStep) → 0 < length m.0.parts → length m.1 ≡ 0 → m' ≡ (with_gauge_step x m.0, m.1)
-    → ((0 < length m'.0.parts) × (length m'.1 ≡ 0)) × (((own_gauge m'.0).seat ≡ (own_gauge m.0).seat) × ((own_gauge m'.0).workers ≡ (own_gauge m.0).workers))
-    × ((own_gauge m'.0).steps ≡ x ∷ (own_gauge m.0).steps) × (taken_gauges m'.0 ≡ taken_gauges m.0)
-after-gauge m m' x a b e = let c = after-own (longer_gauge x) (new_gauge 0 0) m m' a e in
-    ((omega (arith, c.0), c.3 ∙ b), (ap (λ p. p.seat) c.1, ap (λ p. p.workers) c.1), ap (λ p. p.steps) c.1, c.2)

@@ -1,6 +1,8 @@
-mod Keeps
-mod Deals
-mod Ends
+mod Knowing
+mod CounterKeeps
+mod Stepping
+mod CounterDeals
+mod CounterEnds
 mod GaugeKeeps
 mod GaugeDeals
 mod GaugeEnds

@@ -2,13 +2,13 @@
 -- project's own).
 use Rattle.std.specs.Prelude.{◌≡◌, ℕ, ◌+◌, ◌<◌, ◌≤◌, Bool, ◌==◌, cond, List, [], ◌∷◌, ◌++◌, map, All, slice_index}
 use Rattle.seat_parts.specs.Parts.{total}
-use Rattle.metric_words.specs.declared.view.CountKind.{CountKind}
-use Rattle.metric_words.specs.declared.view.CountKind.TheVariants.{First, Second, Latch, Load}
-use Rattle.metric_words.specs.declared.view.CountStep.{CountStep}
-use Rattle.metric_words.specs.declared.view.CountPart.{CountPart}
-use Rattle.metric_words.specs.declared.seats.WordSeats.{WordSeats}
+use Rattle.metric_words.specs.declared.counter_view.CountKind.{CountKind}
+use Rattle.metric_words.specs.declared.counter_view.CountKind.TheVariants.{First, Second, Latch, Load}
+use Rattle.metric_words.specs.declared.counter_view.CountStep.{CountStep}
+use Rattle.metric_words.specs.declared.counter_view.CountPart.{CountPart}
+use Rattle.metric_words.specs.declared.counter_seats.WordSeats.{WordSeats}
 use Rattle.metric_words.specs.Counters.{when, step_of, firsts, seconds, latches, Rises}
-use Rattle.metric_words.specs.Seats.{worker_part, flush_taken, flush_steps, read_steps, IsLedger}
+use Rattle.metric_words.specs.CounterLedger.{worker_part, flush_known, flush_steps, read_steps, IsLedger}
 
 -- the word found, before those found earlier, where the step is a load of the counter
 abbrev pub as_loaded : CountKind → Bool → ℕ → List ℕ → List ℕ
@@ -46,7 +46,7 @@ pub record SumsGrow : Type 0 where
 
 -- the workers' seats, behind them those that the flusher's seat took in
 abbrev pub worker_parts : WordSeats → List CountPart
-worker_parts s = map worker_part s.workers.items ++ flush_taken s.flusher
+worker_parts s = map worker_part s.workers.items ++ (flush_known s.flusher).taken
 
 -- One counter at the end, by the lists of the workers, of the flusher and of the reader: its value is the sum of
 -- the adds, of which each made both steps; it is what was latched and what is pending; and no load found more.
@@ -61,5 +61,5 @@ pub record IsCounterEnd (id : ℕ) (workers : List CountPart) (flusher reader : 
 pub record EndOfOne : Type 0 where
   pub each : (size workers id : ℕ) (s : WordSeats) (values pending : List ℕ)
       → IsLedger size workers s values pending → id < size
-      → IsCounterEnd id (worker_parts s) (flush_steps s.flusher) (read_steps s.reader)
+      → IsCounterEnd id (worker_parts s) (flush_steps s) (read_steps s)
       (slice_index values id) (slice_index pending id)

@@ -25,13 +25,13 @@ use Rattle.atomic_table.specs.Table.{State, Me, Step}
 use Rattle.seat_parts.specs.declared.Parts.{Parts}
 use Rattle.seat_parts.specs.Parts.{total, parts_total, AllParts, first_or, others_of, own_changed}
 use Rattle.metric_words.specs.declared.limits.TheConstants.{MAX_UNITS}
-use Rattle.metric_words.specs.declared.view.SeatRole.{SeatRole}
-use Rattle.metric_words.specs.declared.view.SeatRole.TheVariants.{Worker, Flusher, Reader}
-use Rattle.metric_words.specs.declared.view.CountKind.{CountKind}
-use Rattle.metric_words.specs.declared.view.CountKind.TheVariants.{First, Second, Latch, Load}
-use Rattle.metric_words.specs.declared.view.CountStep.{CountStep}
-use Rattle.metric_words.specs.declared.view.CountPart.{CountPart}
-use Rattle.metric_words.specs.declared.view.BankKey.{BankKey}
+use Rattle.metric_words.specs.declared.counter_view.SeatRole.{SeatRole}
+use Rattle.metric_words.specs.declared.counter_view.SeatRole.TheVariants.{Worker, Flusher, Reader}
+use Rattle.metric_words.specs.declared.counter_view.CountKind.{CountKind}
+use Rattle.metric_words.specs.declared.counter_view.CountKind.TheVariants.{First, Second, Latch, Load}
+use Rattle.metric_words.specs.declared.counter_view.CountStep.{CountStep}
+use Rattle.metric_words.specs.declared.counter_view.CountPart.{CountPart}
+use Rattle.metric_words.specs.declared.counter_view.BankKey.{BankKey}
 
 abbrev pub View : Type 0
 View = Parts CountPart
@@ -190,10 +190,6 @@ FirstAdded st m r m' = (id : ℕ) → st.word ≡ 2 * id → m' ≡ (with_step (
 
 abbrev pub SecondAdded : Step (Unit {0}) → Sat → ℕ → Sat → Type 0
 SecondAdded st m r m' = (id : ℕ) → st.word ≡ 2 * id + 1 → m' ≡ (with_step (step_of Second id st.first r) m.0, m.1)
-
--- the newest step of the seat is the first one of an add of n to this counter
-abbrev pub OwesSecond : ℕ → ℕ → CountPart → Type 0
-OwesSecond id n p = (found : ℕ) × (before : List CountStep) × (p.steps ≡ step_of First id n found ∷ before)
 
 -- all seats of workers stand behind the own part
 abbrev pub HasAllWorkers : View → Type 0

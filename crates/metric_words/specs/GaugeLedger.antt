@@ -7,7 +7,8 @@ use Rattle.metric_words.specs.declared.gauge_view.GaugePart.{GaugePart}
 use Rattle.metric_words.specs.declared.gauge_bank.GaugeBank.{GaugeBank}
 use Rattle.metric_words.specs.declared.gauge_seats.GaugeSeat.{GaugeSeat}
 use Rattle.metric_words.specs.declared.gauge_seats.GaugeSeats.{GaugeSeats}
-use Rattle.metric_words.specs.Gauges.{own_gauge, taken_gauges, IsGaugeWord}
+use Rattle.metric_words.specs.Known.{SeatKnown, known_of, new_known, own_after, all_of}
+use Rattle.metric_words.specs.Gauges.{new_gauge, longer_gauge, IsGaugeWord}
 
 -- which bank it is, and with how many gauges and workers
 abbrev pub gauges_id : GaugeBank → TableId
@@ -19,52 +20,47 @@ gauges_size b = b.table.shared.key.size
 abbrev pub gauges_workers : GaugeBank → ℕ
 gauges_workers b = b.table.shared.key.workers
 
--- a seat: its bank, its number, the number of the bank's workers, its steps, the newest first, and the seats
--- that it took in, in order
-abbrev pub gauge_bank : GaugeSeat → TableId
-gauge_bank s = s.seat.table_id
+-- what a seat of a gauge bank knows
+abbrev pub GaugeKnown : Type 0
+GaugeKnown = SeatKnown GaugePart
+
+abbrev pub gauge_known : GaugeSeat → GaugeKnown
+gauge_known s = known_of (new_gauge 0 0) s.seat.table_id s.seat.me
 
 abbrev pub gauge_part : GaugeSeat → GaugePart
-gauge_part s = own_gauge s.seat.me.0
-
-abbrev pub gauge_number : GaugeSeat → ℕ
-gauge_number s = (gauge_part s).seat
-
-abbrev pub gauge_workers : GaugeSeat → ℕ
-gauge_workers s = (gauge_part s).workers
-
-abbrev pub gauge_steps : GaugeSeat → List GaugeStep
-gauge_steps s = (gauge_part s).steps
-
-abbrev pub gauge_taken : GaugeSeat → List GaugePart
-gauge_taken s = taken_gauges s.seat.me.0
+gauge_part s = (gauge_known s).own
 
 -- its own part, and those of the seats that it took in
 abbrev pub gauge_all : GaugeSeat → List GaugePart
-gauge_all s = s.seat.me.0.parts
+gauge_all s = all_of (gauge_known s)
 
--- a seat of the bank that has made no step, and has taken none in
-abbrev pub IsNewGauge : TableId → GaugeSeat → Type 0
-IsNewGauge id s = (gauge_bank s ≡ id) × (gauge_steps s ≡ []) × (gauge_taken s ≡ [])
+-- the same after one step more
+abbrev pub after_gauge_step : GaugeStep → GaugeKnown → GaugeKnown
+after_gauge_step s k = own_after (longer_gauge s) k
 
--- the seats of a new bank: the flusher's has the number 0, the workers' those from 1 to W in order, and the reader's W
--- + 1
-pub record AreNewGauges (id : TableId) (workers : ℕ) (s : GaugeSeats) : Type 0 where
+-- once all other seats are taken in, the word is what all steps on the gauge left
+abbrev pub ReadsAll : ℕ → GaugeKnown → ℕ → Type 0
+ReadsAll id k word = length k.taken ≡ k.own.workers + 1 → IsGaugeWord id (all_of k) word
+
+-- a seat of a new bank
+abbrev pub IsNewGauge : TableId → ℕ → GaugeSeat → Type 0
+IsNewGauge bank workers s = gauge_known s ≡ new_known bank (new_gauge workers (gauge_part s).seat)
+
+-- The seats of a new bank, which have made no step: the flusher's has the number 0, the workers' have those from 1 to W
+-- in order, and the reader's has W + 1.
+pub record AreNewGauges (bank : TableId) (workers : ℕ) (s : GaugeSeats) : Type 0 where
   pub workers_count : length s.workers.items ≡ workers
-  pub workers_new : All (IsNewGauge id) s.workers.items
-  pub workers_numbers : map gauge_number s.workers.items ≡ range_with_len 1 workers
-  pub flusher_new : IsNewGauge id s.flusher
-  pub flusher_number : gauge_number s.flusher ≡ 0
-  pub flusher_workers : gauge_workers s.flusher ≡ workers
-  pub reader_new : IsNewGauge id s.reader
-  pub reader_number : gauge_number s.reader ≡ workers + 1
+  pub workers_new : All (IsNewGauge bank workers) s.workers.items
+  pub workers_numbers : map (λ w. (gauge_part w).seat) s.workers.items ≡ range_with_len 1 workers
+  pub flusher : gauge_known s.flusher ≡ new_known bank (new_gauge workers 0)
+  pub reader : gauge_known s.reader ≡ new_known bank (new_gauge workers (workers + 1))
 
 -- every seat of the bank is given, or was taken in by the flusher's seat that is given
-pub record AreAllGauges (id : TableId) (workers : ℕ) (s : GaugeSeats) : Type 0 where
-  pub count : workers ≤ length s.workers.items + length (gauge_taken s.flusher)
-  pub workers_bank : All (λ w. gauge_bank w ≡ id) s.workers.items
-  pub flusher_bank : gauge_bank s.flusher ≡ id
-  pub reader_bank : gauge_bank s.reader ≡ id
+pub record AreAllGauges (bank : TableId) (workers : ℕ) (s : GaugeSeats) : Type 0 where
+  pub count : workers ≤ length s.workers.items + length (gauge_known s.flusher).taken
+  pub workers_bank : All (λ w. (gauge_known w).bank ≡ bank) s.workers.items
+  pub flusher_bank : (gauge_known s.flusher).bank ≡ bank
+  pub reader_bank : (gauge_known s.reader).bank ≡ bank
 
 -- all seats of a bank: the flusher's, those that it took in, the other workers', and the reader's
 abbrev pub gauge_parts : GaugeSeats → List GaugePart

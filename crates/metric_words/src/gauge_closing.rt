@@ -1,8 +1,8 @@
 //! The end of a gauge bank.
 ghost use Rattle.std.specs.Prelude.{◌≡◌, ◌≤◌, [], ◌++◌, length, flat_map, IfOk, vec_capacity};
 ghost use Rattle.std.specs.Mem.Slots.{slots_items, slots_len, IsFull};
-ghost use Rattle.metric_words.specs.GaugeLedger.{gauges_id, gauges_size, gauges_workers, AreAllGauges, gauge_all};
-ghost use Rattle.metric_words.specs.GaugeLedger.{gauge_parts, IsGaugeLedger, SameWords};
+ghost use Rattle.metric_words.specs.GaugeLedger.{gauges_id, gauges_size, gauges_workers, AreAllGauges};
+ghost use Rattle.metric_words.specs.GaugeLedger.{gauge_all, gauge_parts, IsGaugeLedger, SameWords};
 
 use crate::gauge_bank::{GaugeBank, GaugePlace};
 use crate::gauge_seats::{GaugeSeat, GaugeSeats};

@@ -1,8 +1,13 @@
 //! Words of metrics that threads share without a lock.
 #![tactic(auto)]
 
-mod bank;
-mod closing;
+mod counter_bank;
+mod counter_closing;
+mod counter_making;
+mod counter_plays;
+mod counter_seats;
+mod counter_steps;
+mod counter_view;
 mod gauge_bank;
 mod gauge_closing;
 mod gauge_making;
@@ -12,14 +17,11 @@ mod gauge_steps;
 mod gauge_view;
 mod laws;
 mod limits;
-mod making;
-mod plays;
-mod seats;
-mod steps;
-mod view;
 
-pub use bank::CounterBank;
-pub use closing::CounterClose;
+pub use counter_bank::CounterBank;
+pub use counter_closing::CounterClose;
+pub use counter_seats::{FlushSeat, ReadSeat, WordSeats, WorkerSeat};
+pub use counter_view::{BankKey, CountKind, CountPart, CountStep, CountView, SeatRole};
 pub use gauge_bank::GaugeBank;
 pub use gauge_seats::{GaugeSeat, GaugeSeats};
 pub use gauge_view::{GaugeKey, GaugeKind, GaugePart, GaugeStep, GaugeView};
@@ -28,5 +30,3 @@ pub use laws::{
     the_newest_load_is_the_greatest,
 };
 pub use limits::{MAX_SIZE, MAX_UNITS, MAX_WORKERS};
-pub use seats::{FlushSeat, ReadSeat, WordSeats, WorkerSeat};
-pub use view::{BankKey, CountKind, CountPart, CountStep, CountView, SeatRole};

@@ -1,6 +1,6 @@
 //! Threads that add to counters.
 ghost use Rattle.std.specs.Prelude.{◌≡◌, ◌+◌, ◌<◌, ◌≤◌, length, All};
-ghost use Rattle.metric_words.specs.Seats.{bank_id, size_of, worker_bank, IsNewWorker};
+ghost use Rattle.metric_words.specs.CounterLedger.{bank_id, size_of, worker_known, IsNewWorker};
 ghost use Rattle.threads_bench.specs.Ready.{IsReady};
 
 use crate::four::four_of;
@@ -92,21 +92,21 @@ fn add_by_four<R: Threads + Sync>(
     requires apart { (apart ≤ 16) × (size_of bank.now ≡ 64) }
     requires ready { IsReady bank.now four.0 0 × IsReady bank.now four.1 0 × IsReady bank.now four.2 0
         × IsReady bank.now four.3 0 }
-    ensures { (worker_bank result.0 ≡ bank_id bank.now) × (worker_bank result.1 ≡ bank_id bank.now)
-        × (worker_bank result.2 ≡ bank_id bank.now) × (worker_bank result.3 ≡ bank_id bank.now) }
+    ensures { ((worker_known result.0).bank ≡ bank_id bank.now) × ((worker_known result.1).bank ≡ bank_id bank.now)
+        × ((worker_known result.2).bank ≡ bank_id bank.now) × ((worker_known result.3).bank ≡ bank_id bank.now) }
 {
     let (first, second, third, fourth) = four;
     let ((first, second), (third, fourth)) = join(
         rt,
         move || -> (WorkerSeat, WorkerSeat)
             requires { (apart ≤ 16) × IsReady bank.now first 0 × IsReady bank.now second 0 × (size_of bank.now ≡ 64) }
-            ensures { (worker_bank result.0 ≡ bank_id bank.entry.now)
-                × (worker_bank result.1 ≡ bank_id bank.entry.now) }
+            ensures { ((worker_known result.0).bank ≡ bank_id bank.entry.now)
+                × ((worker_known result.1).bank ≡ bank_id bank.entry.now) }
         { add_by_two(rt, bank, (first, second), (0, apart), times) },
         move || -> (WorkerSeat, WorkerSeat)
             requires { (apart ≤ 16) × IsReady bank.now third 0 × IsReady bank.now fourth 0 × (size_of bank.now ≡ 64) }
-            ensures { (worker_bank result.0 ≡ bank_id bank.entry.now)
-                × (worker_bank result.1 ≡ bank_id bank.entry.now) }
+            ensures { ((worker_known result.0).bank ≡ bank_id bank.entry.now)
+                × ((worker_known result.1).bank ≡ bank_id bank.entry.now) }
         { add_by_two(rt, bank, (third, fourth), (2 * apart, 3 * apart), times) },
     );
     (first, second, third, fourth)
@@ -120,7 +120,7 @@ fn add_by_two<R: Threads + Sync>(
     times: u32,
 ) -> (WorkerSeat, WorkerSeat)
     requires ready { IsReady bank.now two.0 ids.0 × IsReady bank.now two.1 ids.1 }
-    ensures { (worker_bank result.0 ≡ bank_id bank.now) × (worker_bank result.1 ≡ bank_id bank.now) }
+    ensures { ((worker_known result.0).bank ≡ bank_id bank.now) × ((worker_known result.1).bank ≡ bank_id bank.now) }
 {
     let (first, second) = two;
     join(
@@ -132,7 +132,7 @@ fn add_by_two<R: Threads + Sync>(
 
 fn add_often(bank: &CounterBank, mut seat: WorkerSeat, id: MetricId, times: u32) -> WorkerSeat
     requires ready { IsReady bank.now seat id.0 }
-    ensures { worker_bank result ≡ bank_id bank.now }
+    ensures { (worker_known result).bank ≡ bank_id bank.now }
 {
     for _ in 0..times {
         bank.add(&mut seat, id, 1);

@@ -1,6 +1,6 @@
 //! Threads that step on one gauge.
 ghost use Rattle.std.specs.Prelude.{◌≡◌, ◌+◌, ◌<◌, length, All};
-ghost use Rattle.metric_words.specs.GaugeLedger.{gauges_id, gauge_bank, IsNewGauge};
+ghost use Rattle.metric_words.specs.GaugeLedger.{gauges_id, gauge_known, IsNewGauge};
 ghost use Rattle.threads_bench.specs.Ready.{IsGaugeReady};
 
 use crate::four::four_of;
@@ -65,21 +65,21 @@ fn call_by_four<R: Threads + Sync>(
 ) -> Four
     requires { IsGaugeReady bank.now four.0 × IsGaugeReady bank.now four.1 × IsGaugeReady bank.now four.2
         × IsGaugeReady bank.now four.3 }
-    ensures { (gauge_bank result.0 ≡ gauges_id bank.now) × (gauge_bank result.1 ≡ gauges_id bank.now)
-        × (gauge_bank result.2 ≡ gauges_id bank.now) × (gauge_bank result.3 ≡ gauges_id bank.now) }
+    ensures { ((gauge_known result.0).bank ≡ gauges_id bank.now) × ((gauge_known result.1).bank ≡ gauges_id bank.now)
+        × ((gauge_known result.2).bank ≡ gauges_id bank.now) × ((gauge_known result.3).bank ≡ gauges_id bank.now) }
 {
     let (first, second, third, fourth) = four;
     let ((first, second), (third, fourth)) = join(
         rt,
         move || -> (GaugeSeat, GaugeSeat)
             requires { IsGaugeReady bank.now first × IsGaugeReady bank.now second }
-            ensures { (gauge_bank result.0 ≡ gauges_id bank.entry.now)
-                × (gauge_bank result.1 ≡ gauges_id bank.entry.now) }
+            ensures { ((gauge_known result.0).bank ≡ gauges_id bank.entry.now)
+                × ((gauge_known result.1).bank ≡ gauges_id bank.entry.now) }
         { call_by_two(rt, bank, (first, second), call, times) },
         move || -> (GaugeSeat, GaugeSeat)
             requires { IsGaugeReady bank.now third × IsGaugeReady bank.now fourth }
-            ensures { (gauge_bank result.0 ≡ gauges_id bank.entry.now)
-                × (gauge_bank result.1 ≡ gauges_id bank.entry.now) }
+            ensures { ((gauge_known result.0).bank ≡ gauges_id bank.entry.now)
+                × ((gauge_known result.1).bank ≡ gauges_id bank.entry.now) }
         { call_by_two(rt, bank, (third, fourth), call, times) },
     );
     (first, second, third, fourth)
@@ -93,7 +93,7 @@ fn call_by_two<R: Threads + Sync>(
     times: u32,
 ) -> (GaugeSeat, GaugeSeat)
     requires { IsGaugeReady bank.now two.0 × IsGaugeReady bank.now two.1 }
-    ensures { (gauge_bank result.0 ≡ gauges_id bank.now) × (gauge_bank result.1 ≡ gauges_id bank.now) }
+    ensures { ((gauge_known result.0).bank ≡ gauges_id bank.now) × ((gauge_known result.1).bank ≡ gauges_id bank.now) }
 {
     let (first, second) = two;
     join(
@@ -105,7 +105,7 @@ fn call_by_two<R: Threads + Sync>(
 
 fn call_often(bank: &GaugeBank, seat: GaugeSeat, call: Call, times: u32) -> GaugeSeat
     requires { IsGaugeReady bank.now seat }
-    ensures { gauge_bank result ≡ gauges_id bank.now }
+    ensures { (gauge_known result).bank ≡ gauges_id bank.now }
 {
     match call {
         Call::Add => add_often(bank, seat, times),
@@ -118,7 +118,7 @@ fn call_often(bank: &GaugeBank, seat: GaugeSeat, call: Call, times: u32) -> Gaug
 
 fn add_often(bank: &GaugeBank, mut seat: GaugeSeat, times: u32) -> GaugeSeat
     requires { IsGaugeReady bank.now seat }
-    ensures { gauge_bank result ≡ gauges_id bank.now }
+    ensures { (gauge_known result).bank ≡ gauges_id bank.now }
 {
     for _ in 0..times {
         bank.add(&mut seat, ID, 1);
@@ -128,7 +128,7 @@ fn add_often(bank: &GaugeBank, mut seat: GaugeSeat, times: u32) -> GaugeSeat
 
 fn sub_often(bank: &GaugeBank, mut seat: GaugeSeat, times: u32) -> GaugeSeat
     requires { IsGaugeReady bank.now seat }
-    ensures { gauge_bank result ≡ gauges_id bank.now }
+    ensures { (gauge_known result).bank ≡ gauges_id bank.now }
 {
     for _ in 0..times {
         bank.sub(&mut seat, ID, 1);
@@ -138,7 +138,7 @@ fn sub_often(bank: &GaugeBank, mut seat: GaugeSeat, times: u32) -> GaugeSeat
 
 fn set_often(bank: &GaugeBank, mut seat: GaugeSeat, times: u32) -> GaugeSeat
     requires { IsGaugeReady bank.now seat }
-    ensures { gauge_bank result ≡ gauges_id bank.now }
+    ensures { (gauge_known result).bank ≡ gauges_id bank.now }
 {
     for _ in 0..times {
         bank.set(&mut seat, ID, 7);
@@ -149,7 +149,7 @@ fn set_often(bank: &GaugeBank, mut seat: GaugeSeat, times: u32) -> GaugeSeat
 // All words are 0 and so name gauge 0, which no compiler knows. The last one is added at the end, so that it is used.
 fn follow_often(bank: &GaugeBank, mut seat: GaugeSeat, times: u32) -> GaugeSeat
     requires { IsGaugeReady bank.now seat }
-    ensures { gauge_bank result ≡ gauges_id bank.now }
+    ensures { (gauge_known result).bank ≡ gauges_id bank.now }
 {
     let mut word = 0u64;
     for _ in 0..times {
@@ -163,7 +163,7 @@ fn follow_often(bank: &GaugeBank, mut seat: GaugeSeat, times: u32) -> GaugeSeat
 // The sum of the readings, which is 0, is added at the end, so that no compiler leaves a reading out.
 fn read_often(bank: &GaugeBank, mut seat: GaugeSeat, times: u32) -> GaugeSeat
     requires { IsGaugeReady bank.now seat }
-    ensures { gauge_bank result ≡ gauges_id bank.now }
+    ensures { (gauge_known result).bank ≡ gauges_id bank.now }
 {
     let mut sum = 0u64;
     for _ in 0..times {

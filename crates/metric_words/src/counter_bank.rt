@@ -1,0 +1,15 @@
+//! A bank of counters, of two words each.
+ghost use Rattle.std.specs.Prelude.{◌≡◌, ◌*◌, ◌<◌};
+
+use crate::counter_plays::Counting;
+use crate::counter_view::{BankKey, CountView};
+use atomic_table::Table;
+use std::alloc::Global;
+
+/// Counters that a bank's seats add to, latch and read. The seats may be with as many threads.
+#[derive(Drop)]
+pub struct CounterBank {
+    pub(crate) table: Table<(), CountView, BankKey, Counting, Global>,
+    ghost sized: { (table.shared.table_id.words ≡ 2 * table.shared.key.size) × (table.shared.table_id.slots ≡ 0)
+        × (0 < table.shared.key.size) },
+}
