@@ -1,17 +1,22 @@
 //! The limits of a book.
 
-/// Metrics that are made in the life of one book, gone ones counted too.
+/// Maximum number of metrics that are made in the life of one book, gone ones counted too.
 pub const MAX_METRICS: usize = 16_384;
 
-/// Histograms among them.
+/// Maximum number of histograms among them.
 pub const MAX_HISTOGRAMS: usize = 1_024;
 
-/// Workers that a book is made for, besides the store itself.
+/// Maximum number of workers that a book is made for.
 pub const MAX_WORKERS: u32 = 32;
 
-/// Openings of scopes in the life of one book by one seat, refused ones counted too. So the numbers of all scopes fit
-/// 32 bits.
+/// Maximum number of openings of scopes by one seat in the life of one book, refused ones counted too. So the numbers of
+/// all scopes fit 32 bits.
 pub const MAX_OPENINGS: usize = 8_388_608;
 
-/// Tokens of one full name.
+/// Maximum number of tokens of one full name.
 pub const MAX_TOKENS: usize = 512;
+
+// The values that operators are told: contracts have them by name.
+const _: () = prove!(MAX_METRICS == 16_384 && MAX_HISTOGRAMS == 1_024 && MAX_WORKERS == 32);
+
+const _: () = prove!(MAX_OPENINGS == 8_388_608 && MAX_TOKENS == 512);

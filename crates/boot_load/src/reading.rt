@@ -6,8 +6,11 @@ use crate::fault::LoadFault;
 use stats_io::{OpenFault, Pulled, Shelf, pull_up_to};
 use std::alloc::Global;
 
-/// A bootstrap has at most so many bytes.
+/// Maximum number of bytes of a bootstrap.
 pub const MAX_BOOT_BYTES: usize = 1_048_576;
+
+// The value that operators are told: contracts have it by name.
+const _: () = prove!(MAX_BOOT_BYTES == 1_048_576);
 
 /// The bytes of the file of that name.
 pub(crate) fn bytes_of<F: Shelf>(

@@ -9,8 +9,11 @@ ghost use Rattle.envoy_stats.specs.Command.{behind_check, behind_bins, command, 
 use replay_report::MAX_FILES;
 use report_text::{Format, OutputOptions};
 
-/// So many values at most have their bins told in one call.
+/// Maximum number of values of one `bins`.
 pub const MAX_VALUES: usize = 64;
+
+// The value that operators are told: contracts have it by name.
+const _: () = prove!(MAX_VALUES == 64);
 
 /// A command with what its words name.
 #[derive(Clone, Copy)]

@@ -1,10 +1,13 @@
 //! The limits of an event file.
 
-/// A line of an event file has at most so many bytes, without its newline.
+/// Maximum number of bytes of a line, without its newline.
 pub const MAX_LINE_BYTES: usize = 1_024;
 
-/// An event file has at most so many bytes.
+/// Maximum number of bytes of an event file.
 pub const MAX_FILE_BYTES: usize = 8_388_608;
 
-/// A file gives at most so many events.
+/// Maximum number of events of a file.
 pub const MAX_EVENTS: u64 = 131_072;
+
+// The values that operators are told: contracts have them by name.
+const _: () = prove!(MAX_LINE_BYTES == 1_024 && MAX_FILE_BYTES == 8_388_608 && MAX_EVENTS == 131_072);

@@ -1,11 +1,11 @@
-ghost use Rattle.std.specs.Prelude.{Some};
+ghost use Rattle.std.specs.Prelude.{None, Some};
 
 use stats_io::{
-    FolderShelf, MemFile, MemShelf, MemSink, OpenFault, Pull, Pulled, Shelf, Sink, Source, StdSink,
+    FileSource, FolderShelf, MemFile, MemShelf, MemSink, OpenFault, Pull, Pulled, Shelf, Sink, Source, StdSink,
     WriteFault, pull_up_to, push_all,
 };
 use std::alloc::Global;
-use std::io::Write;
+use std::io::{Read, Write};
 use std::test::Fail;
 use std::{fs, io};
 
@@ -19,6 +19,62 @@ impl Write for NarrowWriter {
     ghost contents = { λ w. Some w.bytes.items };
 
     fn write(&mut self, buf: &[u8]) -> io::Result<usize> {
+        self.bytes.write(&buf[..buf.len().min(1)])
+    }
+
+    fn flush(&mut self) -> io::Result<()> {
+        Ok(())
+    }
+}
+
+// A stream of which a signal interrupts every other call. It gives and takes one byte at a time.
+#[derive(Drop)]
+struct Interrupted {
+    bytes: Vec<u8>,
+    at: usize,
+    is_next: bool,
+}
+
+impl Interrupted {
+    fn of(bytes: Vec<u8>) -> Interrupted {
+        Interrupted {
+            bytes,
+            at: 0,
+            is_next: true,
+        }
+    }
+
+    // Whether this call is interrupted.
+    fn is_interrupted(&mut self) -> bool {
+        let is_now = self.is_next;
+        self.is_next = !is_now;
+        is_now
+    }
+}
+
+impl Read for Interrupted {
+    ghost remaining = { λ r. None };
+
+    fn read(&mut self, buf: &mut [u8]) -> io::Result<usize> {
+        if self.is_interrupted() {
+            return Err(io::Error::from(io::ErrorKind::Interrupted));
+        }
+        if buf.is_empty() || self.bytes.len() <= self.at {
+            return Ok(0);
+        }
+        buf[0] = self.bytes[self.at];
+        self.at += 1;
+        Ok(1)
+    }
+}
+
+impl Write for Interrupted {
+    ghost contents = { λ w. None };
+
+    fn write(&mut self, buf: &[u8]) -> io::Result<usize> {
+        if self.is_interrupted() {
+            return Err(io::Error::from(io::ErrorKind::Interrupted));
+        }
         self.bytes.write(&buf[..buf.len().min(1)])
     }
 
@@ -138,5 +194,18 @@ fn a_limit(rt: HostRuntime) -> Result<(), Fail> {
         assert_eq!(rt; pull_up_to(alloc, &mut source, limit, &mut bytes)?, wanted);
         assert_eq!(rt; bytes.as_slice(), b"abc".as_slice());
     }
+    Ok(())
+}
+
+#[test]
+fn an_interrupted_stream(rt: HostRuntime) -> Result<(), Fail> {
+    let alloc = rt.alloc();
+    let reader = Interrupted::of(b"abc".to_vec(alloc)?);
+    let mut source = FileSource::new(reader, String::from_str(alloc, "f")?);
+    assert_eq!(rt; pulled(alloc, &mut source, 5)?.as_slice(), b"abc..".as_slice());
+    assert!(rt; source.fault_count() == 0);
+    let mut sink = StdSink::new(Interrupted::of(Vec::new(alloc)));
+    let said = push_all(&mut sink, b"abc");
+    assert!(rt; said.is_ok() && sink.fault_count() == 0);
     Ok(())
 }

@@ -13,8 +13,11 @@ use stats_io::Shelf;
 use std::alloc::Global;
 use tag_rules::{Matcher, TagRules};
 
-/// So many files at most are replayed in one call.
+/// Maximum number of files of one replay.
 pub const MAX_FILES: usize = 32;
+
+// The value that operators are told: contracts have it by name.
+const _: () = prove!(MAX_FILES == 32);
 
 // The report of files that were read, whose store gave this last flush: no other flush, and no readings.
 fn report_of(alloc: Global, runs: Runs, given: LastFlush) -> Result<Report, NoMemory>

@@ -4,35 +4,44 @@ use crate::bins::Bound;
 use crate::lists::List;
 use crate::text::Txt;
 
-/// Tag rules that a bootstrap may add to the default ones, which are 4.
+/// Maximum number of tag rules that a bootstrap adds to the four default ones.
 pub const MAX_TAG_RULES: usize = 64;
 
-/// Patterns of the matcher.
+/// Maximum number of patterns of the matcher.
 pub const MAX_PATTERNS: usize = 32;
 
-/// Bytes of a pattern.
+/// Maximum number of bytes of a pattern.
 pub const MAX_PATTERN_BYTES: usize = 1024;
 
-/// Bytes of a tag's fixed value.
+/// Maximum number of bytes of a tag's fixed value.
 pub const MAX_TAG_VALUE_BYTES: usize = 255;
 
-/// Bucket settings.
+/// Maximum number of bucket settings.
 pub const MAX_BUCKET_SETTINGS: usize = 16;
 
-/// Bounds of one bucket setting.
+/// Maximum number of bounds of one bucket setting.
 pub const MAX_BOUNDS: usize = 64;
 
 /// The greatest bound of a bucket setting.
 pub const MAX_BOUND: u64 = 1_000_000_000_000;
 
-/// Scopes that a bootstrap may add to `root`.
+/// Maximum number of scopes that a bootstrap adds to `root`.
 pub const MAX_SCOPES: usize = 64;
 
-/// Flushes during a run, and admin readings.
+/// Maximum number of flushes during a run, and of admin readings.
 pub const MAX_FLUSHES: u32 = 64;
 
-/// The greatest number of events between two flushes.
+/// Maximum number of events between two flushes.
 pub const MAX_FLUSH_EVERY: u32 = 4_194_304;
+
+// The values that operators are told: contracts have them by name.
+const _: () = prove!(MAX_TAG_RULES == 64 && MAX_PATTERNS == 32 && MAX_PATTERN_BYTES == 1_024);
+
+const _: () = prove!(MAX_TAG_VALUE_BYTES == 255 && MAX_SCOPES == 64 && MAX_FLUSHES == 64);
+
+const _: () = prove!(MAX_BUCKET_SETTINGS == 16 && MAX_BOUNDS == 64);
+
+const _: () = prove!(MAX_BOUND == 1_000_000_000_000 && MAX_FLUSH_EVERY == 4_194_304);
 
 /// How a tag is drawn out of a name: by a regular expression, or always with one value.
 #[derive(Drop, Debug, Clone, PartialEq, Eq)]

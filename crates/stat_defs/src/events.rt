@@ -3,11 +3,14 @@
 use crate::ids::{Kind, Mode};
 use crate::text::Txt;
 
-/// A scope's label has 1 to so many bytes.
+/// Maximum number of bytes of a scope's label, which has at least one.
 pub const MAX_LABEL_BYTES: usize = 32;
 
-/// A local name has 1 to so many bytes, and a scope's prefix has at most so many.
+/// Maximum number of bytes of a local name, which has at least one, and of a scope's prefix.
 pub const MAX_NAME_BYTES: usize = 255;
+
+// The values that operators are told: contracts have them by name.
+const _: () = prove!(MAX_LABEL_BYTES == 32 && MAX_NAME_BYTES == 255);
 
 /// What a gauge event does to its word, which is in two's complement.
 #[derive(Clone, Copy, Debug, PartialEq, Eq)]

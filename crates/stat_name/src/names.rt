@@ -8,8 +8,10 @@ use stat_defs::{NoMemory, Numbers};
 use std::alloc::Global;
 use std::marker::Model;
 
-/// A name has 1 to so many numbers.
+/// Maximum number of symbol numbers of a name, which has at least one.
 pub const MAX_NUMBERS: usize = 512;
+
+const _: () = prove!(MAX_NUMBERS == 512);
 
 /// A metric's name as the symbol numbers of its tokens, from left to right. Contracts see it as their list.
 #[derive(Drop, Debug)]

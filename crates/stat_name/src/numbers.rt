@@ -5,8 +5,10 @@ ghost use Rattle.stat_name.specs.Spelling.{spelling, Takes, BeginsAtMostOne, IsR
 use stat_defs::NoMemory;
 use std::alloc::Global;
 
-/// A spelling has at most so many bytes.
+/// Maximum number of bytes of a spelling: 32 bits in groups of seven.
 pub const MAX_SPELLING_BYTES: usize = 5;
+
+const _: () = prove!(MAX_SPELLING_BYTES == 5);
 
 /// Appends the spelling of the number, which has 1 to 5 bytes. `out` grows by its own allocator.
 pub fn put_number(_alloc: Global, n: u32, out: &mut Vec<u8>) -> Result<(), NoMemory>

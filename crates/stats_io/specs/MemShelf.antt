@@ -1,11 +1,13 @@
 -- What contracts see of a shelf in memory. This project's own.
-use Rattle.std.specs.Prelude.{◌≡◌, ◌<◌, ◌≤◌, ℕ, List, [], ◌∷◌, Vec, Option, None, Some, nat_eq, if◌then◌else◌}
+use Rattle.std.specs.Prelude.{◌≡◌, ◌<◌, ◌≤◌, ℕ, List, [], ◌∷◌, Vec, Option, None, Some, Result, Ok, Err, nat_eq, if◌then◌else◌}
 use Rattle.std.specs.Prelude.{string_bytes, length, slice_index_or, map}
 use Rattle.std.specs.Option.{option_map}
 use Rattle.std.specs.Cmp.Lexicographic.{pointwise}
 use Rattle.std.specs.declared.alloc.Global.{Global}
 use Rattle.stats_io.specs.States.{ShelfState}
-use Rattle.stats_io.specs.MemSource.{MemSourceState}
+use Rattle.stats_io.specs.MemSource.{MemSourceState, counted}
+use Rattle.stats_io.specs.declared.shelf.OpenFault.{OpenFault}
+use Rattle.stats_io.specs.declared.shelf.OpenFault.TheVariants as fault
 use Rattle.stats_io.specs.declared.file.MemFile.{MemFile}
 
 -- a file: its name, its bytes, and how the sources that are opened on it behave
@@ -40,6 +42,12 @@ abbrev pub IsSourceOf : List ℕ → Option MemFileState → MemSourceState → 
 IsSourceOf name None source = ⊥
 IsSourceOf name (Some f) source =
     source ≡ record { origin = name; left = f.bytes; piece = f.piece; fails = f.fails; calls = 0; faults = 0 }
+
+-- an opening is counted; a failed one is counted as failed too, with its name; one without memory changes nothing
+abbrev pub opened : {S : Type 0} → List ℕ → Result S OpenFault → MemShelfState → MemShelfState
+opened name (Ok _) s = record s { calls = counted s.calls }
+opened name (Err fault.Failed) s = record s { calls = counted s.calls; faults = counted s.faults; failed = name }
+opened name (Err fault.NoMemory) s = s
 
 -- a file as the code has it
 abbrev pub mem_file : MemFile → MemFileState

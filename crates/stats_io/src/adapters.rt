@@ -1,15 +1,16 @@
 //! Readers, writers and the files of the system, the trusted edge. They count their failures, and tell the bytes that
 //! std tells of a reader or a writer: of files and streams of the system, none.
-ghost use Rattle.std.specs.Prelude.{None, []};
+ghost use Rattle.std.specs.Prelude.{◌≡◌, ◌≤◌, None, [], IfOk, length};
+ghost use Rattle.std.specs.Io.KnownBytes.{ReadConsumes, WriteAppends};
 
 use crate::shelf::{OpenFault, Shelf};
 use crate::sink::{Push, Sink};
 use crate::source::{Pull, Source};
 use std::alloc::Global;
-use std::fs;
 use std::io::{Read, Write};
 use std::marker::{Model, Send};
 use std::rt::Files;
+use std::{fs, io};
 
 /// An open file, or another reader. A read that fails takes nothing and is counted.
 #[derive(Drop)]
@@ -43,11 +44,26 @@ impl<F> FileSource<F> {
     }
 }
 
+// Reads once. A read that a signal interrupts is made again, as the loops of std do.
+fn read_once<F: Read>(reader: &mut F, into: &mut [u8]) -> io::Result<usize>
+    ensures room { length into.new ≡ length into.old }
+    ensures fits { IfOk result (λ n. n ≤ length into.old) }
+    ensures bytes { ReadConsumes (F.remaining reader.old) (F.remaining reader.new) result into.new }
+{
+    for _ in 0..u64::MAX {
+        match reader.read(into) {
+            Err(fault) if fault.kind() == io::ErrorKind::Interrupted => {}
+            told => return told,
+        }
+    }
+    Err(io::Error::from(io::ErrorKind::Interrupted))
+}
+
 impl<F: Read> Source for FileSource<F> {
     ghost state = { λ s. record { left = F.remaining s.reader; origin = s.name; faults = s.faults } };
 
     fn pull(&mut self, into: &mut [u8]) -> Pull {
-        match self.inner.read(into) {
+        match read_once(&mut self.inner, into) {
             Ok(0) => Pull::End,
             Ok(count) => Pull::Bytes(count),
             Err(_) => {
@@ -147,11 +163,25 @@ impl<W> StdSink<W> {
     }
 }
 
+// Writes once. A write that a signal interrupts is made again, as the loops of std do.
+fn write_once<W: Write>(writer: &mut W, piece: &[u8]) -> io::Result<usize>
+    ensures fits { IfOk result (λ n. n ≤ length piece.now) }
+    ensures bytes { WriteAppends (W.contents writer.old) (W.contents writer.new) result piece.now }
+{
+    for _ in 0..u64::MAX {
+        match writer.write(piece) {
+            Err(fault) if fault.kind() == io::ErrorKind::Interrupted => {}
+            told => return told,
+        }
+    }
+    Err(io::Error::from(io::ErrorKind::Interrupted))
+}
+
 impl<W: Write> Sink for StdSink<W> {
     ghost state = { λ s. record { written = W.contents s.writer; faults = s.faults } };
 
     fn push(&mut self, piece: &[u8]) -> Push {
-        match self.inner.write(piece) {
+        match write_once(&mut self.inner, piece) {
             Ok(0) | Err(_) => {
                 self.faults = self.faults.saturating_add(1);
                 Push::Failed

@@ -1,9 +1,8 @@
 //! A shelf in memory.
-ghost use Rattle.std.specs.Prelude.{◌≡◌, ◌≢◌, ◌≤◌, ◌+◌, ◌-◌, ◌^◌, ◌⊎◌, ℕ, List, None, [], map, All, Err, IfOk, OnOk};
-ghost use Rattle.std.specs.Prelude.{Contains, min};
+ghost use Rattle.std.specs.Prelude.{◌≡◌, ◌≢◌, ◌≤◌, ◌⊎◌, ℕ, List, None, [], map, All, Err, IfOk, OnOk, Contains};
 ghost use Rattle.stats_io.specs.Open.{IsUnpulled, IsUnopened};
-ghost use Rattle.stats_io.specs.MemSource.{as_source};
-ghost use Rattle.stats_io.specs.MemShelf.{IsSourceOf, as_shelf, file_named, held_by};
+ghost use Rattle.stats_io.specs.MemSource.{as_source, counted};
+ghost use Rattle.stats_io.specs.MemShelf.{IsSourceOf, as_shelf, file_named, held_by, opened};
 
 use crate::file::{MemFile, first_named};
 use crate::mem_source::MemSource;
@@ -66,8 +65,8 @@ impl MemShelf {
     fn refuse(&mut self, name: Vec<u8>) -> OpenFault
         ensures fault { result ≡ OpenFault.Failed }
         ensures shelf { self.new ≡ record self.old {
-          calls = min (self.old.calls + 1) (2 ^ 64 - 1);
-          faults = min (self.old.faults + 1) (2 ^ 64 - 1);
+          calls = counted self.old.calls;
+          faults = counted self.old.faults;
           failed = name.items;
         } }
     {
@@ -98,10 +97,7 @@ impl Shelf for MemShelf {
         ensures sure { OnOk result (¬ (Contains self.old.fails self.old.calls)) }
         ensures fails { result ≡ Err OpenFault.Failed
             → Contains self.old.fails self.old.calls ⊎ (file_named self.old.files name.now ≡ None) }
-        ensures same_files { self.new.files ≡ self.old.files }
-        ensures same_fails { self.new.fails ≡ self.old.fails }
-        ensures calls { ¬ (result ≡ Err OpenFault.NoMemory) → self.new.calls ≡ min (self.old.calls + 1) (2 ^ 64 - 1) }
-        ensures unchanged { result ≡ Err OpenFault.NoMemory → self.new ≡ self.old }
+        ensures state { self.new ≡ opened name.now result self.old }
     {
         let call = self.calls;
         let last = name.as_bytes().to_vec(alloc)?;

@@ -2,7 +2,7 @@
 ghost use Rattle.std.specs.Prelude.{◌≡◌, ◌<◌, ◌≤◌, ◌⊎◌, [], length, IfOk, Contains, min, ◌+◌, ◌-◌, ◌^◌};
 ghost use Rattle.stat_defs.specs.Faults.{Rose};
 ghost use Rattle.stats_io.specs.Push.{IfTook, FitsPiece, Pushes};
-ghost use Rattle.stats_io.specs.MemSink.{as_sink};
+ghost use Rattle.stats_io.specs.MemSink.{as_sink, pushed};
 
 use crate::sink::{Push, Sink};
 use stat_defs::NoMemory;
@@ -86,14 +86,10 @@ impl Sink for MemSink {
         ensures failed { result ≡ Push.Failed → Rose self.old.faults self.new.faults }
         ensures fits { IfTook result
             (λ k. k ≡ min (min (length piece.now) self.old.piece) (self.old.room - length self.old.written)) }
-        ensures kept { IfTook result (λ _. self.new.faults ≡ self.old.faults) }
         ensures sure { IfTook result (λ _. ¬ (Contains self.old.fails self.old.calls)) }
         ensures fails { result ≡ Push.Failed
             → Contains self.old.fails self.old.calls ⊎ (length self.old.written ≡ self.old.room) }
-        ensures same_piece { self.new.piece ≡ self.old.piece }
-        ensures same_fails { self.new.fails ≡ self.old.fails }
-        ensures same_room { self.new.room ≡ self.old.room }
-        ensures calls { self.new.calls ≡ min (self.old.calls + 1) (2 ^ 64 - 1) }
+        ensures state { self.new ≡ pushed result piece.now self.old }
     {
         let call = self.calls;
         self.calls = call.saturating_add(1);

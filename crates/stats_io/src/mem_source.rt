@@ -3,7 +3,7 @@ ghost use Rattle.std.specs.Prelude.{◌≡◌, ◌<◌, ◌≤◌, ◌↔◌, le
 ghost use Rattle.stat_defs.specs.Faults.{Rose};
 ghost use Rattle.stats_io.specs.States.{IsLater};
 ghost use Rattle.stats_io.specs.Pull.{IfBytes, FitsRoom, Pulls};
-ghost use Rattle.stats_io.specs.MemSource.{as_source, as_sure_source};
+ghost use Rattle.stats_io.specs.MemSource.{as_source, as_sure_source, pulled};
 
 use crate::source::{Pull, Source};
 use std::marker::Model;
@@ -75,10 +75,7 @@ impl Source for MemSource {
         ensures fails { (result ≡ Pull.Failed) ↔ Contains self.old.fails self.old.calls }
         ensures whole_piece { IfBytes result
             (λ k. k ≡ min (min (length self.old.left) self.old.piece) (length into.old)) }
-        ensures sure { ¬ (result ≡ Pull.Failed) → self.new.faults ≡ self.old.faults }
-        ensures same_piece { self.new.piece ≡ self.old.piece }
-        ensures same_fails { self.new.fails ≡ self.old.fails }
-        ensures calls { self.new.calls ≡ min (self.old.calls + 1) (2 ^ 64 - 1) }
+        ensures state { self.new ≡ pulled result self.old }
     {
         let call = self.calls;
         self.calls = call.saturating_add(1);

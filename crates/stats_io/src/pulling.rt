@@ -8,8 +8,10 @@ use crate::source::{Pull, Source};
 use stat_defs::NoMemory;
 use std::alloc::Global;
 
-/// A pull takes at most so many bytes.
+/// Maximum number of bytes of one pull.
 pub const PULL_BYTES: usize = 65_536;
+
+const _: () = prove!(PULL_BYTES == 65_536);
 
 /// Where the pulling of a source stopped: at its end, at its first fault, or at the first byte too many.
 #[derive(Clone, Copy, Debug, PartialEq, Eq)]
@@ -26,8 +28,8 @@ fn zeros(alloc: Global, count: usize) -> Result<Vec<u8>, NoMemory>
     Ok(vec![in alloc; 0u8; count]?)
 }
 
-/// Pulls the source until it ends, fails or has given so many bytes that there are more than `limit`, and adds what
-/// came behind the bytes that are there. One pull at most goes past the limit (`bound`). Without memory the bytes that
+/// Pulls the source until it ends, fails or has given more bytes than `limit`, and adds what came behind the bytes that
+/// are there. One pull at most goes past the limit (`bound`). Without memory the bytes that
 /// came before stay.
 pub fn pull_up_to<S: Source>(
     alloc: Global,

@@ -18,8 +18,10 @@ use stat_name::StatName;
 use std::alloc::Global;
 use std::marker::Model;
 
-/// The uses of all tokens together stay below so many.
+/// The uses of all tokens together stay below this number.
 pub const MAX_USES: usize = 16_777_216;
+
+const _: () = prove!(MAX_USES == 16_777_216);
 
 /// The tokens of names in use. Contracts see a table as the finite map from each number in use to its token and the
 /// count of its uses.

@@ -1,13 +1,15 @@
 //! Compiled regular expressions.
-ghost use Rattle.std.specs.Prelude.{◌≡◌, ◌≤◌, IfOk, IfErr, IfSome, OnOk, length, option_map};
+ghost use Rattle.std.specs.Prelude.{◌≡◌, ◌≤◌, nat_lt, IfOk, IfErr, IfSome, OnOk, length, vec_len, option_map};
 ghost use Rattle.regex.specs.Failures.{IsRightKind};
 ghost use Rattle.regex.specs.Patterns.{default_config};
 ghost use Rattle.regex.specs.Sources.{IsRefusal};
 ghost use Rattle.regex_vm.specs.Found.{span, group_cells};
+ghost use Rattle.tag_rules.specs.declared.pat.TheConstants.{MAX_STATES};
 ghost use Rattle.tag_rules.specs.Machines.{places_in};
 ghost use Rattle.tag_rules.specs.Patterns.{leftmost, is_found, captured, IsPlaceIn};
 
 use crate::machine::{self, place_of};
+use crate::starts::Starts;
 use regex::Error;
 use regex_nfa::Nfa;
 use regex_syntax::Config;
@@ -16,11 +18,14 @@ use stat_defs::Txt;
 use std::alloc::{AllocError, Global};
 use std::marker::Model;
 
-/// The most states that the program of a pattern has.
+/// Maximum number of states of a pattern's program.
 pub const MAX_STATES: usize = 16_384;
 
-/// The most bytes that the states and the transitions of a program take, without the two states that each begins with.
+/// Maximum number of bytes of a program's states and transitions, without the two states that each begins with.
 pub const MAX_TABLE_BYTES: usize = 1_048_576;
+
+// The values that operators are told: contracts have them by name.
+const _: () = prove!(MAX_STATES == 16_384 && MAX_TABLE_BYTES == 1_048_576);
 
 /// The groups that a search asks for, group 0 included.
 const GROUPS: u32 = 3;
@@ -31,18 +36,21 @@ const GROUPS: u32 = 3;
 pub struct Pat {
     text: Txt,
     nfa: Nfa,
+    starts: Starts,
 }
 
 impl Model for Pat {
     ghost use Rattle.std.specs.Prelude.{◌≤◌, ℕ, List, vec_len};
     ghost use Rattle.tag_rules.specs.declared.pat.TheConstants.{MAX_STATES};
     ghost use Rattle.tag_rules.specs.Machines.{Runs};
+    ghost use Rattle.tag_rules.specs.Starts.{KnowsRuns};
 
     ghost Value = { List ℕ };
 
     ghost view = { λ p. p.text };
 
-    ghost invariant = { λ p. (6 ≤ p.nfa.slot_count) × Runs p.nfa p.text × (vec_len p.nfa.states ≤ MAX_STATES) };
+    ghost invariant = { λ p. (6 ≤ p.nfa.slot_count) × Runs p.nfa p.text × (vec_len p.nfa.states ≤ MAX_STATES)
+        × KnowsRuns p.starts p.nfa };
 }
 
 impl Pat {
@@ -62,11 +70,12 @@ impl Pat {
             return Err(Error::CompiledTooBig);
         };
         let nfa = regex_compile::compile(alloc, &parsed.hir, groups.max(GROUPS), MAX_TABLE_BYTES)?;
-        if nfa.states.len() > MAX_STATES {
+        if has_too_many_states(&nfa) {
             return Err(Error::CompiledTooBig);
         }
+        let starts = Starts::of(alloc, &parsed.hir)?;
         let text = Txt::of_vec(text.as_bytes().to_vec(alloc)?);
-        Ok(Pat { text, nfa })
+        Ok(Pat { text, nfa, starts })
     }
 
     /// Whether the pattern is found in the name.
@@ -112,8 +121,15 @@ impl Pat {
         ensures cells { OnOk result (IfSome (leftmost self.now name.now)
             (λ m. cells.new ≡ group_cells m (length cells.old))) }
     {
-        machine::leftmost(alloc, &self.nfa, tracker, name, cells)
+        machine::leftmost(alloc, &self.nfa, &self.starts, tracker, name, cells)
     }
+}
+
+// Whether the program is one that `Pat::new` refuses for its states.
+fn has_too_many_states(nfa: &Nfa) -> bool
+    ensures { result ≡ nat_lt MAX_STATES (vec_len nfa.now.states) }
+{
+    nfa.states.len() > MAX_STATES
 }
 
 // The places of the first group and of the value.
