@@ -13,6 +13,7 @@ pub struct SharedBook {
 }
 
 /// How a seat reaches the book: the runtime that may wait, and the book's lock.
+#[derive(Drop)]
 pub struct Way<'a, R: Wait> {
     pub rt: &'a R,
     pub book: &'a SharedBook,
