@@ -1,14 +1,17 @@
 -- A book that none but its seat calls: the seat finds what it left.
-use Rattle.std.proofs.Common.{◌≡◌, ◌≢◌, ℕ, ◌++◌, ◌≤◌, List, [], ◌∷◌, refl, ap, sym, ◌∙◌, arith, Result, Ok, Err, IfOk, OnOk, OnErr, append-nil}
+use Rattle.std.proofs.Common.{◌≡◌, ◌≢◌, ℕ, ◌++◌, ◌≤◌, List, [], ◌∷◌, refl, ap, sym, ◌∙◌, arith, Result, Ok, Err, IfOk, OnOk, OnErr, append-nil, subst}
 use Rattle.std.proofs.lemmas.List.Elements.{All-nil}
 use Rattle.stat_defs.specs.Books.{BookHistory, releases_in}
 use Rattle.stat_defs.specs.declared.history.Entry.{Entry}
-use Rattle.stat_book.specs.Calls.{IsLegal}
+use Rattle.stat_defs.specs.declared.history.Call.{Call}
+use Rattle.stat_defs.specs.declared.history.Reply.{Reply}
+use Rattle.stat_book.specs.Calls.{IsLegal, Logged}
+use Rattle.std.proofs.lemmas.List.{append_cancel_right}
 use Rattle.seat_history.specs.declared.known.LogKnown.{LogKnown}
 use Rattle.seat_history.specs.History.{Finds, past, found_log, left_log}
 use Rattle.seat_history.proofs.Logs.{past-goes-on, past-none}
 use Rattle.book_access.specs.Calling.{Calls}
-use Rattle.book_access.specs.Making.{IsAsFound, AddsOne}
+use Rattle.book_access.specs.Making.{IsAsFound, LogsCall, AddsOne}
 use Rattle.book_access.specs.Owned.{owned_known}
 
 module _ (number : ℕ) (old new : BookHistory) where
@@ -68,3 +71,43 @@ module _ (number : ℕ) (old new : BookHistory) where
   pub owned_kept : {T E : Type 0} (r : Result T E) → IsLegal new → OnErr r (new ≡ old) → OnErr r (Calls IsAsFound (owned_known number old) (owned_known number new))
   owned_kept (Ok x) legal err = tt
   owned_kept (Err x) legal err = owned_calls IsAsFound err legal [] (err ∙ λ i. record { config = old.config; workers = old.workers; log = sym (append-nil old.log) i })
+
+-- What a call of the seat made, it made of the book itself: nothing came between.
+module _ (number number' : ℕ) (a b : BookHistory) (Makes : ℕ → BookHistory → BookHistory → Type 0) (under : Calls Makes (owned_known number a) (owned_known number' b))
+    (mine : List Entry) (logged : under.last ≡ record under.found { log = under.found.log ++ mine }) where
+  same_number : number' ≡ number
+  same_number = ap (λ (k : LogKnown). k.number) under.leaves
+
+  log_is : under.last.log ≡ under.found.log ++ mine
+  log_is = ap (λ (h : BookHistory). h.log) logged
+
+  left_is : b.log ≡ under.last.log
+  left_is = ap (λ (k : LogKnown). k.known) under.leaves
+
+  found_log_is : under.found.log ≡ a.log
+  found_log_is = append_cancel_right under.found.log a.log mine
+      (sym log_is ∙ (sym left_is ∙ (ap (λ (k : LogKnown). k.made) under.leaves ∙ ap (λ (l : List Entry). a.log ++ l) (past-goes-on under.found.log under.last.log mine log_is))))
+
+  found_is : under.found ≡ a
+  found_is = λ i. record { config = under.finds.config i; workers = under.finds.workers i; log = found_log_is i }
+
+  last_is : under.last ≡ b
+  last_is = λ i. record { config = config_is i; workers = workers_is i; log = sym left_is i } where
+    config_is : under.last.config ≡ b.config
+    config_is = ap (λ (h : BookHistory). h.config) logged ∙ (under.finds.config ∙ sym (ap (λ (k : LogKnown). k.config) under.leaves))
+
+    workers_is : under.last.workers ≡ b.workers
+    workers_is = ap (λ (h : BookHistory). h.workers) logged ∙ (under.finds.workers ∙ sym (ap (λ (k : LogKnown). k.workers) under.leaves))
+
+  made_own : Makes number a b
+  made_own = subst (λ (h : BookHistory). Makes number h b) found_is (subst (λ (h : BookHistory). Makes number under.found h) last_is under.makes)
+
+module _ (number number' : ℕ) (a b : BookHistory) where
+  pub owned_logged : (c : Call) (r : Reply) → Calls (LogsCall c r) (owned_known number a) (owned_known number' b) → (Logged a number c r b) × (number' ≡ number)
+  owned_logged c r under = let mine = record { seat = number; call = c; reply = r } ∷ [] in
+      (made_own number number' a b (LogsCall c r) under mine under.makes.logged, same_number number number' a b (LogsCall c r) under mine under.makes.logged)
+
+  pub owned_same : Calls IsAsFound (owned_known number a) (owned_known number' b) → (b ≡ a) × (number' ≡ number)
+  owned_same under = (made_own number number' a b IsAsFound under [] none, same_number number number' a b IsAsFound under [] none) where
+    none : under.last ≡ record under.found { log = under.found.log ++ [] }
+    none = under.makes ∙ λ i. record { config = under.found.config; workers = under.found.workers; log = sym (append-nil under.found.log) i }

@@ -1,7 +1,7 @@
 -- Seats of a lock with their numbers and without.
-use Rattle.std.proofs.Common.{◌≡◌, ℕ, zero, suc, ◌+◌, ◌<◌, ◌≤◌, List, [], ◌∷◌, ◌++◌, length, map, refl, ap, sym, ◌∙◌, subst, arith, append_assoc, length-append, All}
+use Rattle.std.proofs.Common.{◌≡◌, ℕ, zero, suc, ◌+◌, ◌≤◌, List, [], ◌∷◌, ◌++◌, length, map, refl, ap, sym, ◌∙◌, subst, arith, append_assoc, length-append, All, Some}
 use Rattle.std.proofs.lemmas.List.{map-append, length-map}
-use Rattle.std.proofs.lemmas.List.Elements.{All-nil, All-cons, All-head, All-tail}
+use Rattle.std.proofs.lemmas.List.Elements.{All-nil, All-cons, All-head, All-tail, All-pop}
 use Rattle.stat_defs.specs.Books.{BookHistory}
 use Rattle.seat_history.specs.declared.known.LogKnown.{LogKnown}
 use Rattle.seat_history.specs.History.{new_known}
@@ -12,7 +12,7 @@ use Rattle.book_lock.specs.Locked.{new_parts}
 use Rattle.book_lock.specs.Seats.{AtRest, AreNew, AreAll, lock_id, seat_lock, seat_part, seat_known, seat_number, seats_of}
 use Rattle.locked_book.specs.declared.shared.SharedBook.{SharedBook}
 use Rattle.locked_book.specs.declared.shared.LockedBook.{LockedBook}
-use Rattle.locked_book.specs.Sharing.{known_by, bare_seat, IsSeatOf, new_seats, first_of, seat_count, AreNewSeats, AreAllSeats}
+use Rattle.locked_book.specs.Sharing.{known_by, bare_seat, IsSeatOf, new_seats, first_of, AreNewSeats, AreAllSeats}
 
 abbrev Bare : Type 0
 Bare = LockSeat BookHistory
@@ -75,10 +75,10 @@ own_all book [] rest = All-nil (IsSeatOf book)
 own_all book (s ∷ ss) rest = All-cons (IsSeatOf book) s ss (All-head (AtRest (lock_id book.lock)) s.seat (map bare_seat ss) rest).0 (own_all book ss (All-tail (AtRest (lock_id book.lock)) s.seat (map bare_seat ss) rest))
 
 -- the seats of a new lock, with their numbers
-pub new_numbered : (book : SharedBook) (seats : List LockedBook) (bare : List Bare) → map bare_seat seats ≡ bare → AreNew (lock_id book.lock) (first_of book) (seat_count book) bare → AreNewSeats book seats
-new_numbered book seats bare is new = record {
+pub new_numbered : (book : SharedBook) (seats : List LockedBook) (bare : List Bare) (count : ℕ) → map bare_seat seats ≡ bare → AreNew (lock_id book.lock) (first_of book) count bare → AreNewSeats book count seats
+new_numbered book seats bare count is new = record {
   own = own_all book seats (subst (λ (l : List Bare). All (AtRest (lock_id book.lock)) l) (sym is) new.rest);
-  known = known_all seats ∙ (ap (λ (l : List Bare). map (λ (p : LockPart). p.seat) (map seat_part l)) is ∙ (ap (map (λ (p : LockPart). p.seat)) new.parts ∙ known_parts (first_of book) 0 (seat_count book)));
+  known = known_all seats ∙ (ap (λ (l : List Bare). map (λ (p : LockPart). p.seat) (map seat_part l)) is ∙ (ap (map (λ (p : LockPart). p.seat)) new.parts ∙ known_parts (first_of book) 0 count));
 }
 
 rest_all : (book : SharedBook) (seats : List LockedBook) → All (IsSeatOf book) seats → All (AtRest (lock_id book.lock)) (map bare_seat seats)
@@ -95,3 +95,40 @@ all_bare book seats bare is all = record {
 pub known_bare : (seats : List LockedBook) → map seat_known (map bare_seat seats) ≡ map known_by seats
 known_bare [] = refl
 known_bare (s ∷ ss) = ap (λ (l : List LogKnown). known_by s ∷ l) (known_bare ss)
+
+one_more : (first : BookHistory) (k n : ℕ) → new_seats first k (n + 1) ≡ new_seats first k n ++ new_known first (k + n) ∷ []
+one_more first k zero = (let e : k ≡ k + 0 = omega arith in ap (λ (j : ℕ). new_known first j ∷ []) e)
+one_more first k (suc n) = let e : suc k + n ≡ k + suc n = omega arith in let f : suc n + 1 ≡ suc (n + 1) = omega arith in
+    ap (new_seats first k) f ∙ ap (λ (l : List LogKnown). new_known first k ∷ l) (one_more first (suc k) n ∙ ap (λ (j : ℕ). new_seats first (suc k) n ++ new_known first j ∷ []) e)
+
+front : List LogKnown → List LogKnown
+front [] = []
+front (x ∷ []) = []
+front (x ∷ y ∷ xs) = x ∷ front (y ∷ xs)
+
+front_of : (xs : List LogKnown) (x : LogKnown) → front (xs ++ x ∷ []) ≡ xs
+unfolding front
+front_of [] x = refl
+front_of (y ∷ []) x = refl
+front_of (y ∷ z ∷ xs) x = ap (λ (l : List LogKnown). y ∷ l) (front_of (z ∷ xs) x)
+
+last_or : LogKnown → List LogKnown → LogKnown
+last_or d [] = d
+last_or d (x ∷ xs) = last_or x xs
+
+last_of : (d : LogKnown) (xs : List LogKnown) (x : LogKnown) → last_or d (xs ++ x ∷ []) ≡ x
+unfolding last_or
+last_of d [] x = refl
+last_of d (y ∷ xs) x = last_of y xs x
+
+-- the last seat is taken off the list of a new book's seats
+pub new_last : (book : SharedBook) (n : ℕ) (all seats : List LockedBook) (s : LockedBook) → all ≡ seats ++ s ∷ [] → AreNewSeats book (n + 1) all
+    → IsSeatOf book s × (known_by s ≡ new_known (first_of book) n) × AreNewSeats book n seats
+new_last book n all seats s e new =
+    let first = first_of book in let d = known_by s in let zero_plus : 0 + n ≡ n = omega arith in
+    let known : map known_by seats ++ known_by s ∷ [] ≡ new_seats first 0 n ++ new_known first (0 + n) ∷ [] = sym (map-append known_by seats (s ∷ [])) ∙ (ap (map known_by) (sym e) ∙ (new.known ∙ one_more first 0 n)) in
+    let own = All-pop (IsSeatOf book) all seats (Some s) e new.own in (
+      own.1,
+      sym (last_of d (map known_by seats) d) ∙ (ap (last_or d) known ∙ (last_of d (new_seats first 0 n) (new_known first (0 + n)) ∙ ap (new_known first) zero_plus)),
+      record { own = own.0; known = sym (front_of (map known_by seats) d) ∙ (ap front known ∙ front_of (new_seats first 0 n) (new_known first (0 + n))) },
+    )

@@ -1,5 +1,5 @@
 -- Lists of metrics by their kind.
-use Rattle.std.proofs.Common.{◌≡◌, ℕ, suc, ◌+◌, ◌<◌, ◌≤◌, Bool, true, false, not, cond, List, [], ◌∷◌, length, filter, All, ap, sym, ◌∙◌, subst, arith, Result, Ok, Err, IfOk, refl}
+use Rattle.std.proofs.Common.{◌≡◌, ℕ, suc, ◌+◌, ◌<◌, ◌≤◌, Bool, true, false, not, cond, List, [], ◌∷◌, length, filter, All, sym, subst, arith, Result, Ok, Err, IfOk, refl}
 use Rattle.std.proofs.lemmas.List.{length-map}
 use Rattle.std.proofs.lemmas.List.Elements.{All-cons, All-nil, All-weaker, All-filter}
 use Rattle.stat_defs.specs.Books.{BookHistory}
@@ -29,10 +29,11 @@ pub names_within : (s : State) (ids : List MetricId) → ids ≡ names_in s → 
 names_within s ids is = subst (λ (l : List MetricId). All (λ (id : MetricId). id.0 < length s.metrics) l) (sym is)
     (subst (λ (n : ℕ). All (λ (id : MetricId). id.0 < n) (names_in s)) (let l = length-map s.metrics (λ (row : Row). row.metric) in same (length (metrics_of s)) (length s.metrics) l) (ids_within (λ (m : Metric). not (is_gone m.life)) 0 (metrics_of s)))
 
-few_metrics : (book : BookHistory) → IsLegal book → length (state_of book).metrics ≤ MAX_METRICS
+-- as many metrics were made as a store may have, or fewer
+pub few_metrics : (book : BookHistory) → IsLegal book → length (state_of book).metrics ≤ MAX_METRICS
 few_metrics book legal = (run_kept_all (rules_of book) (empty book.workers) book.log (empty_run book.workers) legal.steps).few
 
--- and are numbers of a store's metrics, whichever of them are taken
+-- the listed metrics, whichever of them are taken, are those of a store
 pub metrics_listed : (book : BookHistory) (f : MetricId → Bool) (ids those : List MetricId) → IsLegal book → ids ≡ names_in (state_of book) → those ≡ filter f ids → AreMetrics those
 metrics_listed book f ids those legal is filtered =
     let few = few_metrics book legal in

@@ -32,10 +32,10 @@ abbrev pub new_seats : BookHistory → ℕ → ℕ → List LogKnown
 new_seats first number zero = []
 new_seats first number (suc n) = new_known first number ∷ new_seats first (suc number) n
 
--- the seats of a new book, in the order of their numbers from 0 on
-pub record AreNewSeats (book : SharedBook) (seats : List LockedBook) : Type 0 where
+-- seats of a new book, in the order of their numbers from 0 on
+pub record AreNewSeats (book : SharedBook) (count : ℕ) (seats : List LockedBook) : Type 0 where
   pub own : All (IsSeatOf book) seats
-  pub known : map known_by seats ≡ new_seats (first_of book) 0 (seat_count book)
+  pub known : map known_by seats ≡ new_seats (first_of book) 0 count
 
 -- as many seats of the book as it was made with
 pub record AreAllSeats (book : SharedBook) (seats : List LockedBook) : Type 0 where

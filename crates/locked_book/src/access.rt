@@ -17,12 +17,7 @@ impl<'a, R: Wait> BookAccess<Way<'a, R>> for LockedBook {
 
     ghost rests = { λ way it. IsSeatOf way.book.now it };
 
-    fn find(
-        &mut self,
-        way: &Way<'a, R>,
-        alloc: Global,
-        key: &Key,
-    ) -> Result<FindAnswer, NoMemory> {
+    fn find(&mut self, way: &Way<'a, R>, alloc: Global, key: &Key) -> Result<FindAnswer, NoMemory> {
         let lock = &way.book.lock;
         let mut held = lock.enter(way.rt, &mut self.seat);
         let answer = find_in(held.book(), alloc, self.number, key);

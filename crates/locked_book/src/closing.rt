@@ -32,7 +32,10 @@ fn bare_seats(seats: Vec<LockedBook>, bare: &mut Vec<LockSeat<Book>>)
     ensures { bare.new.items ≡ map bare_seat seats.items }
 {
     for seat in seats {
-        let LockedBook { seat: lone, number: _ } = seat;
+        let LockedBook {
+            seat: lone,
+            number: _,
+        } = seat;
         bare.push_reserved(lone);
     }
 }

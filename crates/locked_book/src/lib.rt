@@ -12,5 +12,6 @@ mod making;
 mod shared;
 mod sweeping;
 
-pub use listing::Listing;
+pub use listing::{Listing, listing_of};
 pub use shared::{LockedBook, SharedBook, Way};
+pub use sweeping::sweep_in;

@@ -16,7 +16,8 @@ pub struct Listing {
     pub gauges: List<MetricId>,
 }
 
-pub(crate) fn listing_of(alloc: Global, book: &Book) -> Result<Listing, NoMemory>
+/// The listing of a book. It takes time in the metrics that are not gone.
+pub fn listing_of(alloc: Global, book: &Book) -> Result<Listing, NoMemory>
     ensures lists { IfOk result (λ listing. Lists listing book.now) }
     ensures legal { IsLegal book.now }
 {

@@ -19,7 +19,7 @@ impl SharedBook {
     ) -> Result<(SharedBook, Vec<LockedBook>), NoMemory>
         requires { 0 < seats }
         ensures book { IfOk result (λ r. (first_of r.0 ≡ book) × (seat_count r.0 ≡ seats)) }
-        ensures seats { IfOk result (λ r. AreNewSeats r.0 r.1.items) }
+        ensures seats { IfOk result (λ r. AreNewSeats r.0 seats r.1.items) }
     {
         let Ok(mut numbered) = Vec::with_capacity(alloc, seats as usize) else {
             drop(book);

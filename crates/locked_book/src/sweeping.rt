@@ -13,12 +13,13 @@ use stat_defs::NoMemory;
 use std::alloc::Global;
 use std::sync::Wait;
 
-// The listing takes its memory before the sweep does: nothing fails behind the entry of the sweep.
-fn sweep_in(book: &mut Book, alloc: Global) -> Result<Listing, NoMemory>
+/// Sweeps a book as the store's seat, and returns what was not gone before the sweep.
+pub fn sweep_in(book: &mut Book, alloc: Global) -> Result<Listing, NoMemory>
     ensures step { IfOk result (λ listing. SweepsListed listing 0 book.old book.new) }
     ensures legal { IsLegal book.new }
     ensures err { OnErr result (book.new ≡ book.old) }
 {
+    // All memory is taken before the sweep is logged.
     let listing = listing_of(alloc, book)?;
     let swept = book.sweep(alloc);
     let _log = book.log();

@@ -1,5 +1,2 @@
-pub mod SeatLemmas
-pub mod EntryLemmas
-pub mod NamedMetrics
+pub mod OwnSeats
 pub mod WorkerLemmas
-pub mod KeptSeats

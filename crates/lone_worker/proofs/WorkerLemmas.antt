@@ -1,7 +1,7 @@
 -- The entries of a worker's seat stay those of its events.
 use Rattle.std.proofs.Common.{◌≡◌, ◌≢◌, ◌≤◌, ℕ, suc, Option, None, Some, Bool, true, false, MatchBool, List, [], ◌∷◌, ◌++◌, refl, ap, sym, ◌∙◌, subst, arith}
 use Rattle.std.proofs.lemmas.List.Elements.{All-cons, All-nil}
-use Rattle.std.specs.Option.{option_map_or, IsSomeAnd}
+use Rattle.std.specs.Option.{IsSomeAnd}
 use Rattle.stat_defs.specs.Books.{BookHistory}
 use Rattle.stat_defs.specs.declared.events.Event.{Event}
 use Rattle.stat_defs.specs.declared.history.Call.TheVariants as call
@@ -11,16 +11,19 @@ use Rattle.stat_defs.specs.declared.history.Reply.TheVariants as reply
 use Rattle.stat_defs.specs.declared.history.Verdict.{Verdict}
 use Rattle.book_state.specs.Follows.{own, MakesAcked, FollowsSoFar, Follows}
 use Rattle.book_state.specs.Laws.{AreOfOthers, own_entry}
-use Rattle.book_state.specs.Log.{empty, openings, replay}
-use Rattle.book_state.specs.State.{Row, Seat, seat_of}
+use Rattle.book_state.specs.Log.{openings, replay}
+use Rattle.book_state.specs.State.{Row, Seat}
 use Rattle.stat_defs.specs.declared.metrics.Metric.{Metric}
-use Rattle.book_state.proofs.Growing.{left_seats, chain_none, chain_others, chain_event, chain_ended, chain_left}
-use Rattle.stat_defs.specs.Keys.{Held, held_under}
+use Rattle.book_state.proofs.Growing.{chain_none, chain_others, chain_event, chain_ended, chain_left}
 use Rattle.stat_defs.specs.declared.configs.Config.{Config}
 use Rattle.stat_defs.specs.declared.configs.ScopeSpec.{ScopeSpec}
-use Rattle.stat_book.specs.Calls.{rules_of, state_of, new_book, openings_by, Logged}
-use Rattle.stat_book.proofs.CallerLemmas.{new_openings}
-use Rattle.lone_worker.specs.Seats.{IsSeated}
+use Rattle.book_state.specs.Step.{Works}
+use Rattle.book_access.specs.Owned.{owned_known}
+use Rattle.book_seat.specs.SeatKept.{IsNewSeat}
+use Rattle.book_seat.proofs.Followed.{seat_follows}
+use Rattle.stat_defs.specs.declared.history.Call.{Call}
+use Rattle.stat_book.specs.Calls.{rules_of, state_of, new_book, openings_by, Logged, IsLegal}
+use Rattle.stat_book.proofs.CallerLemmas.{new_openings, other_seat_stays}
 use Rattle.lone_worker.specs.Entries.{Applies}
 
 -- the entries of a book's seat 1 are those of the events, and an End where it has ended
@@ -60,19 +63,25 @@ others_first : (id : ℕ) (scopes : List ScopeSpec) → AreOfOthers 1 (openings 
 others_first id [] = All-nil (λ (entry : Entry). 1 ≢ entry.seat)
 others_first id (scope ∷ scopes) = All-cons (λ (entry : Entry). 1 ≢ entry.seat) _ (openings (suc id) scopes) (λ same. omega (arith, same)) (others_first (suc id) scopes)
 
--- before its first event the seat holds nothing, and has acknowledged nothing
-pub first_sits : (book : BookHistory) (config : Config) (cached : List Held) → book ≡ new_book config 1 → cached ≡ [] → IsSeated book cached 0
-first_sits book config cached book_is none = subst (λ (b : BookHistory). IsSeated b cached 0) (sym book_is) (subst (λ (held : List Held). IsSeated (new_book config 1) held 0) (sym none) first) where
-  same : seat_of (state_of (new_book config 1)) 1 ≡ Some (record { tag = 0; held = []; ended = false })
-  same = left_seats (rules_of (new_book config 1)) (empty 1) 1 (openings 0 config.scopes) (others_first 0 config.scopes)
+-- before its first event the seat is new
+pub first_seat : (book : BookHistory) (config : Config) → book ≡ new_book config 1 → IsLegal book → IsNewSeat (owned_known 1 book)
+first_seat book config book_is legal = record {
+  worker = (omega arith, (let one = ap (λ (b : BookHistory). b.workers) book_is in omega (arith, one)));
+  others = subst (λ (b : BookHistory). AreOfOthers 1 b.log) (sym book_is) (others_first 0 config.scopes);
+  legal = legal;
+  fewest = (omega arith);
+}
 
-  first : IsSeated (new_book config 1) [] 0
-  first = record {
-    one_worker = refl;
-    works = subst (λ (o : Option Seat). IsSomeAnd o (λ row. (row.ended ≡ false) × Unit {0})) (sym same) (refl, tt);
-    held = λ key. ap (λ (o : Option Seat). held_under key (option_map_or (λ (row : Seat). row.held) o [])) (sym same);
-    tagged = ap (λ (o : Option Seat). option_map_or (λ (row : Seat). row.tag) o 0) (sym same);
-  }
+pub first_works : (book : BookHistory) (config : Config) → book ≡ new_book config 1 → IsLegal book → Works (state_of book) 1
+first_works book config book_is legal = (seat_follows.begins (owned_known 1 book) (first_seat book config book_is legal)).0
+
+-- seat 0's calls leave the seat
+pub swept_works : (old new : BookHistory) (r : Reply) → Logged old 0 call.Sweep r new → Works (state_of old) 1 → Works (state_of new) 1
+swept_works old new r l works = subst (λ (o : Option Seat). IsSomeAnd o (λ row. (row.ended ≡ false) × Unit {0})) (sym (other_seat_stays old new 0 call.Sweep r l 1 (λ e. omega (arith, e)))) works
+
+module _ (old new : BookHistory) (by : ℕ) (c : Call) (r : Reply) (l : Logged old by c r new) where
+  pub workers_stay : new.workers ≡ old.workers
+  workers_stay = ap (λ (b : BookHistory). b.workers) l.logged
 
 pub first_follows : (book : BookHistory) (config : Config) → book ≡ new_book config 1 → FollowedIn book [] [] false
 first_follows book config book_is =

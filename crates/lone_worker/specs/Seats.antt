@@ -1,56 +1,27 @@
--- How a lone worker's seat stands beside its book. This project's own.
-use Rattle.std.specs.Prelude.{◌≡◌, ◌≤◌, ◌+◌, ℕ, true, false, Some, IfSome, List, slice_get}
-use Rattle.std.specs.Option.{IsSomeAnd}
-use Rattle.stat_defs.specs.Books.{BookHistory}
-use Rattle.stat_defs.specs.Keys.{Held}
+-- What the seat of a lone worker, seat 1, leaves of its book. This project's own.
+use Rattle.std.specs.Prelude.{◌≡◌, ◌≤◌, ◌+◌, ℕ, List}
 use Rattle.stat_defs.specs.declared.events.Event.{Event}
-use Rattle.stat_defs.specs.declared.events.Key.{Key}
 use Rattle.stat_defs.specs.declared.history.Verdict.{Verdict}
-use Rattle.stat_defs.specs.declared.history.Verdict.TheVariants.{Accepted}
-use Rattle.book_state.specs.State.{State, held_in, is_gone}
-use Rattle.book_state.specs.Step.{Working, Works, holds_text}
-use Rattle.book_state.specs.Follows.{tag_of, held_verdict, event_key}
-use Rattle.book_state.specs.SeatLaws.{is_held}
-use Rattle.thread_cache.specs.SameHeld.{SameHeld}
+use Rattle.book_state.specs.Follows.{Own}
+use Rattle.book_state.specs.Step.{Works}
 use Rattle.stat_book.specs.Calls.{state_of, openings_by}
-use Rattle.lone_worker.specs.declared.seat.Seat.{Seat}
+use Rattle.book_access.specs.declared.owned.OwnedBook.{OwnedBook}
+use Rattle.book_seat.specs.Naming.{NamesOwn}
+use Rattle.lone_worker.specs.Entries.{Adds, Applies}
 
--- the seat works; its cache gives what it holds by the log, and its tag is that of the log
-pub record IsSeated (book : BookHistory) (cached : List Held) (tag : ℕ) : Type 0 where
-  pub one_worker : book.workers ≡ 1
-  pub works : Works (state_of book) 1
-  pub held : SameHeld cached (held_in (state_of book) 1)
-  pub tagged : tag ≡ tag_of (state_of book) 1
+-- it is the same seat, it works, and it asked to open no more than this number of scopes
+pub record StaysAlone (scopes : ℕ) (old new : OwnedBook) : Type 0 where
+  pub number : new.number ≡ 1
+  pub works : Works (state_of new.book) 1
+  pub openings : openings_by 1 new.book.log ≤ openings_by 1 old.book.log + scopes
 
-abbrev pub Sits : Seat → Type 0
-Sits seat = IsSeated seat.book seat.cache.entries seat.tag
+-- an event was decided; a metric that its verdict names is there
+pub record AppliesAlone (e : Event) (v : Verdict) (old new : OwnedBook) : Type 0 where
+  pub applied : Applies old.book e v new.book
+  pub names : NamesOwn (state_of new.book) e v
+  pub stays : StaysAlone 1 old new
 
--- what each call keeps, refused or not: the seat, the configuration, and that it opened no more than this number of
--- scopes
-pub record Keeps (opened : ℕ) (old new : Seat) : Type 0 where
-  pub sits : Sits new
-  pub config : new.book.config ≡ old.book.config
-  pub openings : openings_by 1 new.book.log ≤ openings_by 1 old.book.log + opened
-
--- a verdict that accepts or rejects is held under the key
-abbrev pub IsHeldNow : State → Key → Verdict → Type 0
-IsHeldNow s key v = is_held v ≡ true → held_verdict s 1 key ≡ Some v
-
--- so is an event's, under its key
-abbrev pub HoldsVerdict : State → Event → Verdict → Type 0
-HoldsVerdict s e v = IfSome (event_key e) (λ key. IsHeldNow s key v)
-
--- the metric of an accepted verdict is a text readout that the seat holds
-abbrev pub MaySet : State → Verdict → Type 0
-MaySet s (Accepted id) = Working s 1 (λ row. holds_text id.0 row ≡ true)
-MaySet s _ = Unit {0}
-
--- an accepted verdict names a metric of the key's kind that is not gone
-abbrev pub NamesLive : State → Key → Verdict → Type 0
-NamesLive s key (Accepted id) = IsSomeAnd (slice_get s.metrics id.0)
-    (λ row. (row.metric.kind ≡ key.kind) × (is_gone row.metric.life ≡ false))
-NamesLive s key _ = Unit {0}
-
--- so does an event's, for its key
-abbrev pub NamesOwn : State → Event → Verdict → Type 0
-NamesOwn s e v = IfSome (event_key e) (λ key. NamesLive s key v)
+-- an event was cut short by want of memory
+pub record CutsAlone (old new : OwnedBook) : Type 0 where
+  pub left : Adds old.book (λ (made : List Own). Unit {0}) new.book
+  pub stays : StaysAlone 0 old new

@@ -1,8 +1,8 @@
 -- What a lone worker keeps.
 use Rattle.std.specs.Prelude.{◌≡◌, ◌≤◌, true, false, length}
-use Rattle.stat_book.specs.Calls.{openings_by}
+use Rattle.book_state.specs.Step.{Works}
+use Rattle.stat_book.specs.Calls.{state_of, openings_by}
 use Rattle.lone_worker.specs.declared.worker.LoneWorker.TheInside.{Inside}
-use Rattle.lone_worker.specs.Seats.{Sits}
 use Rattle.lone_worker.specs.Worker.{WorkerHistory, IsFollowed}
 
 abbrev pub shown : Inside → WorkerHistory
@@ -16,7 +16,8 @@ shown w = record {
 
 pub record IsKept (w : Inside) : Type 0 where
   pub one_worker : w.seat.book.workers ≡ 1
-  pub sits : w.ended ≡ false → Sits w.seat
+  pub number : w.seat.number ≡ 1
+  pub works : w.ended ≡ false → Works (state_of w.seat.book) 1
   pub few_openings : openings_by 1 w.seat.book.log ≤ length w.events.items
   pub a_verdict_each : length w.verdicts.items ≡ length w.events.items
   -- said of a worker none of whose events was cut short

@@ -11,11 +11,12 @@ ghost use Rattle.book_state.specs.State.{names_in};
 ghost use Rattle.book_state.specs.Step.{overdue_in};
 ghost use Rattle.book_state.specs.Safe.{SymbolsSafe};
 ghost use Rattle.stat_book.specs.Calls.{rules_of, state_of, IsLegal, Logged};
-ghost use Rattle.lone_worker.specs.Seats.{NamesOwn};
+ghost use Rattle.book_seat.specs.Naming.{NamesOwn};
 ghost use Rattle.lone_worker.specs.Worker.{new_worker, IsFollowed, Decides, IsCutShort};
 
-use crate::seat::{SEAT, Seat};
-use crate::steps::apply;
+use crate::seat::{SEAT, apply};
+use book_access::OwnedBook;
+use book_seat::BookSeat;
 use ghost_list::GhostList;
 use name_map::HashKey;
 use stat_book::Book;
@@ -23,7 +24,6 @@ use stat_defs::{Config, Entry, Event, EventRef, Kind, MetricId, NoMemory, Swept,
 use std::alloc::Global;
 use std::marker::Model;
 use tag_rules::{Matcher, TagRules};
-use thread_cache::Cache;
 
 /// A worker is given fewer events.
 pub const MAX_EVENTS: usize = 4_194_304;
@@ -32,7 +32,7 @@ pub const MAX_EVENTS: usize = 4_194_304;
 /// whether its seat has ended, and whether none of its events was cut short by want of memory.
 #[derive(Drop)]
 pub struct LoneWorker {
-    pub(crate) seat: Seat,
+    seat: BookSeat<OwnedBook>,
     ended: bool,
     whole: bool,
     events: GhostList<Event>,
@@ -92,12 +92,9 @@ impl LoneWorker {
         ensures { IfOk result (λ worker. worker ≡ new_worker config.now) }
     {
         let book = Book::with_key(alloc, key, config, rules, matcher, 1)?;
+        let _log = book.log();
         Ok(LoneWorker {
-            seat: Seat {
-                book,
-                cache: Cache::with_key(alloc, key),
-                tag: 0,
-            },
+            seat: BookSeat::new(alloc, key, OwnedBook { book, number: SEAT }),
             ended: false,
             whole: true,
             events: GhostList::new(),
@@ -131,7 +128,6 @@ impl LoneWorker {
         let whole = self.whole;
         self.whole = false;
         let verdict = apply(&mut self.seat, alloc, event)?;
-        let _log = self.seat.book.log();
         self.events = with_event(&self.events, event);
         self.verdicts = self.verdicts.and(&verdict);
         self.whole = whole;
@@ -147,7 +143,7 @@ impl LoneWorker {
         ensures rest { OnOk result (self.new ≡ record self.old { book = self.new.book }) }
         ensures err { OnErr result (self.new ≡ self.old) }
     {
-        let swept = self.seat.book.sweep(alloc)?;
+        let swept = self.seat.sweep(alloc)?;
         Ok(swept)
     }
 
@@ -158,7 +154,7 @@ impl LoneWorker {
         ensures rest { OnOk result (self.new ≡ record self.old { book = self.new.book; ended = true }) }
         ensures err { OnErr result (self.new ≡ self.old) }
     {
-        self.seat.book.end(alloc, SEAT)?;
+        self.seat.end(&(), alloc)?;
         self.ended = true;
         Ok(())
     }
@@ -173,7 +169,7 @@ impl LoneWorker {
         ensures each { length self.now.verdicts ≡ length self.now.events }
         ensures followed { self.now.whole ≡ true → IsFollowed self.now }
     {
-        self.seat.book.log()
+        self.seat.book().log()
     }
 
     /// The calls of the book, when its worker is done.
@@ -187,19 +183,14 @@ impl LoneWorker {
             events: _,
             verdicts: _,
         } = self;
-        let Seat {
-            book,
-            cache: _,
-            tag: _,
-        } = seat;
-        book.into_log()
+        seat.into_book().into_log()
     }
 
     /// How many metrics were made.
     pub fn made(&self) -> u32
         ensures { result ≡ length (state_of self.now.book).metrics }
     {
-        self.seat.book.made()
+        self.seat.book().made()
     }
 
     /// The kind of a metric that was made.
@@ -207,6 +198,6 @@ impl LoneWorker {
         requires { id.0 < length (state_of self.now.book).metrics }
         ensures { IsSomeAnd (slice_get (state_of self.now.book).metrics id.0) (λ row. row.metric.kind ≡ result) }
     {
-        self.seat.book.metric(id).kind
+        self.seat.book().metric(id).kind
     }
 }

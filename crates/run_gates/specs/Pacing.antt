@@ -5,6 +5,11 @@ use Rattle.std.specs.Prelude.{ℕ, zero, suc, ◌+◌, ◌*◌, ◌^◌, ◌%◌
 abbrev pub IsShared : ℕ → ℕ → ℕ → Type 0
 IsShared workers every bits = workers * 2 ^ bits ≤ max every workers
 
+-- and no greater packets, up to the greatest, are that few together
+pub record IsGreatest (workers every bits : ℕ) : Type 0 where
+  pub few : bits ≤ 6
+  pub above : (more : ℕ) → bits < more → more ≤ 6 → every < workers * 2 ^ more
+
 -- the events that a worker adds before its event of this number: a packet, where it has done whole packets so far
 abbrev pub added : ℕ → ℕ → ℕ
 added bits zero = 0

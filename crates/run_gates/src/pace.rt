@@ -1,6 +1,6 @@
 //! How workers count their events together.
-ghost use Rattle.std.specs.Prelude.{◌≡◌, ◌≤◌, ◌*◌, ◌^◌, ◌%◌, ◌==◌, if◌then◌else◌, true};
-ghost use Rattle.run_gates.specs.Pacing.{added, IsShared};
+ghost use Rattle.std.specs.Prelude.{◌≡◌, ◌≤◌, ◌*◌, ◌^◌, ◌%◌, ◌==◌, if◌then◌else◌, Decides};
+ghost use Rattle.run_gates.specs.Pacing.{added, IsShared, IsGreatest};
 
 /// The most events that are added at a time are 2 to this power.
 const MAX_BITS: u32 = 6;
@@ -10,8 +10,8 @@ const MAX_BITS: u32 = 6;
 /// A word that all workers add to is slow, since the processor's cores hand it over at each addition. So a worker adds
 /// its events by packets of a power of two: before an event it adds those since its last packet, where they make one.
 /// Events that make no packet yet are not counted. So the count is never above the events that were done, and a round
-/// may begin late, never early. The packets of all workers together are at most the events of one round, or have one
-/// event each.
+/// may begin late, never early. Packets are as great as can be where those of all workers together are at most the
+/// events of one round; where there are more workers than that, they have one event each.
 #[derive(Drop)]
 pub struct Pace {
     pub workers: u32,
@@ -20,7 +20,7 @@ pub struct Pace {
     /// A packet has 2 to this power events.
     pub bits: u32,
     ghost shared: { IsShared workers every bits },
-    ghost few: { bits ≤ 6 },
+    ghost greatest: { IsGreatest workers every bits },
 }
 
 impl Pace {
@@ -68,22 +68,23 @@ fn packet_of(bits: u32) -> u64
     1u64 << bits
 }
 
-// The greatest packets that fit.
 fn bits_for(workers: u32, every: u32) -> u32
     ensures shared { IsShared workers every result }
-    ensures few { result ≤ 6 }
+    ensures greatest { IsGreatest workers every result }
 {
-    for bits in (1..=MAX_BITS).rev() {
-        if fits(workers, every, bits) {
+    let mut bits = 0;
+    for next in 1..=MAX_BITS {
+        if !fits(workers, every, next) {
             return bits;
         }
+        bits = next;
     }
-    0
+    bits
 }
 
 fn fits(workers: u32, every: u32, bits: u32) -> bool
     requires { bits ≤ 6 }
-    ensures { result ≡ true → workers * 2 ^ bits ≤ every }
+    ensures { Decides result (workers * 2 ^ bits ≤ every) }
 {
     u64::from(workers) << bits <= u64::from(every)
 }

@@ -1,4 +1,4 @@
-use Rattle.std.proofs.Common.{rules, arith, ap, ◌∙◌, ◌+◌, ◌≤◌, ◌<◌, ◌≡◌, ℕ, length, sym}
+use Rattle.std.proofs.Common.{arith, ◌∙◌, sym}
 use Rattle.std.specs.Vec.Iter.{into_iter_items}
 use Rattle.book_lock.specs.Seats.{first_book}
 use Rattle.locked_book.proofs.Numbered.{seat_at, seats_length, fewer}

@@ -2,7 +2,7 @@ use Rattle.std.proofs.Common.{sym, subst}
 use Rattle.stat_defs.specs.Events.{IsLawfulEvent}
 use Rattle.stat_defs.specs.declared.events.Event.{Event}
 use Rattle.stat_book.specs.Calls.{state_of}
-use Rattle.lone_worker.specs.Seats.{NamesOwn}
+use Rattle.book_seat.specs.Naming.{NamesOwn}
 use Rattle.lone_worker.specs.Worker.{Decides}
 use Rattle.std.specs.Prelude.{IfOk}
 use Rattle.lone_worker.proofs.worker.LoneWorker.decide.Goals as goal

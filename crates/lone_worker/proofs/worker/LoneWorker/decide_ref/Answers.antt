@@ -1,16 +1,16 @@
 use Rattle.std.proofs.Common.{List, [], ◌∷◌, ◌++◌, length, length-append, false, refl, ap, sym, ◌∙◌, subst, arith}
+use Rattle.stat_defs.specs.Books.{BookHistory}
 use Rattle.stat_defs.specs.Borrowed.{event_of}
 use Rattle.stat_defs.specs.declared.events.Event.{Event}
 use Rattle.stat_defs.specs.declared.history.Verdict.{Verdict}
 use Rattle.book_state.proofs.Lists.{true_false}
+use Rattle.book_seat.proofs.Results.{err_so}
 use Rattle.lone_worker.specs.Worker.{WorkerHistory, Decides, IsCutShort}
-use Rattle.lone_worker.proofs.KeptSeats.{err_so}
-use Rattle.lone_worker.proofs.NamedMetrics.{names_own}
 use Rattle.lone_worker.proofs.WorkerLemmas.{FollowedIn, decided_follows}
 use Rattle.lone_worker.proofs.worker.LoneWorker.decide_ref.Goals as goal
 
-pub apply-requires-clause-sits : goal.apply-requires-clause-sits
-apply-requires-clause-sits c = c.self.invariant.sits (ap (λ (w : WorkerHistory). w.ended) c.self.view_is ∙ c.requires.works)
+pub apply-requires-clause-works : goal.apply-requires-clause-works
+apply-requires-clause-works c = c.self.invariant.works (ap (λ (w : WorkerHistory). w.ended) c.self.view_is ∙ c.requires.works)
 
 pub apply-requires-clause-room : goal.apply-requires-clause-room
 apply-requires-clause-room c =
@@ -19,11 +19,12 @@ apply-requires-clause-room c =
 
 pub invariant_of-self : goal.invariant_of-self
 invariant_of-self c =
-    let kept = c.in_err-verdict.ensures.err in
+    let cut = c.in_err-verdict.ensures.err in
     record {
-      one_worker = kept.sits.one_worker;
-      sits = λ works. kept.sits;
-      few_openings = (let few = kept.openings in let was = c.self.invariant.few_openings in omega (arith, few, was));
+      one_worker = ap (λ (b : BookHistory). b.workers) cut.left.logged ∙ c.self.invariant.one_worker;
+      number = cut.stays.number;
+      works = λ not_ended. cut.stays.works;
+      few_openings = (let few = cut.stays.openings in let was = c.self.invariant.few_openings in omega (arith, few, was));
       a_verdict_each = c.self.invariant.a_verdict_each;
       followed = λ whole. absurd (true_false (sym whole));
     }
@@ -31,20 +32,21 @@ invariant_of-self c =
 pub invariant_of-self-2 : goal.invariant_of-self-2
 invariant_of-self-2 c =
     let w = c.self.inside in
-    let kept = c.in_ok-verdict.ensures.keeps in
+    let did = c.in_ok-verdict.ensures.applied in
     let works = ap (λ (v : WorkerHistory). v.ended) c.self.view_is ∙ c.requires.works in
     let events = ap (λ (l : List Event). length l) c.with_event-self-inside.ensures ∙ length-append w.events.items (event_of c.args.event.now ∷ []) in
     let verdicts = ap (λ (l : List Verdict). length l) c.and-self-inside.ensures ∙ length-append w.verdicts.items (c.in_ok-verdict.verdict ∷ []) in
     record {
-      one_worker = kept.sits.one_worker;
-      sits = λ works. kept.sits;
-      few_openings = (let few = kept.openings in let was = c.self.invariant.few_openings in omega (arith, few, was, events));
+      one_worker = ap (λ (b : BookHistory). b.workers) did.applied.logged ∙ c.self.invariant.one_worker;
+      number = did.stays.number;
+      works = λ not_ended. did.stays.works;
+      few_openings = (let few = did.stays.openings in let was = c.self.invariant.few_openings in omega (arith, few, was, events));
       a_verdict_each = (let was = c.self.invariant.a_verdict_each in omega (arith, was, events, verdicts));
       followed = λ whole.
           subst (λ (es : List Event). FollowedIn c.apply.new.seat.book es c.and-self-inside.result.items w.ended) (sym c.with_event-self-inside.ensures)
           (subst (λ (vs : List Verdict). FollowedIn c.apply.new.seat.book (w.events.items ++ event_of c.args.event.now ∷ []) vs w.ended) (sym c.and-self-inside.ensures)
           (decided_follows w.seat.book c.apply.new.seat.book w.events.items w.verdicts.items w.ended (event_of c.args.event.now) c.in_ok-verdict.verdict works c.self.invariant.one_worker
-          c.in_ok-verdict.ensures.applied (c.self.invariant.followed whole)));
+          did.applied (c.self.invariant.followed whole)));
     }
 
 pub returns-clause-ok : goal.returns-clause-ok
@@ -53,17 +55,13 @@ returns-clause-ok c =
     let new : WorkerHistory = record { book = c.apply.new.seat.book; events = c.with_event-self-inside.result.items; verdicts = c.and-self-inside.result.items; ended = w.ended; whole = w.whole } in
     subst (λ (v : WorkerHistory). Decides v (event_of c.args.event.now) c.in_ok-verdict.verdict new) c.self.view_is
     (record {
-      added = c.in_ok-verdict.ensures.applied;
+      added = c.in_ok-verdict.ensures.applied.applied;
       decided = λ i. record { book = c.apply.new.seat.book; events = c.with_event-self-inside.ensures i; verdicts = c.and-self-inside.ensures i; ended = w.ended; whole = w.whole };
     })
 
-pub returns-clause-named : goal.returns-clause-named
-returns-clause-named c = names_own c.apply.new.seat.book (event_of c.args.event.now) c.in_ok-verdict.verdict c.log-log.ensures.legal c.in_ok-verdict.ensures.held
-
 pub returns-in_err-verdict-clause-err : goal.returns-in_err-verdict-clause-err
 returns-in_err-verdict-clause-err c =
-    let w = c.self.inside in let kept = c.in_err-verdict.ensures.err in
+    let w = c.self.inside in
     let new : WorkerHistory = record { book = c.apply.new.seat.book; events = w.events.items; verdicts = w.verdicts.items; ended = w.ended; whole = false } in
     err_so c.from_residual.result (IsCutShort c.args.self.now new)
-    (subst (λ (v : WorkerHistory). IsCutShort v new) c.self.view_is
-    (record { config = kept.config; workers = kept.sits.one_worker ∙ sym c.self.invariant.one_worker; cut = refl }))
+    (subst (λ (v : WorkerHistory). IsCutShort v new) c.self.view_is (record { left = c.in_err-verdict.ensures.err.left; cut = refl }))

@@ -1,5 +1,6 @@
 use Rattle.std.proofs.Common.{◌≡◌, slice_get, subst}
 use Rattle.std.specs.Option.{IsSomeAnd}
+use Rattle.stat_defs.specs.Books.{BookHistory}
 use Rattle.stat_book.specs.Calls.{state_of}
 use Rattle.lone_worker.specs.Worker.{WorkerHistory}
 use Rattle.lone_worker.proofs.WorkerLemmas.{kind_of_row}
@@ -8,4 +9,5 @@ use Rattle.lone_worker.proofs.worker.LoneWorker.kind.Goals as goal
 pub returns : goal.returns
 returns c =
     subst (λ (v : WorkerHistory). IsSomeAnd (slice_get (state_of v.book).metrics c.args.id.0) (λ row. row.metric.kind ≡ c.metric.result.now.kind)) c.self.view_is
-    (kind_of_row (slice_get (state_of c.self.inside.seat.book).metrics c.args.id.0) c.metric.result.now c.metric.ensures)
+    (subst (λ (b : BookHistory). IsSomeAnd (slice_get (state_of b).metrics c.args.id.0) (λ row. row.metric.kind ≡ c.metric.result.now.kind)) c.book.ensures
+    (kind_of_row (slice_get (state_of c.book.result.now).metrics c.args.id.0) c.metric.result.now c.metric.ensures))

@@ -1,0 +1,5 @@
+//! Tests of gates.
+#![tactic(auto)]
+
+#[cfg(test)]
+mod gates;
