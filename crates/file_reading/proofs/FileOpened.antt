@@ -12,7 +12,7 @@ use Rattle.stats_io.specs.Told.{MayBe}
 use Rattle.stats_io.proofs.Pieces.{kept_consumes}
 use Rattle.event_script.specs.Run.{IsRun}
 use Rattle.file_reading.specs.WorkerEnd.{IsOpened, HasCause}
-use Rattle.file_reading.specs.FileRead.{IsFile, FileRead}
+use Rattle.file_reading.specs.FileRead.{IsFile}
 use Rattle.file_reading.specs.SourceRead.{taken_at, IsSourceRead}
 
 -- the bytes of what is left are those of the content

@@ -1,5 +1,5 @@
 -- A source that is being read.
-use Rattle.std.proofs.Common.{◌≡◌, ◌≤◌, ◌+◌, ◌<◌, ℕ, Result, Ok, List, [], ◌∷◌, ◌++◌, length, length-append, subst, arith}
+use Rattle.std.proofs.Common.{◌≡◌, ◌≤◌, ◌<◌, ℕ, Result, Ok, List, [], ◌∷◌, ◌++◌, length, length-append, subst, arith}
 use Rattle.std.proofs.lemmas.List.Elements.{recursion_from_All}
 use Rattle.stat_defs.specs.Events.{IsLawfulEvent}
 use Rattle.stat_defs.specs.declared.events.Event.{Event}
