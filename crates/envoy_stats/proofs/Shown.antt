@@ -6,7 +6,7 @@ use Rattle.stats_io.specs.States.{SourceState, ShelfState}
 use Rattle.book_state.specs.declared.limits.TheConstants.{MAX_WORKERS}
 use Rattle.flush_view.proofs.Showable.{ledgers_show}
 use Rattle.replay_report.specs.declared.replaying.TheConstants.{MAX_FILES}
-use Rattle.replay_report.specs.FileRead.{FileRead}
+use Rattle.file_reading.specs.FileRead.{FileRead}
 use Rattle.replay_report.specs.ReplayReport.{IsReplayOf}
 use Rattle.envoy_stats.specs.Replay.{IsRecorded, Records}
 use Rattle.envoy_stats.specs.declared.replay.Recorded.{Recorded}

@@ -17,10 +17,11 @@ use Rattle.stats_io.specs.Told.{MayBe}
 use Rattle.stats_io.proofs.Pieces.{kept_consumes}
 use Rattle.event_script.specs.Run.{IsRun}
 use Rattle.plain_store.specs.Store.{StoreHistory}
-use Rattle.replay_report.specs.WorkerEnd.{IsOpened, HasCause}
-use Rattle.replay_report.specs.FileRead.{FileRead, all_events, IsFile, AreFiles}
+use Rattle.file_reading.specs.WorkerEnd.{IsOpened, HasCause}
+use Rattle.file_reading.specs.FileRead.{FileRead, all_events, IsFile, AreFiles}
 use Rattle.replay_report.specs.Applying.{AreApplied}
-use Rattle.replay_report.specs.FileRun.{taken_at, all_verdicts, IsSourceRun, IsFileRun, AreRuns}
+use Rattle.file_reading.proofs.FileOpened.{file_read, file_unopened}
+use Rattle.replay_report.specs.FileRun.{all_verdicts, IsSourceRun, IsFileRun, AreRuns}
 use Rattle.replay_report.specs.declared.reading.FileRun.{FileRun}
 use Rattle.replay_report.specs.declared.reading.Runs.{Runs}
 use Rattle.replay_report.proofs.AppliedEvents.{none_applied, both_applied}
@@ -32,100 +33,28 @@ front_push f xs i x within is =
     ap (map f) (rw add-one (take-suc xs i x (omega (arith, within)))) ∙ map-append f (take i xs) (get_or xs i x ∷ [])
     ∙ ap (λ y. map f (take i xs) ++ f y ∷ []) (sym is)
 
--- the bytes of what is left are those of the content
-kept_may_be : (content left : Option (List ℕ)) (bytes : List ℕ) → Keeps content left → MayBe left bytes
-    → MayBe content bytes
-kept_may_be None left bytes same is = tt
-kept_may_be (Some told) None bytes same is = absurd same
-kept_may_be (Some told) (Some xs) bytes same is = sym same ∙ is
-
--- a run over what is left of a source is one over the content that it was opened on
-run_of_content : (content left : Option (List ℕ)) (end : FileEnd) (taken : ℕ) (events : List Event)
-    → Keeps content left → IsRun left end taken events → IsRun content end taken events
-run_of_content content left Whole taken events same run = (run.0, kept_may_be content left run.0 same run.1, run.2)
-run_of_content content left (BadLine n) taken events same run =
-    (run.0, kept_may_be content left run.0 same run.1, run.2)
-run_of_content content left (LineTooLong n) taken events same run =
-    (run.0, kept_may_be content left run.0 same run.1, run.2)
-run_of_content content left TooBig taken events same run = (run.0, kept_may_be content left run.0 same run.1, run.2)
-run_of_content content left TooMany taken events same run = (run.0, kept_may_be content left run.0 same run.1, run.2)
-run_of_content content left ReadFault taken events same run =
-    (run.0, kept_may_be content left run.0 same run.1, run.2, run.3)
-run_of_content content left NotOpened taken events same run = run
-
-module _ {S : Type 0} (source : S → SourceState) where
-  -- a source that was opened, with no fault before
-  opened_of : (content : Option (List ℕ)) (name : List ℕ) (before after : ShelfState) (opened : S)
-      (earlier later : StoreHistory) (run : FileRun) → IsUnpulled content name (source opened) → after ≡ before
-      → (read : IsSourceRun source opened earlier later run)
-      → IsOpened source content name before after read.given run.end
-  opened_of content name before after opened earlier later run is same read = record {
-    later = read.last;
-    origin = read.origin ∙ is.origin;
-    consumed = kept_consumes content (source opened).left (source read.last).left read.given is.left read.consumed;
-    count_before = read.count_before ∙ is.no_faults;
-    count_after = read.count_after;
-    shelf = same;
-  }
-
-  cause_of : (content : Option (List ℕ)) (name : List ℕ) (before after : ShelfState) (given : List ℕ)
-      (worker : WorkerEnd) (end : FileEnd) → IsOpened source content name before after given worker
-      → worker.taken ≡ taken_at end (length given) → (end ≡ ReadFault → Rose worker.faults_before worker.faults_after)
-      → (end ≡ NotOpened → ⊥) → HasCause source content name before after worker end
-  cause_of content name before after given worker Whole opened taken rose was =
-      record { given = given; opened = opened; taken = taken }
-  cause_of content name before after given worker (BadLine n) opened taken rose was =
-      record { given = given; opened = opened; taken = taken }
-  cause_of content name before after given worker (LineTooLong n) opened taken rose was =
-      record { given = given; opened = opened; taken = taken }
-  cause_of content name before after given worker TooBig opened taken rose was =
-      record { given = given; opened = opened; taken = taken }
-  cause_of content name before after given worker TooMany opened taken rose was =
-      record { given = given; opened = opened; taken = taken }
-  cause_of content name before after given worker ReadFault opened taken rose was =
-      record { given = given; opened = opened; rose = rose refl; taken = taken }
-  cause_of content name before after given worker NotOpened opened taken rose was = absurd (was refl)
-
 module _ {F S : Type 0} (shelf : F → ShelfState) (source : S → SourceState) where
   module _ (holds : List ℕ → Option (List ℕ)) where
-    -- a file that was opened and read
-    file_read : (name : List ℕ) (before after : F) (opened : S) (earlier later : StoreHistory) (run : FileRun)
-        → IsUnpulled (holds name) name (source opened) → shelf after ≡ shelf before
-        → IsSourceRun source opened earlier later run
-        → IsFileRun shelf source holds name before after earlier later run
-    file_read name before after opened earlier later run is same read = record {
-      events = read.events;
-      file = record {
-        run = run_of_content (holds name) (source opened).left run.end.end run.end.taken read.events is.left
-            read.is_run;
-        cause = cause_of source (holds name) name (shelf before) (shelf after) read.given run.end run.end.end
-            (opened_of source (holds name) name (shelf before) (shelf after) opened earlier later run is same read)
-            read.taken read.rose read.opened;
-      };
-      are_applied = read.are_applied;
-      few = read.few;
-    }
-
     pub file_opened_read : (name : List ℕ) (before after : F) (opened : S) (earlier later : StoreHistory)
         → IsUnpulled (holds name) name (source opened) → shelf after ≡ shelf before
         → (read : Result FileRun NoMemory) → IfOk read (IsSourceRun source opened earlier later)
         → IfOk read (IsFileRun shelf source holds name before after earlier later)
-    file_opened_read name before after opened earlier later is same (Ok run) read =
-        file_read name before after opened earlier later run is same read
+    file_opened_read name before after opened earlier later is same (Ok run) read = record {
+      events = read.events;
+      file = file_read source shelf holds name before after opened read.events run.end is same read.read;
+      are_applied = read.are_applied;
+      few = read.read.few;
+    }
     file_opened_read name before after opened earlier later is same (Err fault) read = tt
 
     -- a file that could not be opened
-    pub file_unopened : (name : List ℕ) (before after : F) (store : StoreHistory) (run : FileRun)
+    pub file_not_opened : (name : List ℕ) (before after : F) (store : StoreHistory) (run : FileRun)
         → run.verdicts.items ≡ [] → run.end.end ≡ NotOpened
         → HasCause source (holds name) name (shelf before) (shelf after) run.end NotOpened
         → IsFileRun shelf source holds name before after store store run
-    file_unopened name before after store run none is cause = record {
+    file_not_opened name before after store run none is cause = record {
       events = [];
-      file = record {
-        run = subst (λ (end : FileEnd). IsRun (holds name) end run.end.taken []) (sym is) refl;
-        cause = subst (λ (end : FileEnd). HasCause source (holds name) name (shelf before) (shelf after) run.end end)
-            (sym is) cause;
-      };
+      file = file_unopened source shelf holds name before after run.end is cause;
       are_applied = subst (λ (vs : List Verdict). AreApplied store [] vs store) (sym none) (none_applied store);
       few = omega arith;
     }

@@ -18,8 +18,8 @@ use Rattle.ledger.specs.Work.{Work, events_in, verdicts_in, work_of, together}
 use Rattle.ledger.specs.Ledger.{TakenAtFault, AreRead, ReplayLedger, IsReportOf, last_flush_alone, plan_of}
 use Rattle.ledger.proofs.WorkLists.{lengths, events_back, verdicts_back}
 use Rattle.plain_store.specs.Store.{StoreHistory, new_store, Finishes}
-use Rattle.replay_report.specs.WorkerEnd.{HasCause}
-use Rattle.replay_report.specs.FileRead.{FileRead, AreFiles, all_events}
+use Rattle.file_reading.specs.WorkerEnd.{HasCause}
+use Rattle.file_reading.specs.FileRead.{FileRead, AreFiles, all_events}
 use Rattle.replay_report.specs.Applying.{with_applied, AreApplied}
 use Rattle.replay_report.specs.FileRun.{all_verdicts, report_with, AreRuns}
 use Rattle.replay_report.specs.ReplayReport.{IsReplayOf}

@@ -5,8 +5,8 @@ use Rattle.stat_defs.specs.declared.reports.Report.{Report}
 use Rattle.stats_io.specs.States.{SourceState, ShelfState}
 use Rattle.event_script.specs.Run.{IsRun}
 use Rattle.ledger.specs.Ledger.{ReplayLedger, plan_of}
-use Rattle.replay_report.specs.WorkerEnd.{HasCause}
-use Rattle.replay_report.specs.FileRead.{FileRead, IsFile, AreFiles}
+use Rattle.file_reading.specs.WorkerEnd.{HasCause}
+use Rattle.file_reading.specs.FileRead.{FileRead, IsFile, AreFiles}
 use Rattle.replay_report.specs.ReplayReport.{IsReplayOf}
 
 same_contents : (one other : List ℕ → Option (List ℕ)) → ((name : List ℕ) → one name ≡ other name)

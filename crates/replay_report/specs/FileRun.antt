@@ -1,34 +1,19 @@
 -- What came of files that were read and applied. This project's own.
 use Rattle.std.specs.Prelude.{◌≡◌, ◌≤◌, ◌*◌, ℕ, Option, List, [], ◌∷◌, length, map}
 use Rattle.std.specs.List.{flat_map}
-use Rattle.std.specs.Io.KnownBytes.{Consumes}
-use Rattle.stat_defs.specs.Faults.{Rose}
 use Rattle.stat_defs.specs.declared.events.Event.{Event}
 use Rattle.stat_defs.specs.declared.history.Verdict.{Verdict}
-use Rattle.stat_defs.specs.declared.reports.FileEnd.{FileEnd}
-use Rattle.stat_defs.specs.declared.reports.FileEnd.TheVariants.{Whole, BadLine, LineTooLong, TooBig, TooMany}
-use Rattle.stat_defs.specs.declared.reports.FileEnd.TheVariants.{ReadFault, NotOpened}
 use Rattle.stat_defs.specs.declared.reports.LastFlush.{LastFlush}
 use Rattle.stat_defs.specs.declared.reports.Report.{Report}
 use Rattle.stat_defs.specs.declared.reports.WorkerEnd.{WorkerEnd}
 use Rattle.stats_io.specs.States.{SourceState, ShelfState}
-use Rattle.event_script.specs.Run.{IsRun}
 use Rattle.event_script.specs.declared.limits.TheConstants.{MAX_EVENTS}
 use Rattle.plain_store.specs.Store.{StoreHistory}
 use Rattle.replay_report.specs.Applying.{AreApplied}
-use Rattle.replay_report.specs.FileRead.{FileRead, IsFile, AreFiles, all_events}
+use Rattle.file_reading.specs.SourceRead.{IsSourceRead}
+use Rattle.file_reading.specs.FileRead.{FileRead, IsFile, AreFiles, all_events}
 use Rattle.replay_report.specs.declared.reading.FileRun.{FileRun}
 use Rattle.replay_report.specs.declared.reading.Runs.{Runs}
-
--- the bytes that were taken are told where the source failed
-abbrev pub taken_at : FileEnd → ℕ → ℕ
-taken_at Whole taken = 0
-taken_at (BadLine n) taken = 0
-taken_at (LineTooLong n) taken = 0
-taken_at TooBig taken = 0
-taken_at TooMany taken = 0
-taken_at ReadFault taken = taken
-taken_at NotOpened taken = 0
 
 -- the verdicts of all files, one file after another
 abbrev pub all_verdicts : List (List Verdict) → List Verdict
@@ -48,18 +33,8 @@ report_with verdicts ends given = record {
 pub record IsSourceRun {S : Type 0} (state : S → SourceState) (source : S) (earlier later : StoreHistory)
     (run : FileRun) : Type 0 where
   pub events : List Event
-  pub is_run : IsRun (state source).left run.end.end run.end.taken events
+  pub read : IsSourceRead state source events run.end
   pub are_applied : AreApplied earlier events run.verdicts.items later
-  pub few : length events ≤ MAX_EVENTS
-  pub opened : run.end.end ≡ NotOpened → ⊥
-  pub last : S
-  pub origin : (state last).origin ≡ (state source).origin
-  pub given : List ℕ
-  pub consumed : Consumes (state source).left (state last).left given
-  pub taken : run.end.taken ≡ taken_at run.end.end (length given)
-  pub count_before : run.end.faults_before ≡ (state source).faults
-  pub count_after : run.end.faults_after ≡ (state last).faults
-  pub rose : run.end.end ≡ ReadFault → Rose run.end.faults_before run.end.faults_after
 
 module _ {F S : Type 0} (shelf : F → ShelfState) (source : S → SourceState) (holds : List ℕ → Option (List ℕ)) where
   -- a file of a shelf was read to its end, and its events were applied

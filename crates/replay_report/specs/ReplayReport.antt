@@ -4,7 +4,7 @@ use Rattle.stat_defs.specs.declared.configs.Config.{Config}
 use Rattle.stat_defs.specs.declared.reports.Report.{Report}
 use Rattle.stats_io.specs.States.{SourceState, ShelfState}
 use Rattle.ledger.specs.Ledger.{ReplayLedger, plan_of}
-use Rattle.replay_report.specs.FileRead.{FileRead, AreFiles}
+use Rattle.file_reading.specs.FileRead.{FileRead, AreFiles}
 
 module _ {F S : Type 0} (shelf : F → ShelfState) (source : S → SourceState) (holds : List ℕ → Option (List ℕ)) where
   -- The files of these names were read in order, between these states of the shelf. Their ends are those of the

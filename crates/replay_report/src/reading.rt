@@ -1,19 +1,17 @@
 //! Files that are read and applied, one after another.
-ghost use Rattle.std.specs.Prelude.{◌≡◌, ◌≤◌, ◌<◌, ◌+◌, ◌*◌, ◌++◌, ◌∷◌, [], ℕ, List, Ok, IfOk, OnOk, MatchResult};
+ghost use Rattle.std.specs.Prelude.{◌≡◌, ◌≤◌, ◌<◌, ◌+◌, ◌*◌, ◌++◌, ◌∷◌, [], ℕ, List, Ok, IfOk, OnOk};
 ghost use Rattle.std.specs.Prelude.{length, map, string_bytes};
 ghost use Rattle.stat_defs.specs.Borrowed.{event_of};
 ghost use Rattle.stat_defs.specs.Events.{IsLawfulEvent};
-ghost use Rattle.event_script.specs.Answer.{TellsEnd};
-ghost use Rattle.event_script.specs.Told.{told, answer_of};
-ghost use Rattle.event_script.specs.declared.step.Step.TheVariants as step_told;
 ghost use Rattle.event_script.specs.declared.limits.TheConstants as file;
 ghost use Rattle.lone_worker.specs.declared.worker.TheConstants as worker;
 ghost use Rattle.replay_report.specs.Applying.{IsToldBehind};
-ghost use Rattle.replay_report.specs.FileRun.{taken_at, IsSourceRun, IsFileRun, AreRuns};
+ghost use Rattle.replay_report.specs.FileRun.{IsSourceRun, IsFileRun, AreRuns};
 
-use event_script::{Lines, StepRef};
+use event_script::Lines;
+use file_reading::{end_of, event_or_end, not_opened};
 use plain_store::PlainStore;
-use stat_defs::{EventRef, FileEnd, List, NoMemory, Verdict, WorkerEnd};
+use stat_defs::{EventRef, List, NoMemory, Verdict, WorkerEnd};
 use stats_io::{OpenFault, Shelf, Source};
 use std::alloc::Global;
 
@@ -29,33 +27,6 @@ pub(crate) struct FileRun {
 pub(crate) struct Runs {
     pub(crate) verdicts: Vec<List<Verdict>>,
     pub(crate) ends: Vec<WorkerEnd>,
-}
-
-// The event of a step, or the end of the file.
-#[inline(always)]
-fn event_or_end<'a>(step: StepRef<'a>) -> Result<EventRef<'a>, FileEnd>
-    ensures { MatchResult result (λ event. told step.entry ≡ step_told.Event (event_of event))
-        (λ end. TellsEnd (answer_of step.entry) end) }
-{
-    match step {
-        StepRef::Event(event) => Ok(event),
-        StepRef::End => Err(FileEnd::Whole),
-        StepRef::BadLine(number) => Err(FileEnd::BadLine(number)),
-        StepRef::LineTooLong(number) => Err(FileEnd::LineTooLong(number)),
-        StepRef::TooBig => Err(FileEnd::TooBig),
-        StepRef::TooMany => Err(FileEnd::TooMany),
-        StepRef::ReadFault => Err(FileEnd::ReadFault),
-    }
-}
-
-// The bytes that were taken, where the source failed.
-fn taken_at(end: FileEnd, taken: u64) -> u64
-    ensures { result ≡ taken_at end taken }
-{
-    match end {
-        FileEnd::ReadFault => taken,
-        _ => 0,
-    }
 }
 
 // Applies an event, whose verdict comes behind the earlier ones.
@@ -93,14 +64,7 @@ fn read_source<S: Source + Drop>(
         match event_or_end(step) {
             Ok(event) => tell_verdict(alloc, store, &event, &mut verdicts)?,
             Err(end) => {
-                let taken = taken_at(end, lines.taken());
-                let source = lines.into_source();
-                let end = WorkerEnd {
-                    end,
-                    taken,
-                    faults_before,
-                    faults_after: source.fault_count(),
-                };
+                let end = end_of(lines, end, faults_before);
                 return Ok(FileRun { verdicts, end });
             }
         }
@@ -124,12 +88,7 @@ fn read_file<F: Shelf>(
         Ok(source) => read_source(alloc, source, store),
         Err(OpenFault::Failed) => Ok(FileRun {
             verdicts: Vec::new(alloc),
-            end: WorkerEnd {
-                end: FileEnd::NotOpened,
-                taken: 0,
-                faults_before,
-                faults_after: shelf.fault_count(),
-            },
+            end: not_opened(faults_before, shelf.fault_count()),
         }),
         Err(OpenFault::NoMemory) => Err(NoMemory),
     }

@@ -8,7 +8,7 @@ use Rattle.stat_defs.specs.declared.reports.FileEnd.TheVariants.{ReadFault, NotO
 use Rattle.stat_defs.specs.declared.reports.WorkerEnd.{WorkerEnd}
 use Rattle.stats_io.specs.States.{SourceState, ShelfState}
 use Rattle.event_script.specs.Run.{IsRun}
-use Rattle.replay_report.specs.WorkerEnd.{HasCause}
+use Rattle.file_reading.specs.WorkerEnd.{HasCause}
 
 -- the events that were read of a file, and how it ended
 pub record FileRead : Type 0 where

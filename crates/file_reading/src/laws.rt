@@ -1,6 +1,6 @@
 //! A law, the contract of a function that does nothing.
 ghost use Rattle.std.specs.Prelude.{◌≤◌, ◌+◌, ◌-◌, ◌^◌, ℕ, List, Option, min};
-ghost use Rattle.replay_report.specs.FileRead.{FileRead, AreFiles, unopened};
+ghost use Rattle.file_reading.specs.FileRead.{FileRead, AreFiles, unopened};
 
 use stats_io::Shelf;
 

@@ -5,8 +5,8 @@ use Rattle.stat_defs.specs.declared.reports.FileEnd.{FileEnd}
 use Rattle.stat_defs.specs.declared.reports.FileEnd.TheVariants.{Whole, BadLine, LineTooLong, TooBig, TooMany, ReadFault, NotOpened}
 use Rattle.stat_defs.specs.declared.reports.WorkerEnd.{WorkerEnd}
 use Rattle.stats_io.specs.States.{SourceState, ShelfState}
-use Rattle.replay_report.specs.WorkerEnd.{HasCause}
-use Rattle.replay_report.specs.FileRead.{FileRead, AreFiles, is_unopened, unopened}
+use Rattle.file_reading.specs.WorkerEnd.{HasCause}
+use Rattle.file_reading.specs.FileRead.{FileRead, AreFiles, is_unopened, unopened}
 
 module _ {F S : Type 0} (shelf : F → ShelfState) (source : S → SourceState) where
   module _ (content : Option (List ℕ)) (name : List ℕ) (before after : ShelfState) (worker : WorkerEnd) where

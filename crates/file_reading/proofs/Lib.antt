@@ -1,0 +1,4 @@
+mod UnopenedFiles
+pub mod ReadSoFar
+pub mod ReadToEnd
+pub mod FileOpened

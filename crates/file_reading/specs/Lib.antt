@@ -1,0 +1,3 @@
+pub mod WorkerEnd
+pub mod FileRead
+pub mod SourceRead
