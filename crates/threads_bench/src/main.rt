@@ -1,10 +1,12 @@
-//! What threads share, counted, or timed by the words `words`, `asked`, `exchange` and `locks`.
+//! What threads share, counted, or timed by the words `words`, `asked`, `exchange`, `locks`
+//! and `gates`.
 #![tactic(auto)]
 
 mod cells;
 mod counters;
 mod entries;
 mod four;
+mod gates;
 mod gauges;
 mod loads;
 mod locks;
@@ -20,13 +22,15 @@ fn main(rt: HostRuntime) -> io::Result<()> {
     let Some(word) = args.next() else {
         words::count(&rt)?;
         cells::count(&rt)?;
-        return entries::count(&rt);
+        entries::count(&rt)?;
+        return gates::count(&rt);
     };
     match word.as_str() {
         "words" => words::time(&rt),
         "asked" => cells::time_polls(&rt),
         "exchange" => cells::time_rounds(&rt),
         "locks" => entries::time(&rt),
+        "gates" => gates::time(&rt),
         _ => Ok(()),
     }
 }
