@@ -10,4 +10,6 @@ pub const MAX_FILE_BYTES: usize = 8_388_608;
 pub const MAX_EVENTS: u64 = 131_072;
 
 // The values that operators are told: contracts have them by name.
-const _: () = prove!(MAX_LINE_BYTES == 1_024 && MAX_FILE_BYTES == 8_388_608 && MAX_EVENTS == 131_072);
+const _: () = prove!(
+    MAX_LINE_BYTES == 1_024 && MAX_FILE_BYTES == 8_388_608 && MAX_EVENTS == 131_072
+);

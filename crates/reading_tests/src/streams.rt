@@ -1,8 +1,8 @@
 ghost use Rattle.std.specs.Prelude.{None, Some};
 
 use stats_io::{
-    FileSource, FolderShelf, MemFile, MemShelf, MemSink, OpenFault, Pull, Pulled, Shelf, Sink, Source, StdSink,
-    WriteFault, pull_up_to, push_all,
+    FileSource, FolderShelf, MemFile, MemShelf, MemSink, OpenFault, Pull, Pulled, Shelf, Sink,
+    Source, StdSink, WriteFault, pull_up_to, push_all,
 };
 use std::alloc::Global;
 use std::io::{Read, Write};
@@ -202,7 +202,10 @@ fn an_interrupted_stream(rt: HostRuntime) -> Result<(), Fail> {
     let alloc = rt.alloc();
     let reader = Interrupted::of(b"abc".to_vec(alloc)?);
     let mut source = FileSource::new(reader, String::from_str(alloc, "f")?);
-    assert_eq!(rt; pulled(alloc, &mut source, 5)?.as_slice(), b"abc..".as_slice());
+    assert_eq!(rt;
+        pulled(alloc, &mut source, 5)?.as_slice(),
+        b"abc..".as_slice()
+    );
     assert!(rt; source.fault_count() == 0);
     let mut sink = StdSink::new(Interrupted::of(Vec::new(alloc)));
     let said = push_all(&mut sink, b"abc");

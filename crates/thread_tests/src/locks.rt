@@ -1,9 +1,9 @@
 ghost use Rattle.std.specs.Prelude.{◌≡◌, ◌+◌, ◌∷◌, ◌++◌, [], MatchResult};
 ghost use Rattle.stat_defs.specs.declared.history.Call.TheVariants as call;
 ghost use Rattle.stat_defs.specs.Books.{BookHistory};
-ghost use Rattle.book_lock.specs.History.{MayLeave};
+ghost use Rattle.seat_history.specs.History.{MayLeave};
 ghost use Rattle.book_lock.specs.Locked.{blank_config};
-ghost use Rattle.book_lock.specs.Seats.{lock_id, seats_of, seat_part, seat_number, AtRest, HasBook, held_book, AreNew};
+ghost use Rattle.book_lock.specs.Seats.{lock_id, seats_of, seat_known, seat_number, AtRest, HasBook, held_book, AreNew};
 
 use crate::fake_book::FakeBook;
 use book_lock::{BookLock, Held, LockSeat, Try};
@@ -47,13 +47,13 @@ fn add_and_leave(
     reply: Reply,
 ) -> Result<(), NoMemory>
     requires seat { HasBook (lock_id lock.now) seat.old × (seat_number seat.old ≡ number) }
-    requires book { MayLeave (seat_part seat.old)
+    requires book { MayLeave (seat_known seat.old)
         (record { config = blank_config; workers = 4; log = (held_book held).entries.items }) }
     ensures seat { AtRest (lock_id lock.now) seat.new × (seat_number seat.new ≡ number) }
-    ensures made { (seat_part seat.old).known ≡ (held_book held).entries.items
-        → MatchResult result (λ _. (seat_part seat.new).made ≡ (seat_part seat.old).made
+    ensures made { (seat_known seat.old).known ≡ (held_book held).entries.items
+        → MatchResult result (λ _. (seat_known seat.new).made ≡ (seat_known seat.old).made
         ++ (record { seat = number; call = call.Ack; reply = reply }) ∷ [])
-        (λ _. (seat_part seat.new).made ≡ (seat_part seat.old).made) }
+        (λ _. (seat_known seat.new).made ≡ (seat_known seat.old).made) }
 {
     let added = held.book().add(entry_of(number, reply));
     lock.leave(seat, held);
@@ -70,9 +70,9 @@ fn add_reply<R: Wait>(
     requires seat { AtRest (lock_id lock.now) seat.old × (seat_number seat.old ≡ number) }
     ensures seat { AtRest (lock_id lock.now) seat.new × (seat_number seat.new ≡ number) }
     ensures made { MatchResult result
-        (λ _. (seat_part seat.new).made ≡ (seat_part seat.old).made
+        (λ _. (seat_known seat.new).made ≡ (seat_known seat.old).made
         ++ (record { seat = number; call = call.Ack; reply = reply }) ∷ [])
-        (λ _. (seat_part seat.new).made ≡ (seat_part seat.old).made) }
+        (λ _. (seat_known seat.new).made ≡ (seat_known seat.old).made) }
 {
     let held = lock.enter(rt, seat);
     add_and_leave(lock, seat, held, number, reply)

@@ -2,8 +2,9 @@ use Rattle.std.proofs.Common.{◌++◌, refl, ap, ◌∙◌, sym}
 use Rattle.stat_defs.specs.Books.{BookHistory}
 use Rattle.thread_tests.specs.declared.fake_book.FakeBook.{FakeBook}
 use Rattle.book_lock.specs.Locked.{blank_config}
-use Rattle.book_lock.specs.Seats.{seat_part}
-use Rattle.book_lock.proofs.Uses.{added, leaves-more}
+use Rattle.seat_history.proofs.Leaves.{leaves-more}
+use Rattle.book_lock.specs.Seats.{seat_known}
+use Rattle.book_lock.proofs.Uses.{added}
 use Rattle.thread_tests.proofs.locks.add_and_leave.Goals as goal
 
 history : FakeBook → BookHistory
@@ -13,4 +14,4 @@ pub leave-requires-clause-book : goal.leave-requires-clause-book
 unfolding history
 leave-requires-clause-book c = let new = c.add-added.new.self in
     let a = added c.add-added.result _ c.book.result.now.entries.items new.entries.items c.add-added.ensures in
-    leaves-more (seat_part c.args.seat.now) (history c.args.held.book.value) (history new) a.0 c.requires.book refl refl (a.1 ∙ ap (λ b. b.entries.items ++ a.0) c.book.ensures.value) (a.2 _ (ap (λ e. e.seat) c.entry_of.ensures ∙ sym c.requires.seat.1))
+    leaves-more (seat_known c.args.seat.now) (history c.args.held.book.value) (history new) a.0 c.requires.book refl refl (a.1 ∙ ap (λ b. b.entries.items ++ a.0) c.book.ensures.value) (a.2 _ (ap (λ e. e.seat) c.entry_of.ensures ∙ sym c.requires.seat.1))
