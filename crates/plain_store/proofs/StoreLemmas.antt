@@ -19,7 +19,7 @@ use Rattle.book_state.proofs.Lists.{true_false, within_some}
 use Rattle.stat_defs.specs.declared.configs.Config.{Config}
 use Rattle.stat_defs.specs.declared.events.Key.{Key}
 use Rattle.stat_book.specs.Calls.{rules_of, state_of, IsLegal}
-use Rattle.lone_worker.specs.Seats.{NamesLive, NamesOwn}
+use Rattle.book_seat.specs.Naming.{NamesLive, NamesOwn}
 use Rattle.lone_worker.specs.Worker.{WorkerHistory, Decides}
 use Rattle.ledger.specs.Work.{Work, units_in, units_of, recording_in}
 use Rattle.ledger.specs.Gauges.{gauge_word, move_in}

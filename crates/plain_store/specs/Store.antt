@@ -35,9 +35,10 @@ pub record Applied (old : StoreHistory) (e : Event) (v : Verdict) (new : StoreHi
   pub worker : Decides old.worker e v new.worker
   pub rest : new ≡ record old { worker = new.worker }
 
--- a call was cut short by want of memory: at most one event more was decided
+-- a call was cut short by want of memory: entries may stand behind the log as it was, and at most one event more was
+-- decided
 pub record IsCutShort (old new : StoreHistory) : Type 0 where
-  pub config : new.worker.book.config ≡ old.worker.book.config
+  pub front : (more : List Entry) × (new.worker.book ≡ record old.worker.book { log = old.worker.book.log ++ more })
   pub events : length new.worker.events ≤ length old.worker.events + 1
   pub flushes : new.flushes ≡ old.flushes
   pub whole : new.whole ≡ false

@@ -6,7 +6,7 @@ use Rattle.stat_defs.specs.declared.ids.MetricId.{MetricId}
 use Rattle.book_state.specs.State.{Row}
 use Rattle.stat_book.specs.Calls.{state_of}
 use Rattle.ledger.specs.Flushes.{ids_made}
-use Rattle.lone_worker.proofs.KeptSeats.{if_ok}
+use Rattle.book_seat.proofs.Results.{if_ok}
 use Rattle.plain_store.specs.Sums.{is_of_kind, as_id, Shows}
 use Rattle.plain_store.proofs.Listed.{range_within, made_listed}
 use Rattle.plain_store.proofs.FlushLemmas.{shows_as}

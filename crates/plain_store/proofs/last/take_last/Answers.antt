@@ -2,7 +2,7 @@ use Rattle.std.proofs.Common.{length, filter, refl, ◌∙◌}
 use Rattle.stat_defs.specs.declared.ids.Kind.TheVariants.{Counter, Gauge}
 use Rattle.stat_book.specs.Calls.{state_of}
 use Rattle.ledger.specs.Flushes.{ids_made, ids_not_gone}
-use Rattle.lone_worker.proofs.KeptSeats.{if_ok}
+use Rattle.book_seat.proofs.Results.{if_ok}
 use Rattle.plain_store.specs.Sums.{is_of_kind, Shows, SweepsLast}
 use Rattle.plain_store.proofs.FlushLemmas.{names_within, kind_shown, shows_as}
 use Rattle.plain_store.proofs.last.take_last.Goals as goal

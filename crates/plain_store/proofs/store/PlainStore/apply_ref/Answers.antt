@@ -5,9 +5,9 @@ use Rattle.book_state.specs.Follows.{event_key}
 use Rattle.book_state.proofs.Lists.{true_false}
 use Rattle.stat_book.specs.Calls.{state_of}
 use Rattle.lone_worker.specs.declared.worker.TheConstants.{MAX_EVENTS}
-use Rattle.lone_worker.specs.Seats.{NamesLive}
+use Rattle.book_seat.specs.Naming.{NamesLive}
 use Rattle.lone_worker.specs.Worker.{WorkerHistory}
-use Rattle.lone_worker.proofs.KeptSeats.{err_so}
+use Rattle.book_seat.proofs.Results.{err_so}
 use Rattle.merge_round.specs.Rounds.{ParentsState, all_values}
 use Rattle.plain_store.specs.Sums.{IsMade}
 use Rattle.plain_store.specs.Store.{StoreHistory, Applied, IsCutShort}
@@ -98,7 +98,7 @@ returns-in_err-verdict-clause-err c =
     let new : StoreHistory = record { worker = c.decide_ref.new.self; flushes = p.flushes.items; whole = false } in
     let events = ap (λ (w : WorkerHistory). length w.events) cut.cut in
     err_so c.from_residual.result (IsCutShort c.args.self.now new)
-    (subst (λ (s : StoreHistory). IsCutShort s new) c.self.view_is (record { config = cut.config; events = omega (arith, events); flushes = refl; whole = refl }))
+    (subst (λ (s : StoreHistory). IsCutShort s new) c.self.view_is (record { front = (cut.left.more, cut.left.logged); events = omega (arith, events); flushes = refl; whole = refl }))
 
 pub returns-in_err-sum_up-clause-err : goal.returns-in_err-sum_up-clause-err
 returns-in_err-sum_up-clause-err c =
@@ -106,4 +106,4 @@ returns-in_err-sum_up-clause-err c =
     let new : StoreHistory = record { worker = c.decide_ref.new.self; flushes = p.flushes.items; whole = false } in
     let events = ap (λ (w : WorkerHistory). length w.events) ok.decided ∙ length-append p.worker.events (event_of c.args.event.now ∷ []) in
     err_so c.from_residual-in_err-sum_up.result (IsCutShort c.args.self.now new)
-    (subst (λ (s : StoreHistory). IsCutShort s new) c.self.view_is (record { config = ap (λ (b : BookHistory). b.config) ok.added.logged; events = omega (arith, events); flushes = refl; whole = refl }))
+    (subst (λ (s : StoreHistory). IsCutShort s new) c.self.view_is (record { front = (ok.added.more, ok.added.logged); events = omega (arith, events); flushes = refl; whole = refl }))

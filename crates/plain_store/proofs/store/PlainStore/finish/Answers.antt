@@ -1,6 +1,6 @@
 use Rattle.std.proofs.Common.{subst, arith}
 use Rattle.std.specs.Prelude.{IfOk}
-use Rattle.lone_worker.proofs.KeptSeats.{if_ok}
+use Rattle.book_seat.proofs.Results.{if_ok}
 use Rattle.plain_store.specs.Sums.{EndsWith}
 use Rattle.plain_store.specs.Store.{StoreHistory, Finishes}
 use Rattle.plain_store.specs.StoreKept.{shown}

@@ -1,4 +1,4 @@
-use Rattle.std.proofs.Common.{false, List, length, filter, refl, ap, sym, ◌∙◌, subst, arith}
+use Rattle.std.proofs.Common.{false, List, [], length, filter, refl, ap, sym, ◌∙◌, subst, arith, append-nil}
 use Rattle.stat_defs.specs.Books.{BookHistory}
 use Rattle.stat_defs.specs.declared.ids.Kind.TheVariants.{Counter, Gauge}
 use Rattle.stat_defs.specs.declared.history.Entry.{Entry}
@@ -6,7 +6,7 @@ use Rattle.stat_defs.specs.declared.reports.FlushRecord.{FlushRecord}
 use Rattle.book_state.proofs.Lists.{true_false}
 use Rattle.stat_book.specs.Calls.{state_of}
 use Rattle.lone_worker.specs.Worker.{WorkerHistory}
-use Rattle.lone_worker.proofs.KeptSeats.{err_so}
+use Rattle.book_seat.proofs.Results.{err_so}
 use Rattle.ledger.specs.Flushes.{ids_not_gone}
 use Rattle.plain_store.specs.Sums.{is_of_kind}
 use Rattle.plain_store.specs.Store.{StoreHistory, IsCutShort, Flushes}
@@ -103,7 +103,7 @@ returns-in_err-swept-clause-err c =
     let events = ap (λ (w : WorkerHistory). length w.events) same in
     err_so c.from_residual.result (IsCutShort c.args.self.now after)
     (subst (λ (s : StoreHistory). IsCutShort s after) c.self.view_is
-    (record { config = ap (λ (w : WorkerHistory). w.book.config) same; events = omega (arith, events); flushes = refl; whole = refl }))
+    (record { front = ([], ap (λ (w : WorkerHistory). w.book) same ∙ λ i. record { config = p.worker.book.config; workers = p.worker.book.workers; log = sym (append-nil p.worker.book.log) i }); events = omega (arith, events); flushes = refl; whole = refl }))
 
 pub returns-in_err-flush-clause-err : goal.returns-in_err-flush-clause-err
 returns-in_err-flush-clause-err c =
@@ -112,4 +112,4 @@ returns-in_err-flush-clause-err c =
     let events = ap (λ (w : WorkerHistory). length w.events) rest in
     err_so c.from_residual-in_err-flush.result (IsCutShort c.args.self.now after)
     (subst (λ (s : StoreHistory). IsCutShort s after) c.self.view_is
-    (record { config = ap (λ (b : BookHistory). b.config) c.in_ok-swept.ensures.step.logged; events = omega (arith, events); flushes = refl; whole = refl }))
+    (record { front = (_, c.in_ok-swept.ensures.step.logged); events = omega (arith, events); flushes = refl; whole = refl }))
