@@ -18,7 +18,7 @@ use Rattle.ledger.specs.Readings.{word_on}
 use Rattle.ledger.proofs.Lists.{number_same}
 use Rattle.flush_view.specs.Views.{is_part_on}
 use Rattle.flush_view.specs.Sums.{with_deltas, with_readings, with_part, with_parts, HasRoomForAll}
-use Rattle.flush_view.proofs.SameBins.{merged_rises}
+use Rattle.loglinear_bins.proofs.SameBins.{merged_rises}
 
 module _ {X : Type 0} (top : ℕ) (id_of n_of : X → ℕ) where
   abbrev adding : List ℕ → X → List ℕ

@@ -24,8 +24,8 @@ use Rattle.flush_view.specs.Showing.{IsShowable, HasLawfulParts, values_taken}
 use Rattle.flush_view.specs.Sums.{with_deltas, with_readings, with_parts, HasRoomForAll}
 use Rattle.flush_view.specs.Views.{parts_on, merged_parts, is_part_on}
 use Rattle.flush_view.proofs.ByNumber.{behind, values_in, IsRoomy, room_for_all, parts_at, warm_at, deltas_at, readings_at}
-use Rattle.flush_view.proofs.Rising.{sums_rise}
-use Rattle.flush_view.proofs.SameBins.{none_rise}
+use Rattle.loglinear_bins.proofs.MergedBins.{sums_rise}
+use Rattle.loglinear_bins.proofs.SameBins.{none_rise}
 
 -- the flushes up to the next one
 pub one_more : (flushes : List FlushRecord) (k : ℕ) (flush : FlushRecord) → slice_get flushes k ≡ Some flush

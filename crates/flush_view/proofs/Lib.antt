@@ -1,6 +1,5 @@
 pub mod EachView
 mod Ordered
-mod Rising
 mod Totals
 mod Intervals
 mod Cumulative
@@ -10,7 +9,6 @@ mod Made
 pub mod InLog
 mod Replayed
 mod FullNames
-mod SameBins
 mod ByNumber
 mod Picked
 mod Following

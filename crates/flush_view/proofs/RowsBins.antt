@@ -19,7 +19,7 @@ use Rattle.flush_view.specs.Showing.{HasLawfulParts, IsShowable, AreBinsShown, H
 use Rattle.flush_view.specs.Views.{NumberedMetric, view_rules, state_before, last_state, metrics_shown, has_histogram_row, histogram_row, parts_on, merged_parts, view_of}
 use Rattle.flush_view.proofs.BinsShown.{AllLawful, flush_lawful, flushes_lawful}
 use Rattle.flush_view.proofs.Countings.{total_merged}
-use Rattle.flush_view.proofs.Rising.{sums_rise}
+use Rattle.loglinear_bins.proofs.MergedBins.{sums_rise}
 
 abbrev values_of_part : Part → ℕ
 values_of_part part = total part.bins

@@ -39,7 +39,7 @@ use Rattle.flush_view.proofs.FileEvents.{AreOfFile, files_few}
 use Rattle.flush_view.proofs.InLog.{one_each, legal_with_ends}
 use Rattle.flush_view.proofs.LawfulParts.{segments_fit, lawful_parts}
 use Rattle.flush_view.proofs.Recorded.{AreBounded, events_of, events_in_files, apart_bounded, together_bounded, all_units_few, values_of, all_values_fit, all_values_few}
-use Rattle.flush_view.proofs.Rising.{sums_rise}
+use Rattle.loglinear_bins.proofs.MergedBins.{sums_rise}
 
 pub never_falls : (xs : List ℕ) → IsStrictlyIncreasing xs → IsNonDecreasing xs
 never_falls xs rising i j d low within = ⊎_elim

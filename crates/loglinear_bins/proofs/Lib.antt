@@ -11,3 +11,6 @@ pub mod Merging
 pub mod Adding
 pub mod Restored
 pub mod Values
+pub mod MergedBins
+pub mod SameBins
+pub mod Joined

@@ -23,6 +23,8 @@ pub fn merge_law()
     ensures total { (counts others : List BinCount) → total (merged counts others) ≡ total counts + total others }
     ensures values { (counts others : List BinCount) (values more : List ℕ) → AreBinsOf counts values
         → AreBinsOf others more → AreBinsOf (merged counts others) (values ++ more) }
+    ensures joined { (values more : List ℕ) → All (λ v. v < 2 ^ 64) values → All (λ v. v < 2 ^ 64) more
+        → merged (bins_of values) (bins_of more) ≡ bins_of (values ++ more) }
 {}
 
 /// The bins of a list of values are a function of it: one value more is one more in its bin, each bin counts the values

@@ -1,48 +1,48 @@
 //! Halves, which workers fill.
-ghost use Rattle.std.specs.Prelude.{◌≡◌, ◌+◌, ◌<◌, ◌≤◌, [], OnOk, IsOk, IsErr, IsTrue, IfOk, false};
-ghost use Rattle.loglinear_bins.specs.Counts.{total};
-ghost use Rattle.merge_round.specs.Halves.{HalfState, bins_in, is_warm_in, with_value, with_warm, no_bins};
+ghost use Rattle.std.specs.Prelude.{◌≡◌, ◌<◌, IsErr, IsOk, IsTrue, OnErr, OnOk, length};
+ghost use Rattle.merge_round.specs.Halves.{is_warm_in, new_half, recorded, emptied};
 
 use crate::tables::Tables;
+use ghost_list::GhostList;
 use stat_defs::{MetricId, NoMemory, Weighed};
 use std::alloc::Global;
 use std::marker::Model;
 
-/// The most values of a half.
+/// The maximum number of values of a half.
 pub const MAX_HALF_COUNT: u64 = 1 << 23;
 
 /// The values that a worker recorded since its half was empty, as the bins of each histogram. A histogram is warm where
-/// the half has a table for it, which stays.
+/// the half has a table for it, which stays. Contracts see the values themselves, in order.
 #[derive(Drop)]
 pub struct Half {
     pub(crate) tables: Tables,
     pub(crate) count: u64,
+    values: GhostList<(u32, u64)>,
+    touched: GhostList<u32>,
 }
 
 impl Model for Half {
-    ghost use Rattle.std.specs.Prelude.{◌≤◌};
-    ghost use Rattle.merge_round.specs.Halves.{HalfState, HasAtMost};
-    ghost use Rattle.merge_round.specs.Slots.{bins_at};
-    ghost use Rattle.merge_round.specs.declared.half.TheConstants.{MAX_HALF_COUNT};
+    ghost use Rattle.merge_round.specs.Halves.{HalfState};
+    ghost use Rattle.merge_round.specs.Kept.{IsHalf};
 
     ghost Value = { HalfState };
 
-    ghost view = { λ h. record { slots = h.tables; count = h.count } };
+    ghost view = { λ h. record { values = h.values.items; touched = h.touched.items } };
 
-    ghost invariant = { λ h. HasAtMost h.count (bins_at h.tables) × (h.count ≤ MAX_HALF_COUNT) };
+    ghost invariant = { λ h. IsHalf h.tables h.count (record { values = h.values.items; touched = h.touched.items }) };
 }
 
 impl Half {
-    /// No values, and no warm histogram.
-    pub fn new(alloc: Global) -> Result<Half, NoMemory>
-        ensures bins { IfOk result (λ half. bins_in half ≡ no_bins) }
-        ensures warm { IfOk result (λ half. is_warm_in half ≡ (λ _. false)) }
-        ensures count { IfOk result (λ half. half.count ≡ 0) }
+    /// No values, and no warm histogram. This takes no memory.
+    pub fn new(alloc: Global) -> Half
+        ensures { result ≡ new_half }
     {
-        Ok(Half {
+        Half {
             tables: Tables::new(alloc),
             count: 0,
-        })
+            values: GhostList::new(),
+            touched: GhostList::new(),
+        }
     }
 
     /// Whether the half has a table for the histogram.
@@ -54,39 +54,34 @@ impl Half {
 
     /// Counts one value of the histogram, which is warm then. Where it was, this takes no memory.
     pub fn record(&mut self, alloc: Global, id: MetricId, v: u64) -> Result<(), NoMemory>
-        requires { self.old.count < MAX_HALF_COUNT }
+        requires { length self.old.values < MAX_HALF_COUNT }
+        ensures ok { OnOk result (self.new ≡ recorded id.0 v self.old) }
         ensures sure { IsTrue (is_warm_in self.old id.0) → IsOk result }
-        ensures bins { OnOk result (bins_in self.new ≡ with_value (bins_in self.old) id.0 v) }
-        ensures warm { OnOk result (is_warm_in self.new ≡ with_warm (is_warm_in self.old) id.0) }
-        ensures count { OnOk result (self.new.count ≡ self.old.count + 1) }
-
-        // After want of memory.
-        ensures same_bins { IsErr result → bins_in self.new ≡ bins_in self.old }
-        ensures same_warm { IsErr result → is_warm_in self.new ≡ is_warm_in self.old }
-        ensures same_count { IsErr result → self.new.count ≡ self.old.count }
+        ensures err { OnErr result (self.new ≡ self.old) }
     {
         self.tables.warm(alloc, id)?;
         self.tables.record(id, v);
         self.count += 1;
+        self.values = self.values.and(&(id.0, v));
+        self.touched = self.touched.and(&id.0);
         Ok(())
     }
 
     /// Forgets all values. The tables stay.
     pub(crate) fn clear(&mut self)
-        ensures bins { bins_in self.new ≡ no_bins }
-        ensures warm { is_warm_in self.new ≡ is_warm_in self.old }
-        ensures count { self.new.count ≡ 0 }
+        ensures { self.new ≡ emptied self.old }
     {
         self.tables.clear();
         self.count = 0;
+        self.values = GhostList::new();
     }
 }
 
 impl Weighed for Half {
-    ghost use Rattle.std.specs.Prelude.{◌≡◌};
+    ghost use Rattle.std.specs.Prelude.{◌≡◌, length};
 
     // The number of values.
-    ghost weighs = { λ half. half.count };
+    ghost weighs = { λ half. length half.values };
 
     fn weight(&self) -> u64 {
         self.count

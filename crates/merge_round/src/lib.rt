@@ -4,6 +4,7 @@
 mod half;
 mod laws;
 mod listing;
+mod merged;
 mod parents;
 mod slots;
 mod tables;

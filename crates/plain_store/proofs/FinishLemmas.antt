@@ -43,9 +43,8 @@ ended_of_work old mid sums l was = record {
   units = was.units;
   none_elsewhere = λ id none. was.none_elsewhere id (ap (λ (s : State). is_counter_there s id) (sym l.step.after) ∙ none);
   words = was.words;
-  bins = was.bins;
+  left = was.left;
   none_merged = was.none_merged;
-  values = was.values;
   takes_less = was.takes_less;
   fit = subst (λ (b : BookHistory). FitSoFar (rules_of b) b.log (work_in old ∷ []) old.flushes) (sym l.logged)
       (all_entries (rules_of old.worker.book) old.worker.book.log (record { seat = 1; call = call.End; reply = reply.Ended } ∷ []) (work_in old ∷ []) old.flushes was.fit);

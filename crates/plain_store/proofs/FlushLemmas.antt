@@ -1,7 +1,6 @@
 -- What the record of a flush shows of the work.
-use Rattle.std.proofs.Common.{◌≡◌, ℕ, zero, suc, ◌+◌, ◌<◌, ◌^◌, ◌&&◌, not, Bool, true, false, cond, Option, option_map, Some, None, List, [], ◌∷◌, ◌++◌, map, filter, length, slice_get, sum_by, All, refl, ap, sym, ◌∙◌, subst, arith}
+use Rattle.std.proofs.Common.{◌≡◌, ℕ, zero, suc, ◌+◌, ◌<◌, ◌&&◌, not, Bool, true, false, cond, Option, option_map, Some, None, List, [], ◌∷◌, ◌++◌, map, filter, length, slice_get, All, append-nil, refl, ap, sym, ◌∙◌, subst, arith}
 use Rattle.std.specs.Option.{option_map_or}
-use Rattle.std.proofs.lemmas.List.Elements.{All-drop}
 use Rattle.std.proofs.lemmas.List.{length-map}
 use Rattle.stat_defs.specs.Books.{BookHistory}
 use Rattle.stat_defs.specs.Keys.{same_kind}
@@ -16,17 +15,16 @@ use Rattle.stat_defs.specs.declared.metrics.Life.TheVariants.{Gone}
 use Rattle.stat_defs.specs.declared.reports.FlushRecord.{FlushRecord}
 use Rattle.stat_defs.specs.declared.reports.Reading.{Reading}
 use Rattle.stat_defs.specs.declared.reports.Part.{Part}
-use Rattle.merge_round.specs.Halves.{bins_in, bins_by, no_bins}
-use Rattle.merge_round.specs.Rounds.{parts_in, both, no_parts, with_part, ArePartsOf}
-use Rattle.merge_round.proofs.ByValues.{bins_by-none, both-first}
+use Rattle.merge_round.specs.Halves.{HalfState, bins_by}
+use Rattle.merge_round.specs.Rounds.{worker_values, ArePartsOf}
 use Rattle.book_state.specs.State.{State, Row, is_gone, metrics_of, names_in}
 use Rattle.book_state.specs.Step.{swept, overdue}
 use Rattle.book_state.specs.Log.{replay}
 use Rattle.book_state.proofs.Lists.{get_map}
 use Rattle.stat_book.specs.Calls.{rules_of, state_of, Logged}
-use Rattle.ledger.specs.Work.{units_of, recordings}
+use Rattle.ledger.specs.Work.{units_of}
 use Rattle.ledger.specs.Gauges.{gauge_word}
-use Rattle.ledger.specs.Segments.{taken_from, left_over, bins_by_worker}
+use Rattle.ledger.specs.Segments.{segment_of, left_over, bins_by_worker}
 use Rattle.ledger.specs.Flushes.{ids_not_gone, id_of_delta, id_of_reading, Fits, FitSoFar, flushed}
 use Rattle.ledger.proofs.Names.{kinds, deltas}
 use Rattle.ledger.proofs.Sums.{units_flush}
@@ -40,16 +38,11 @@ use Rattle.plain_store.specs.StoreKept.{is_counter_there, AreOfWork}
 use Rattle.plain_store.proofs.Numbers.{is_not}
 use Rattle.plain_store.proofs.Listed.{listed_within, delta_ids, reading_ids, reading_words, listed_among, passes}
 
--- the parts of a round in which the worker's half alone was taken
-parts_are : (values : List (ℕ × ℕ)) → both no_bins (bins_by values) ≡ bins_by values
-    → (worker id : ℕ) → with_part no_parts 1 (bins_by values) worker id ≡ bins_by_worker (values ∷ []) worker id
-parts_are values first zero id = refl
-parts_are values first (suc zero) id = ap (λ (bins : ℕ → List BinCount). bins id) first
-parts_are values first (suc (suc worker)) id = ap (λ (t : Bool). (cond t (both (no_parts 1) (bins_by values)) (no_parts (suc (suc worker)))) id) (is_not (suc (suc worker)) 1 (λ e. omega (arith, e)))
-
-pub parts_fit : (values : List (ℕ × ℕ)) (parts : List Part) → All (λ (r : ℕ × ℕ). r.1 < 2 ^ 64) values
-    → ArePartsOf (with_part no_parts 1 (bins_by values)) parts → ArePartsOf (bins_by_worker (values ∷ [])) parts
-parts_fit values parts small are = subst (λ (f : ℕ → ℕ → List BinCount). ArePartsOf f parts) (λ i worker id. parts_are values (both-first values small) worker id i) are
+-- the values of a round in which the worker's half alone was taken
+values_are : (half : HalfState) (worker : ℕ) → worker_values worker ((1, half) ∷ []) ≡ segment_of (half.values ∷ []) worker
+values_are half zero = refl
+values_are half (suc zero) = append-nil half.values
+values_are half (suc (suc worker)) = ap (λ (t : Bool). cond t half.values [] ++ []) (is_not 1 (suc (suc worker)) (λ e. omega (arith, e)))
 
 -- a sweep leaves each metric its kind
 pub swept_kind : (kind : Kind) (old new : BookHistory) (n : ℕ) → Logged old 0 call.Sweep (reply.Swept n) new → (id : MetricId)
@@ -84,13 +77,12 @@ passes_there s id = ap (λ (o : Option Metric). option_map_or (λ m. same_kind m
   of_row (Some row) = refl
 
 -- the parts of a flush are those of what is left over
-pub parts_left : (old : StoreHistory) (before : Sums) (parts : List Part) → ArePartsOf (with_part (parts_in before.parents) 1 (bins_in before.half)) parts → AreOfWork old before
+pub parts_left : (old : StoreHistory) (before : Sums) (parts : List Part) → ArePartsOf (λ worker. bins_by (worker_values worker (before.parents.round ++ (1, before.half) ∷ []))) parts → AreOfWork old before
     → ArePartsOf (bins_by_worker (left_over 1 (work_in old) old.flushes ∷ [])) parts
 parts_left old before parts shown was =
-    parts_fit (left_over 1 (work_in old) old.flushes) parts
-    (All-drop (λ (r : ℕ × ℕ). r.1 < 2 ^ 64) (sum_by (taken_from 1) old.flushes) (recordings (work_in old)) was.values)
-    (subst (λ (bins : ℕ → List BinCount). ArePartsOf (with_part no_parts 1 bins) parts) was.bins
-    (subst (λ (f : ℕ → ℕ → List BinCount). ArePartsOf (with_part f 1 (bins_in before.half)) parts) was.none_merged shown))
+    subst (λ (values : List (ℕ × ℕ)). ArePartsOf (bins_by_worker (values ∷ [])) parts) was.left
+    (subst (λ (f : ℕ → ℕ → List BinCount). ArePartsOf f parts) (λ i worker. bins_by (values_are before.half worker i))
+    (subst (λ (round : List (ℕ × HalfState)). ArePartsOf (λ worker. bins_by (worker_values worker (round ++ (1, before.half) ∷ []))) parts) was.none_merged shown))
 
 module _ (old : StoreHistory) (book : BookHistory) (n : ℕ) (swept : Logged old.worker.book 0 call.Sweep (reply.Swept n) book)
     (one : old.worker.book.workers ≡ 1) (before after : Sums) (flush : FlushRecord)
@@ -155,9 +147,8 @@ module _ (old : StoreHistory) (book : BookHistory) (n : ℕ) (swept : Logged old
     units = λ id. (let now = units_now id in let none = emptied_at id in omega (arith, now, none));
     none_elsewhere = λ id none. emptied_at id;
     words = λ id. emptied.words id ∙ was.words id;
-    bins = emptied.bins ∙ (sym bins_by-none ∙ ap bins_by (sym (nothing_left (work_in old) old.flushes flush parts_of)));
+    left = emptied.values ∙ sym (nothing_left (work_in old) old.flushes flush parts_of);
     none_merged = emptied.merged;
-    values = was.values;
     takes_less = less (work_in old) old.flushes flush parts_of was.takes_less;
     fit = subst (λ (b : BookHistory). FitSoFar (rules_of b) b.log (work_in old ∷ []) (old.flushes ++ flush ∷ [])) (sym swept.logged)
         (all_flush (rules_of old.worker.book) (old.worker.book.log ++ record { seat = 0; call = call.Sweep; reply = reply.Swept n } ∷ []) (work_in old ∷ []) old.flushes flush

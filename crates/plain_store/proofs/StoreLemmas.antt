@@ -1,11 +1,9 @@
 -- The sums stay those of the work.
-use Rattle.std.proofs.Common.{◌≡◌, ℕ, ◌<◌, ◌^◌, ◌==◌, Bool, true, false, cond, Option, Some, None, IfSome, List, [], ◌∷◌, ◌++◌, length, slice_get, option_to_list, All, append-nil, refl, ap, sym, ◌∙◌, subst, arith}
-use Rattle.std.specs.List.{zip, cons_option}
+use Rattle.std.proofs.Common.{◌≡◌, ℕ, ◌==◌, Bool, true, false, cond, Option, Some, None, IfSome, List, [], ◌∷◌, ◌++◌, length, slice_get, option_to_list, append-nil, refl, ap, sym, ◌∙◌, subst, arith}
+use Rattle.std.specs.List.{zip}
 use Rattle.std.specs.Option.{IsSomeAnd}
 use Rattle.std.proofs.lemmas.Bool.Decides.{Decides-eqb}
-use Rattle.std.proofs.lemmas.List.Elements.{All-nil, All-push, filter_map-append}
 use Rattle.stat_defs.specs.Books.{BookHistory}
-use Rattle.stat_defs.specs.Events.{IsLawfulEvent}
 use Rattle.stat_defs.specs.Keys.{same_kind}
 use Rattle.stat_defs.specs.declared.ids.Kind.{Kind}
 use Rattle.stat_defs.specs.declared.ids.Kind.TheVariants.{Counter}
@@ -13,9 +11,8 @@ use Rattle.stat_defs.specs.declared.events.Event.{Event}
 use Rattle.stat_defs.specs.declared.events.Event.TheVariants as event
 use Rattle.stat_defs.specs.declared.history.Verdict.{Verdict}
 use Rattle.stat_defs.specs.declared.history.Verdict.TheVariants as verdict
-use Rattle.merge_round.specs.Halves.{bins_by}
-use Rattle.merge_round.specs.Rounds.{ParentsState, parts_in}
-use Rattle.merge_round.proofs.ByValues.{bins_by-none, bins_by-more}
+use Rattle.merge_round.specs.Halves.{HalfState}
+use Rattle.merge_round.specs.Rounds.{ParentsState}
 use Rattle.book_state.specs.State.{State, Row, is_gone}
 use Rattle.book_state.specs.Follows.{MakesAcked}
 use Rattle.book_state.proofs.Lists.{true_false, within_some}
@@ -24,7 +21,7 @@ use Rattle.stat_defs.specs.declared.events.Key.{Key}
 use Rattle.stat_book.specs.Calls.{rules_of, state_of, IsLegal}
 use Rattle.lone_worker.specs.Seats.{NamesLive, NamesOwn}
 use Rattle.lone_worker.specs.Worker.{WorkerHistory, Decides}
-use Rattle.ledger.specs.Work.{Work, units_in, units_of, recording_in, recordings}
+use Rattle.ledger.specs.Work.{Work, units_in, units_of, recording_in}
 use Rattle.ledger.specs.Gauges.{gauge_word, move_in}
 use Rattle.ledger.specs.Segments.{left_over, TakesLess}
 use Rattle.ledger.specs.Flushes.{FitSoFar}
@@ -63,38 +60,12 @@ no_units s (event.SetText label name text) v id named none = refl
 no_units s (event.OpenScope label prefix) v id named none = refl
 no_units s (event.Release label) v id named none = refl
 
--- what is recorded has 64 bits
-lawful_recording : (e : Event) (v : Verdict) → IsLawfulEvent e → IfSome (recording_in (e, v)) (λ r. r.1 < 2 ^ 64)
-lawful_recording (event.Rec label name n) (verdict.Accepted given) lawful = lawful.2
-lawful_recording (event.Rec label name n) (verdict.Opened i) lawful = tt
-lawful_recording (event.Rec label name n) (verdict.Released i) lawful = tt
-lawful_recording (event.Rec label name n) verdict.LabelTaken lawful = tt
-lawful_recording (event.Rec label name n) verdict.NoScope lawful = tt
-lawful_recording (event.Rec label name n) verdict.Rejected lawful = tt
-lawful_recording (event.Rec label name n) verdict.OverLimit lawful = tt
-lawful_recording (event.Rec label name n) verdict.NoRoom lawful = tt
-lawful_recording (event.Inc label name n) v lawful = tt
-lawful_recording (event.Gauge label name mode op n) v lawful = tt
-lawful_recording (event.SetText label name text) v lawful = tt
-lawful_recording (event.OpenScope label prefix) v lawful = tt
-lawful_recording (event.Release label) v lawful = tt
-
-with_small : (o : Option (ℕ × ℕ)) (xs : List (ℕ × ℕ)) → IfSome o (λ r. r.1 < 2 ^ 64) → All (λ (r : ℕ × ℕ). r.1 < 2 ^ 64) xs → All (λ (r : ℕ × ℕ). r.1 < 2 ^ 64) (xs ++ option_to_list o)
-with_small None xs this small = subst (All (λ (r : ℕ × ℕ). r.1 < 2 ^ 64)) (sym (append-nil xs)) small
-with_small (Some r) xs this small = All-push (λ (r : ℕ × ℕ). r.1 < 2 ^ 64) xs r small this
-
-one_recording : (work : Work) (told : Event × Verdict) → recordings (work ++ told ∷ []) ≡ recordings work ++ option_to_list (recording_in told)
-one_recording work told = filter_map-append recording_in work (told ∷ []) ∙ ap (λ (rs : List (ℕ × ℕ)). recordings work ++ rs) (only (recording_in told)) where
-  only : (o : Option (ℕ × ℕ)) → cons_option o [] ≡ option_to_list o
-  only None = refl
-  only (Some r) = refl
-
-recorded : (values : List (ℕ × ℕ)) (o : Option (ℕ × ℕ)) → with_recording (bins_by values) o ≡ bins_by (values ++ option_to_list o)
-recorded values None = ap bins_by (sym (append-nil values))
-recorded values (Some (id, v)) = bins_by-more values id v
+recorded : (values : List (ℕ × ℕ)) (o : Option (ℕ × ℕ)) → with_recording values o ≡ values ++ option_to_list o
+recorded values None = sym (append-nil values)
+recorded values (Some r) = refl
 
 module _ (old : StoreHistory) (e : Event) (v : Verdict) (worker : WorkerHistory) (before after : Sums)
-    (decided : Decides old.worker e v worker) (each : length old.worker.verdicts ≡ length old.worker.events) (lawful : IsLawfulEvent e)
+    (decided : Decides old.worker e v worker) (each : length old.worker.verdicts ≡ length old.worker.events)
     (legal : IsLegal worker.book) (named : NamesOwn (state_of worker.book) e v) (sums : SumsUp before (e, v) after)
     (same_parents : after.parents ≡ before.parents) (was : AreOfWork old before) where
   abbrev new : StoreHistory
@@ -121,12 +92,10 @@ module _ (old : StoreHistory) (e : Event) (v : Verdict) (worker : WorkerHistory)
         omega (arith, sum, added, kept));
     words = λ id. sums.words id ∙ (ap (λ (w : ℕ). word_after_any w (move_in id (e, v))) (was.words id)
         ∙ (sym (word_event id (work_in old) (e, v)) ∙ ap (gauge_word id) (sym work_is)));
-    bins = sums.bins ∙ (ap (λ bins. with_recording bins (recording_in (e, v))) was.bins
+    left = sums.values ∙ (ap (λ values. with_recording values (recording_in (e, v))) was.left
         ∙ (recorded (left_over 1 (work_in old) old.flushes) (recording_in (e, v))
-        ∙ (ap bins_by (sym (left_event 1 (work_in old) (e, v) old.flushes was.takes_less)) ∙ ap (λ (w : Work). bins_by (left_over 1 w old.flushes)) (sym work_is))));
-    none_merged = ap (λ (p : ParentsState). parts_in p) same_parents ∙ was.none_merged;
-    values = subst (All (λ (r : ℕ × ℕ). r.1 < 2 ^ 64)) (sym (ap recordings work_is ∙ one_recording (work_in old) (e, v)))
-        (with_small (recording_in (e, v)) (recordings (work_in old)) (lawful_recording e v lawful) was.values);
+        ∙ (sym (left_event 1 (work_in old) (e, v) old.flushes was.takes_less) ∙ ap (λ (w : Work). left_over 1 w old.flushes) (sym work_is))));
+    none_merged = ap (λ (p : ParentsState). p.round) same_parents ∙ was.none_merged;
     takes_less = subst (λ (w : Work). TakesLess 1 w old.flushes) (sym work_is) (less_event 1 (work_in old) (e, v) old.flushes was.takes_less);
     fit = subst (λ (b : BookHistory). FitSoFar (rules_of b) b.log (work_in new ∷ []) old.flushes) (sym book_is)
         (subst (λ (w : Work). FitSoFar (rules_of old.worker.book) (old.worker.book.log ++ decided.added.more) (w ∷ []) old.flushes) (sym work_is)
@@ -162,9 +131,8 @@ first_of_work config sums nothing = record {
   units = λ id. (let none = nothing.deltas id in omega (arith, none));
   none_elsewhere = λ id none. nothing.deltas id;
   words = nothing.words;
-  bins = nothing.bins ∙ sym bins_by-none;
-  none_merged = nothing.merged;
-  values = All-nil (λ (r : ℕ × ℕ). r.1 < 2 ^ 64);
+  left = ap (λ (h : HalfState). h.values) nothing.half;
+  none_merged = ap (λ (p : ParentsState). p.round) nothing.parents;
   takes_less = omega arith;
   fit = tt;
 }

@@ -1,21 +1,18 @@
 -- What a store on one thread keeps.
-use Rattle.std.specs.Prelude.{◌≡◌, ◌≤◌, ◌<◌, ◌+◌, ◌*◌, ◌^◌, ◌&&◌, ℕ, Bool, true, false, not, [], ◌∷◌, length, slice_get}
-use Rattle.std.specs.Prelude.{All}
+use Rattle.std.specs.Prelude.{◌≡◌, ◌≤◌, ◌+◌, ◌*◌, ◌^◌, ◌&&◌, ℕ, Bool, true, false, not, [], ◌∷◌, length, slice_get}
 use Rattle.std.specs.Option.{option_map_or}
 use Rattle.stat_defs.specs.Keys.{same_kind}
 use Rattle.stat_defs.specs.declared.ids.Kind.TheVariants.{Counter}
-use Rattle.merge_round.specs.Halves.{bins_in, bins_by}
-use Rattle.merge_round.specs.Rounds.{parts_in, no_parts}
 use Rattle.book_state.specs.State.{State, is_gone}
 use Rattle.stat_book.specs.Calls.{rules_of, state_of}
 use Rattle.lone_worker.specs.declared.worker.TheConstants.{MAX_EVENTS}
-use Rattle.ledger.specs.Work.{units_of, recordings}
+use Rattle.ledger.specs.Work.{units_of}
 use Rattle.ledger.specs.Gauges.{gauge_word}
 use Rattle.ledger.specs.Segments.{left_over, TakesLess}
 use Rattle.ledger.specs.Flushes.{FitSoFar, flushed}
 use Rattle.plain_store.specs.declared.sums.Sums.{Sums}
 use Rattle.plain_store.specs.declared.store.PlainStore.TheInside.{Inside}
-use Rattle.plain_store.specs.Sums.{delta_in, word_in}
+use Rattle.plain_store.specs.Sums.{delta_in, word_in, value_count}
 use Rattle.plain_store.specs.Store.{StoreHistory, work_in}
 
 abbrev pub shown : Inside → StoreHistory
@@ -29,7 +26,7 @@ is_counter_there s id = option_map_or (λ row. same_kind row.metric.kind Counter
 -- no sum passes its bound
 pub record AreSmall (events : ℕ) (sums : Sums) : Type 0 where
   pub deltas : (id : ℕ) → delta_in sums id ≤ 2 ^ 32 * events
-  pub values : sums.parents.count + sums.half.count ≤ events
+  pub values : value_count sums ≤ events
 
 -- the sums are those of the work
 pub record AreOfWork (store : StoreHistory) (sums : Sums) : Type 0 where
@@ -40,9 +37,8 @@ pub record AreOfWork (store : StoreHistory) (sums : Sums) : Type 0 where
   pub none_elsewhere : (id : ℕ) → is_counter_there (state_of store.worker.book) id ≡ false → delta_in sums id ≡ 0
   pub words : (id : ℕ) → word_in sums id ≡ gauge_word id (work_in store)
   -- each value is in one flush or in the half
-  pub bins : bins_in sums.half ≡ bins_by (left_over 1 (work_in store) store.flushes)
-  pub none_merged : parts_in sums.parents ≡ no_parts
-  pub values : All (λ recording. recording.1 < 2 ^ 64) (recordings (work_in store))
+  pub left : sums.half.values ≡ left_over 1 (work_in store) store.flushes
+  pub none_merged : sums.parents.round ≡ []
   pub takes_less : TakesLess 1 (work_in store) store.flushes
   pub fit : FitSoFar (rules_of store.worker.book) store.worker.book.log (work_in store ∷ []) store.flushes
 

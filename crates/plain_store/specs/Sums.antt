@@ -1,5 +1,5 @@
 -- What a store sums up: numbers by the metrics that they belong to. This project's own.
-use Rattle.std.specs.Prelude.{◌≡◌, ◌<◌, ◌+◌, ℕ, ◌==◌, if◌then◌else◌, Bool, true, false, Option, None, Some, List, map}
+use Rattle.std.specs.Prelude.{◌≡◌, ◌<◌, ◌+◌, ℕ, ◌==◌, if◌then◌else◌, Bool, true, false, Option, None, Some, List, [], ◌∷◌, ◌++◌, map}
 use Rattle.std.specs.Prelude.{length, get_or, slice_get}
 use Rattle.std.specs.List.{list_any}
 use Rattle.std.specs.Option.{option_map_or}
@@ -13,7 +13,6 @@ use Rattle.stat_book.specs.Calls.{state_of, IsLegal, Logged}
 use Rattle.lone_worker.specs.Worker.{WorkerHistory, IsFollowed}
 use Rattle.ledger.specs.Flushes.{ids_made, ids_not_gone}
 use Rattle.stat_defs.specs.declared.ids.MetricId.{MetricId}
-use Rattle.stat_defs.specs.declared.bins.BinCount.{BinCount}
 use Rattle.stat_defs.specs.declared.events.Event.{Event}
 use Rattle.stat_defs.specs.declared.history.Verdict.{Verdict}
 use Rattle.stat_defs.specs.declared.history.Verdict.TheVariants as verdict
@@ -21,8 +20,8 @@ use Rattle.stat_defs.specs.declared.reports.Delta.{Delta}
 use Rattle.stat_defs.specs.declared.reports.Reading.{Reading}
 use Rattle.stat_defs.specs.declared.reports.FlushRecord.{FlushRecord}
 use Rattle.stat_defs.specs.declared.reports.LastFlush.{LastFlush}
-use Rattle.merge_round.specs.Halves.{bins_in, no_bins, with_value}
-use Rattle.merge_round.specs.Rounds.{parts_in, no_parts, with_part, ArePartsOf}
+use Rattle.merge_round.specs.Halves.{new_half, bins_by}
+use Rattle.merge_round.specs.Rounds.{new_parents, worker_values, all_values, ArePartsOf}
 use Rattle.book_state.specs.State.{State, metrics_of}
 use Rattle.ledger.specs.Work.{Recording, units_in, recording_in}
 use Rattle.ledger.specs.Gauges.{move_in}
@@ -44,20 +43,19 @@ word_in sums id = number_at sums.words.items id
 pub record AreZero (sums : Sums) : Type 0 where
   pub deltas : (id : ℕ) → delta_in sums id ≡ 0
   pub words : (id : ℕ) → word_in sums id ≡ 0
-  pub bins : bins_in sums.half ≡ no_bins
-  pub merged : parts_in sums.parents ≡ no_parts
-  pub values : sums.parents.count + sums.half.count ≡ 0
+  pub half : sums.half ≡ new_half
+  pub parents : sums.parents ≡ new_parents
 
--- bins with what is recorded, if anything is
-abbrev pub with_recording : (ℕ → List BinCount) → Option Recording → ℕ → List BinCount
-with_recording bins None = bins
-with_recording bins (Some (id, v)) = with_value bins id v
+-- values with what is recorded, if anything is
+abbrev pub with_recording : List Recording → Option Recording → List Recording
+with_recording values None = values
+with_recording values (Some recording) = values ++ recording ∷ []
 
 -- an event with its verdict was summed: its units, its move and its recording
 pub record SumsUp (old : Sums) (told : Event × Verdict) (new : Sums) : Type 0 where
   pub units : (id : ℕ) → delta_in new id ≡ delta_in old id + units_in id told
   pub words : (id : ℕ) → word_in new id ≡ word_after_any (word_in old id) (move_in id told)
-  pub bins : bins_in new.half ≡ with_recording (bins_in old.half) (recording_in told)
+  pub values : new.half.values ≡ with_recording old.half.values (recording_in told)
 
 -- an accepted verdict names one of so many metrics
 abbrev pub IsMade : ℕ → Verdict → Type 0
@@ -81,19 +79,24 @@ reading_of words id = record { id = id; word = number_at words id.0 }
 abbrev pub is_among : List Delta → ℕ → Bool
 is_among deltas id = list_any (λ delta. delta.id.0 == id) deltas
 
+-- how many values there are, of all flushes and since
+abbrev pub value_count : Sums → ℕ
+value_count sums = length (all_values sums.parents.all) + length sums.half.values
+
 -- the record shows a delta of each of these counters, a reading of each of these gauges, and the values of the half
 pub record Shows (sums : Sums) (at : ℕ) (counters moved : List MetricId) (flush : FlushRecord) : Type 0 where
   pub place : flush.at ≡ at
   pub deltas : flush.deltas ≡ map (delta_of sums.deltas.items) counters
   pub gauges : flush.gauges ≡ map (reading_of sums.words.items) moved
-  pub parts : ArePartsOf (with_part (parts_in sums.parents) 1 (bins_in sums.half)) flush.parts
+  pub parts : ArePartsOf (λ worker. bins_by (worker_values worker (sums.parents.round ++ (1, sums.half) ∷ [])))
+      flush.parts
 
 -- what the record shows begins anew: the deltas that it has are 0, and there are no values
 pub record IsEmptied (old : Sums) (flush : FlushRecord) (new : Sums) : Type 0 where
   pub deltas : (id : ℕ) → delta_in new id ≡ (if is_among flush.deltas id then 0 else delta_in old id)
   pub words : (id : ℕ) → word_in new id ≡ word_in old id
-  pub bins : bins_in new.half ≡ no_bins
-  pub merged : parts_in new.parents ≡ no_parts
+  pub values : new.half.values ≡ []
+  pub merged : new.parents.round ≡ []
 
 -- a sweep was logged, and the record shows every counter ever made, the gauges that were not gone before, and the half
 pub record SweepsLast (old : BookHistory) (sums : Sums) (at : ℕ) (new : BookHistory)

@@ -1,5 +1,5 @@
 //! What one event adds to the sums.
-ghost use Rattle.std.specs.Prelude.{◌≡◌, ◌≤◌, ◌<◌, ◌+◌, ◌^◌, ℕ, IfSome, OnOk};
+ghost use Rattle.std.specs.Prelude.{◌≡◌, ◌≤◌, ◌<◌, ◌+◌, ◌^◌, ℕ, IfSome, OnOk, length};
 ghost use Rattle.book_state.specs.Follows.{event_key};
 ghost use Rattle.stat_defs.specs.declared.history.Verdict.TheVariants as verdict;
 ghost use Rattle.stat_defs.specs.Borrowed.{event_of};
@@ -23,10 +23,10 @@ fn sum_accepted(
     requires lawful { IsLawfulEvent (event_of event.now) }
     requires made { IfSome (event_key (event_of event.now)) (λ key. id.0 < made) }
     requires small { (k : ℕ) → delta_in sums.old k + 2 ^ 32 ≤ 2 ^ 64 }
-    requires half { sums.old.half.count < MAX_HALF_COUNT }
+    requires half { length sums.old.half.values < MAX_HALF_COUNT }
     ensures ok { OnOk result (SumsUp sums.old (event_of event.now, verdict.Accepted id) sums.new) }
     ensures units { (k : ℕ) → delta_in sums.new k ≤ delta_in sums.old k + 2 ^ 32 }
-    ensures half { sums.new.half.count ≤ sums.old.half.count + 1 }
+    ensures half { length sums.new.half.values ≤ length sums.old.half.values + 1 }
     ensures parents { sums.new.parents ≡ sums.old.parents }
 {
     match *event {
@@ -49,10 +49,10 @@ pub(crate) fn sum_up(
     requires lawful { IsLawfulEvent (event_of event.now) }
     requires made { IfSome (event_key (event_of event.now)) (λ key. IsMade made verdict) }
     requires small { (k : ℕ) → delta_in sums.old k + 2 ^ 32 ≤ 2 ^ 64 }
-    requires half { sums.old.half.count < MAX_HALF_COUNT }
+    requires half { length sums.old.half.values < MAX_HALF_COUNT }
     ensures ok { OnOk result (SumsUp sums.old (event_of event.now, verdict) sums.new) }
     ensures units { (k : ℕ) → delta_in sums.new k ≤ delta_in sums.old k + 2 ^ 32 }
-    ensures half { sums.new.half.count ≤ sums.old.half.count + 1 }
+    ensures half { length sums.new.half.values ≤ length sums.old.half.values + 1 }
     ensures parents { sums.new.parents ≡ sums.old.parents }
 {
     let Verdict::Accepted(id) = verdict else {

@@ -6,7 +6,7 @@ ghost use Rattle.loglinear_bins.specs.declared.place.TheConstants.{MAX_COUNT};
 ghost use Rattle.stat_defs.specs.declared.history.Call.TheVariants as call;
 ghost use Rattle.stat_defs.specs.declared.history.Reply.TheVariants as reply;
 ghost use Rattle.stat_book.specs.Calls.{state_of, Logged};
-ghost use Rattle.plain_store.specs.Sums.{is_of_kind, Shows, SweepsLast, Ends, EndsWith};
+ghost use Rattle.plain_store.specs.Sums.{is_of_kind, value_count, Shows, SweepsLast, Ends, EndsWith};
 
 use crate::lists::all_made;
 use crate::record::take_flush;
@@ -36,7 +36,7 @@ fn take_all(
     list: &[MetricId],
 ) -> Result<FlushRecord, NoMemory>
     requires within { All (λ id. id.0 < length (state_of worker.now.book).metrics) list.now }
-    requires few { sums.old.parents.count + sums.old.half.count ≤ MAX_COUNT }
+    requires few { value_count sums.old ≤ MAX_COUNT }
     ensures { let s = state_of worker.now.book in
         IfOk result (λ flush. Shows sums.old at (ids_made Counter s) (filter (is_of_kind Gauge s) list.now) flush) }
 {
@@ -51,7 +51,7 @@ fn take_last(
     sums: &mut Sums,
     at: u64,
 ) -> Result<FlushRecord, NoMemory>
-    requires { sums.old.parents.count + sums.old.half.count ≤ MAX_COUNT }
+    requires { value_count sums.old ≤ MAX_COUNT }
     ensures swept { IfOk result (λ flush. SweepsLast worker.old.book sums.old at worker.new.book flush) }
     ensures rest { OnOk result (worker.new ≡ record worker.old { book = worker.new.book }) }
 {
@@ -63,7 +63,7 @@ fn take_last(
 // The end of the seat, and the record of the last flush.
 fn end_all(alloc: Global, worker: &mut LoneWorker, sums: &mut Sums) -> Result<FlushRecord, NoMemory>
     requires works { worker.old.ended ≡ false }
-    requires few { sums.old.parents.count + sums.old.half.count ≤ MAX_COUNT }
+    requires few { value_count sums.old ≤ MAX_COUNT }
     ensures { IfOk result (λ flush. Ends worker.old sums.old worker.new flush) }
 {
     let at = end_seat(alloc, worker)?;
@@ -90,7 +90,7 @@ pub(crate) fn finish_parts(
     sums: Sums,
 ) -> Result<LastFlush, NoMemory>
     requires works { worker.ended ≡ false }
-    requires few { sums.parents.count + sums.half.count ≤ MAX_COUNT }
+    requires few { value_count sums ≤ MAX_COUNT }
     ensures { IfOk result (λ given. EndsWith worker sums given) }
 {
     let mut worker = worker;

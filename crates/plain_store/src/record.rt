@@ -1,12 +1,12 @@
 //! The record of a flush.
-ghost use Rattle.std.specs.Prelude.{◌≡◌, ◌≤◌, ◌<◌, ◌+◌, ◌==◌, ℕ, All, IfOk, OnOk, length, map, filter, if◌then◌else◌};
+ghost use Rattle.std.specs.Prelude.{◌≡◌, ◌≤◌, ◌<◌, ◌+◌, ◌==◌, [], ◌∷◌, ◌++◌, ℕ, All, IfOk, OnOk, length, map, filter, if◌then◌else◌};
 ghost use Rattle.stat_defs.specs.declared.ids.Kind.TheVariants.{Counter, Gauge};
 ghost use Rattle.stat_book.specs.Calls.{state_of};
 ghost use Rattle.loglinear_bins.specs.declared.place.TheConstants.{MAX_COUNT};
-ghost use Rattle.merge_round.specs.Halves.{bins_in, no_bins};
-ghost use Rattle.merge_round.specs.Rounds.{parts_in, with_part, no_parts, ArePartsOf};
+ghost use Rattle.merge_round.specs.Halves.{bins_by};
+ghost use Rattle.merge_round.specs.Rounds.{worker_values, ArePartsOf};
 ghost use Rattle.plain_store.specs.Sums.{number_at, is_of_kind, delta_of, reading_of, is_among, delta_in, Shows};
-ghost use Rattle.plain_store.specs.Sums.{IsEmptied};
+ghost use Rattle.plain_store.specs.Sums.{IsEmptied, value_count};
 
 use crate::lists::of_kind;
 use crate::sums::{Sums, number_at};
@@ -63,12 +63,11 @@ fn empty(deltas: &mut Vec<u64>, shown: &[Delta])
 
 // Takes the half, and gives the parts.
 fn take_parts(alloc: Global, sums: &mut Sums) -> Result<Vec<Part>, NoMemory>
-    requires { sums.old.parents.count + sums.old.half.count ≤ MAX_COUNT }
+    requires { value_count sums.old ≤ MAX_COUNT }
     ensures parts { IfOk result (λ parts. ArePartsOf
-        (with_part (parts_in sums.old.parents) 1 (bins_in sums.old.half)) parts.items) }
-    ensures merged { OnOk result (parts_in sums.new.parents ≡ no_parts) }
-    ensures bins { OnOk result (bins_in sums.new.half ≡ no_bins) }
-    ensures values { sums.new.parents.count + sums.new.half.count ≡ sums.old.parents.count + sums.old.half.count }
+        (λ worker. bins_by (worker_values worker (sums.old.parents.round ++ (1, sums.old.half) ∷ []))) parts.items) }
+    ensures emptied { OnOk result ((sums.new.parents.round ≡ []) × (sums.new.half.values ≡ [])) }
+    ensures values { value_count sums.new ≡ value_count sums.old }
     ensures deltas { sums.new.deltas ≡ sums.old.deltas }
     ensures words { sums.new.words ≡ sums.old.words }
 {
@@ -85,11 +84,11 @@ fn take_record(
     counters: &[MetricId],
     gauges: &[MetricId],
 ) -> Result<FlushRecord, NoMemory>
-    requires { sums.old.parents.count + sums.old.half.count ≤ MAX_COUNT }
+    requires { value_count sums.old ≤ MAX_COUNT }
     ensures shows { IfOk result (λ flush. Shows sums.old at counters.now gauges.now flush) }
     ensures emptied { IfOk result (λ flush. IsEmptied sums.old flush sums.new) }
     ensures deltas { (k : ℕ) → delta_in sums.new k ≤ delta_in sums.old k }
-    ensures values { sums.new.parents.count + sums.new.half.count ≡ sums.old.parents.count + sums.old.half.count }
+    ensures values { value_count sums.new ≡ value_count sums.old }
 {
     let deltas = deltas_of(alloc, &sums.deltas, counters)?;
     let gauges = readings_of(alloc, &sums.words, gauges)?;
@@ -114,13 +113,13 @@ pub(crate) fn take_flush(
 ) -> Result<FlushRecord, NoMemory>
     requires counters { All (λ id. id.0 < length (state_of worker.now.book).metrics) counters.now }
     requires gauges { All (λ id. id.0 < length (state_of worker.now.book).metrics) gauges.now }
-    requires few { sums.old.parents.count + sums.old.half.count ≤ MAX_COUNT }
+    requires few { value_count sums.old ≤ MAX_COUNT }
     ensures shows { let s = state_of worker.now.book in
         IfOk result (λ flush. Shows sums.old at (filter (is_of_kind Counter s) counters.now)
         (filter (is_of_kind Gauge s) gauges.now) flush) }
     ensures emptied { IfOk result (λ flush. IsEmptied sums.old flush sums.new) }
     ensures deltas { (k : ℕ) → delta_in sums.new k ≤ delta_in sums.old k }
-    ensures values { sums.new.parents.count + sums.new.half.count ≡ sums.old.parents.count + sums.old.half.count }
+    ensures values { value_count sums.new ≡ value_count sums.old }
 {
     let counters = of_kind(alloc, worker, Kind::Counter, counters)?;
     let gauges = of_kind(alloc, worker, Kind::Gauge, gauges)?;

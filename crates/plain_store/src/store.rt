@@ -71,7 +71,7 @@ impl PlainStore {
         ensures { IfOk result (λ store. store ≡ new_store config.now) }
     {
         let worker = LoneWorker::with_key(alloc, key, config, rules, matcher)?;
-        let sums = Sums::new(alloc)?;
+        let sums = Sums::new(alloc);
         Ok(PlainStore {
             worker,
             sums,

@@ -1,5 +1,5 @@
 //! What a store sums up between its flushes.
-ghost use Rattle.std.specs.Prelude.{◌≡◌, ◌≤◌, ◌<◌, ◌+◌, ◌^◌, ◌==◌, ℕ, if◌then◌else◌, IfOk, OnOk, OnErr, vec_len};
+ghost use Rattle.std.specs.Prelude.{◌≡◌, ◌≤◌, ◌<◌, ◌+◌, ◌^◌, ◌==◌, ℕ, if◌then◌else◌, OnOk, OnErr, vec_len};
 ghost use Rattle.ledger.specs.Gauges.{word_after};
 ghost use Rattle.plain_store.specs.Sums.{number_at, AreZero};
 
@@ -99,15 +99,15 @@ pub(crate) fn number_at(words: &[u64], id: MetricId) -> u64
 }
 
 impl Sums {
-    /// Nothing was accepted yet.
-    pub(crate) fn new(alloc: Global) -> Result<Sums, NoMemory>
-        ensures { IfOk result (λ sums. AreZero sums) }
+    /// Nothing was accepted yet. This takes no memory.
+    pub(crate) fn new(alloc: Global) -> Sums
+        ensures { AreZero result }
     {
-        Ok(Sums {
+        Sums {
             deltas: Vec::new(alloc),
             words: Vec::new(alloc),
-            half: Half::new(alloc)?,
-            parents: Parents::new(alloc)?,
-        })
+            half: Half::new(alloc),
+            parents: Parents::new(alloc),
+        }
     }
 }

@@ -96,8 +96,8 @@ fn apply(
 
 // What the lines of a script tell, each that of one line.
 fn played(rt: &impl Abort, alloc: Global, script: &str) -> Result<String, Fail> {
-    let mut half = Half::new(alloc)?;
-    let mut parents = Parents::new(alloc)?;
+    let mut half = Half::new(alloc);
+    let mut parents = Parents::new(alloc);
     let mut told = String::new(alloc);
     for line in script.split('\n') {
         apply(rt, alloc, &mut half, &mut parents, line, &mut told)?;
@@ -157,11 +157,11 @@ fn in_place(parts: &[Part]) -> usize {
 #[test]
 fn a_value_on_each_of_many(rt: HostRuntime) -> Result<(), Fail> {
     let alloc = rt.alloc();
-    let mut half = Half::new(alloc)?;
+    let mut half = Half::new(alloc);
     for id in 0..1_024 {
         record(&rt, alloc, &mut half, id, u64::from(id))?;
     }
-    let mut parents = Parents::new(alloc)?;
+    let mut parents = Parents::new(alloc);
     take(&rt, alloc, &mut parents, 1, &mut half)?;
     let parts = parents.new_round(alloc)?;
     assert_eq!(rt; (parts.len(), in_place(&parts)), (1_024, 1_024));

@@ -1,6 +1,5 @@
 ghost use Rattle.std.specs.Prelude.{◌≡◌, ◌<◌, ◌≤◌, []};
-ghost use Rattle.metric_words.specs.Seats.{bank_id, size_of, worker_bank, worker_steps, flush_bank, flush_taken};
-ghost use Rattle.metric_words.specs.Seats.{flush_workers};
+ghost use Rattle.metric_words.specs.CounterLedger.{bank_id, size_of, worker_known, flush_known};
 
 use metric_words::{CounterBank, FlushSeat, MAX_SIZE, WordSeats, WorkerSeat};
 use stat_defs::MetricId;
@@ -83,9 +82,9 @@ fn takes_workers_in(rt: HostRuntime) -> Result<(), Fail> {
 }
 
 fn add_often(bank: &CounterBank, mut seat: WorkerSeat, n: u32, times: u32) -> WorkerSeat
-    requires bank { (worker_bank seat ≡ bank_id bank.now) × (0 < size_of bank.now) }
-    requires units { (worker_steps seat ≡ []) × (times ≤ 131072) }
-    ensures { worker_bank result ≡ bank_id bank.now }
+    requires bank { ((worker_known seat).bank ≡ bank_id bank.now) × (0 < size_of bank.now) }
+    requires units { ((worker_known seat).own.steps ≡ []) × (times ≤ 131072) }
+    ensures { (worker_known result).bank ≡ bank_id bank.now }
 {
     for _ in 0..times {
         bank.add(&mut seat, MetricId(0), n);
@@ -94,8 +93,8 @@ fn add_often(bank: &CounterBank, mut seat: WorkerSeat, n: u32, times: u32) -> Wo
 }
 
 fn latch_often(bank: &CounterBank, mut seat: FlushSeat, times: u32) -> (FlushSeat, u64)
-    requires bank { (flush_bank seat ≡ bank_id bank.now) × (0 < size_of bank.now) }
-    ensures bank { (flush_bank result.0 ≡ bank_id bank.now) × (flush_taken result.0 ≡ flush_taken seat) }
+    requires bank { ((flush_known seat).bank ≡ bank_id bank.now) × (0 < size_of bank.now) }
+    ensures bank { ((flush_known result.0).bank ≡ bank_id bank.now) × ((flush_known result.0).taken ≡ (flush_known seat).taken) }
 {
     let mut total = 0u64;
     for _ in 0..times {
@@ -112,33 +111,33 @@ fn run_three<R: Threads + Sync>(
     second: WorkerSeat,
     flusher: FlushSeat,
 ) -> ((WorkerSeat, WorkerSeat), (FlushSeat, u64))
-    requires bank { (worker_bank first ≡ bank_id bank.now) × (worker_bank second ≡ bank_id bank.now)
-        × (flush_bank flusher ≡ bank_id bank.now) × (0 < size_of bank.now) }
-    requires steps { (worker_steps first ≡ []) × (worker_steps second ≡ []) × (flush_taken flusher ≡ []) }
-    ensures workers { (worker_bank result.0.0 ≡ bank_id bank.now) × (worker_bank result.0.1 ≡ bank_id bank.now) }
-    ensures flusher { (flush_bank result.1.0 ≡ bank_id bank.now) × (flush_taken result.1.0 ≡ []) }
+    requires bank { ((worker_known first).bank ≡ bank_id bank.now) × ((worker_known second).bank ≡ bank_id bank.now)
+        × ((flush_known flusher).bank ≡ bank_id bank.now) × (0 < size_of bank.now) }
+    requires steps { ((worker_known first).own.steps ≡ []) × ((worker_known second).own.steps ≡ []) × ((flush_known flusher).taken ≡ []) }
+    ensures workers { ((worker_known result.0.0).bank ≡ bank_id bank.now) × ((worker_known result.0.1).bank ≡ bank_id bank.now) }
+    ensures flusher { ((flush_known result.1.0).bank ≡ bank_id bank.now) × ((flush_known result.1.0).taken ≡ []) }
 {
     join(
         rt,
         move || -> (WorkerSeat, WorkerSeat)
-            requires { (worker_bank first ≡ bank_id bank.now) × (worker_bank second ≡ bank_id bank.now) × (0 < size_of bank.now) × (worker_steps first ≡ []) × (worker_steps second ≡ []) }
-            ensures { (worker_bank result.0 ≡ bank_id bank.entry.now) × (worker_bank result.1 ≡ bank_id bank.entry.now) }
+            requires { ((worker_known first).bank ≡ bank_id bank.now) × ((worker_known second).bank ≡ bank_id bank.now) × (0 < size_of bank.now) × ((worker_known first).own.steps ≡ []) × ((worker_known second).own.steps ≡ []) }
+            ensures { ((worker_known result.0).bank ≡ bank_id bank.entry.now) × ((worker_known result.1).bank ≡ bank_id bank.entry.now) }
         {
             join(
                 rt,
                 move || -> WorkerSeat
-                    requires { (worker_bank first ≡ bank_id bank.now) × (0 < size_of bank.now) × (worker_steps first ≡ []) }
-                    ensures { worker_bank result ≡ bank_id bank.entry.now }
+                    requires { ((worker_known first).bank ≡ bank_id bank.now) × (0 < size_of bank.now) × ((worker_known first).own.steps ≡ []) }
+                    ensures { (worker_known result).bank ≡ bank_id bank.entry.now }
                 { add_often(bank, first, 5, 1000) },
                 move || -> WorkerSeat
-                    requires { (worker_bank second ≡ bank_id bank.now) × (0 < size_of bank.now) × (worker_steps second ≡ []) }
-                    ensures { worker_bank result ≡ bank_id bank.entry.now }
+                    requires { ((worker_known second).bank ≡ bank_id bank.now) × (0 < size_of bank.now) × ((worker_known second).own.steps ≡ []) }
+                    ensures { (worker_known result).bank ≡ bank_id bank.entry.now }
                 { add_often(bank, second, 7, 1000) },
             )
         },
         move || -> (FlushSeat, u64)
-            requires { (flush_bank flusher ≡ bank_id bank.now) × (0 < size_of bank.now) × (flush_taken flusher ≡ []) }
-            ensures { (flush_bank result.0 ≡ bank_id bank.entry.now) × (flush_taken result.0 ≡ []) }
+            requires { ((flush_known flusher).bank ≡ bank_id bank.now) × (0 < size_of bank.now) × ((flush_known flusher).taken ≡ []) }
+            ensures { ((flush_known result.0).bank ≡ bank_id bank.entry.now) × ((flush_known result.0).taken ≡ []) }
         { latch_often(bank, flusher, 1000) },
     )
 }

@@ -1,5 +1,5 @@
 ghost use Rattle.std.specs.Prelude.{◌≡◌, ◌<◌};
-ghost use Rattle.metric_words.specs.GaugeLedger.{gauges_id, gauges_size, gauge_bank};
+ghost use Rattle.metric_words.specs.GaugeLedger.{gauges_id, gauges_size, gauge_known};
 
 use metric_words::{GaugeBank, GaugeSeat, GaugeSeats, MAX_SIZE};
 use stat_defs::MetricId;
@@ -89,8 +89,8 @@ fn takes_workers_in(rt: HostRuntime) -> Result<(), Fail> {
 }
 
 fn add_and_set(bank: &GaugeBank, mut seat: GaugeSeat, n: u64) -> GaugeSeat
-    requires { (gauge_bank seat ≡ gauges_id bank.now) × (0 < gauges_size bank.now) }
-    ensures { gauge_bank result ≡ gauges_id bank.now }
+    requires { ((gauge_known seat).bank ≡ gauges_id bank.now) × (0 < gauges_size bank.now) }
+    ensures { (gauge_known result).bank ≡ gauges_id bank.now }
 {
     for _ in 0..1000 {
         bank.add(&mut seat, MetricId(0), 1);
@@ -106,19 +106,19 @@ fn run_two<R: Threads + Sync>(
     first: GaugeSeat,
     second: GaugeSeat,
 ) -> (GaugeSeat, GaugeSeat)
-    requires { (gauge_bank first ≡ gauges_id bank.now) × (gauge_bank second ≡ gauges_id bank.now)
+    requires { ((gauge_known first).bank ≡ gauges_id bank.now) × ((gauge_known second).bank ≡ gauges_id bank.now)
         × (0 < gauges_size bank.now) }
-    ensures { (gauge_bank result.0 ≡ gauges_id bank.now) × (gauge_bank result.1 ≡ gauges_id bank.now) }
+    ensures { ((gauge_known result.0).bank ≡ gauges_id bank.now) × ((gauge_known result.1).bank ≡ gauges_id bank.now) }
 {
     join(
         rt,
         move || -> GaugeSeat
-            requires { (gauge_bank first ≡ gauges_id bank.now) × (0 < gauges_size bank.now) }
-            ensures { gauge_bank result ≡ gauges_id bank.entry.now }
+            requires { ((gauge_known first).bank ≡ gauges_id bank.now) × (0 < gauges_size bank.now) }
+            ensures { (gauge_known result).bank ≡ gauges_id bank.entry.now }
         { add_and_set(bank, first, 7) },
         move || -> GaugeSeat
-            requires { (gauge_bank second ≡ gauges_id bank.now) × (0 < gauges_size bank.now) }
-            ensures { gauge_bank result ≡ gauges_id bank.entry.now }
+            requires { ((gauge_known second).bank ≡ gauges_id bank.now) × (0 < gauges_size bank.now) }
+            ensures { (gauge_known result).bank ≡ gauges_id bank.entry.now }
         { add_and_set(bank, second, 11) },
     )
 }

@@ -6,7 +6,7 @@ use Rattle.book_state.specs.State.{Row, Seat, is_gone, all_acknowledged}
 use Rattle.book_state.specs.Step.{swept, overdue}
 use Rattle.book_state.proofs.Lists.{both, true_false}
 use Rattle.flush_view.specs.Symbols.{is_live_life}
-use Rattle.flush_view.proofs.Rising.{and_so}
+use Rattle.loglinear_bins.proofs.MergedBins.{and_so}
 use Rattle.flush_view.proofs.laws.none_retired.Goals as goal
 
 ended_so : (a b : Bool) → a ≡ true → (a || b) ≡ true

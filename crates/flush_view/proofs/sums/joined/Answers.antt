@@ -2,7 +2,7 @@ use Rattle.std.proofs.Common.{◌∙◌, [], ap, sym, arith}
 use Rattle.loglinear_bins.specs.Counts.{merged, total}
 use Rattle.loglinear_bins.proofs.Adding.{total-merged}
 use Rattle.merge_round.specs.Slots.{held}
-use Rattle.flush_view.proofs.SameBins.{merged_once}
+use Rattle.loglinear_bins.proofs.SameBins.{merged_once}
 use Rattle.flush_view.proofs.sums.joined.Goals as goal
 
 pub merge-requires : goal.merge-requires

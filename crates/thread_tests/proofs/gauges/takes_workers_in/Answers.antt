@@ -1,11 +1,11 @@
 use Rattle.std.proofs.Common.{rules, arith, ap, length, length-append, ◌∷◌, [], Some, ◌≡◌}
 use Rattle.std.proofs.lemmas.List.Elements.{All-pop}
-use Rattle.metric_words.specs.GaugeLedger.{gauges_id, gauge_bank, gauge_taken, gauge_all}
+use Rattle.metric_words.specs.GaugeLedger.{gauges_id, gauge_known, gauge_all}
 use Rattle.thread_tests.proofs.gauges.takes_workers_in.Goals as goal
 
 pub loop-worker-preserved : goal.loop-worker-preserved
 loop-worker-preserved g c = let w = c.in-Some.worker in let i = c.loop-worker.invariant in let all = c.in-Some.ensures.items in (
   search rules,
-  omega (arith, i.1, ap length all, length-append c.pop.new.self.items (w ∷ []), ap length c.take_in.ensures.taken, length-append (gauge_taken c.loop-worker.flusher) (gauge_all w), w.leads.0),
-  (All-pop (λ z. gauge_bank z ≡ gauges_id c.in_ok-bank.bank) _ _ (Some w) all i.2).0,
+  omega (arith, i.1, ap length all, length-append c.pop.new.self.items (w ∷ []), ap (λ k. length k.taken) c.take_in.ensures, length-append (gauge_known c.loop-worker.flusher).taken (gauge_all w), w.leads.0),
+  (All-pop (λ z. (gauge_known z).bank ≡ gauges_id c.in_ok-bank.bank) _ _ (Some w) all i.2).0,
 )

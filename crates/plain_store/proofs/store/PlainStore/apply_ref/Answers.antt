@@ -8,7 +8,7 @@ use Rattle.lone_worker.specs.declared.worker.TheConstants.{MAX_EVENTS}
 use Rattle.lone_worker.specs.Seats.{NamesLive}
 use Rattle.lone_worker.specs.Worker.{WorkerHistory}
 use Rattle.lone_worker.proofs.KeptSeats.{err_so}
-use Rattle.merge_round.specs.Rounds.{ParentsState}
+use Rattle.merge_round.specs.Rounds.{ParentsState, all_values}
 use Rattle.plain_store.specs.Sums.{IsMade}
 use Rattle.plain_store.specs.Store.{StoreHistory, Applied, IsCutShort}
 use Rattle.plain_store.specs.StoreKept.{shown}
@@ -56,7 +56,7 @@ pub invariant_of-self-in_err-sum_up : goal.invariant_of-self-in_err-sum_up
 invariant_of-self-in_err-sum_up c =
     let decided = c.in_ok-verdict.ensures.ok.decided in
     let events = ap (λ (w : WorkerHistory). length w.events) decided ∙ length-append c.self.inside.worker.events (event_of c.args.event.now ∷ []) in
-    let parents = ap (λ (p : ParentsState). p.count) c.in_err-sum_up.ensures.parents in
+    let parents = ap (λ (p : ParentsState). length (all_values p.all)) c.in_err-sum_up.ensures.parents in
     let half = c.in_err-sum_up.ensures.half in
     record {
       works = ap (λ (w : WorkerHistory). w.ended) decided ∙ c.self.invariant.works;
@@ -73,7 +73,7 @@ invariant_of-self-2 c =
     let old = shown c.self.inside in
     let decided = c.in_ok-verdict.ensures.ok.decided in
     let events = ap (λ (w : WorkerHistory). length w.events) decided ∙ length-append c.self.inside.worker.events (event_of c.args.event.now ∷ []) in
-    let parents = ap (λ (p : ParentsState). p.count) c.in_ok-sum_up.ensures.parents in
+    let parents = ap (λ (p : ParentsState). length (all_values p.all)) c.in_ok-sum_up.ensures.parents in
     let half = c.in_ok-sum_up.ensures.half in
     record {
       works = ap (λ (w : WorkerHistory). w.ended) decided ∙ c.self.invariant.works;
@@ -83,7 +83,7 @@ invariant_of-self-2 c =
         values = (let small = c.self.invariant.small.values in omega (arith, small, parents, half, events));
       };
       exact = λ whole. applied_of_work old (event_of c.args.event.now) c.in_ok-verdict.verdict c.decide_ref.new.self c.self.inside.sums c.sum_up.new.sums c.in_ok-verdict.ensures.ok c.log-log.ensures.each
-          c.requires.lawful c.log-longer_log.ensures.legal c.in_ok-verdict.ensures.named c.in_ok-sum_up.ensures.ok c.in_ok-sum_up.ensures.parents (c.self.invariant.exact whole);
+          c.log-longer_log.ensures.legal c.in_ok-verdict.ensures.named c.in_ok-sum_up.ensures.ok c.in_ok-sum_up.ensures.parents (c.self.invariant.exact whole);
     }
 
 pub returns-clause-ok : goal.returns-clause-ok

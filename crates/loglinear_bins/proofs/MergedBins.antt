@@ -1,5 +1,5 @@
 -- A sum of parts is lawful, rises and has no empty bin.
-use Rattle.std.proofs.Common.{◌≡◌, ℕ, zero, suc, ◌+◌, ◌<◌, ◌≤◌, ◌&&◌, Bool, true, false, cond, List, [], ◌∷◌, map, nat_lt, refl, ap, sym, subst, ◌∙◌, arith, inl, inr}
+use Rattle.std.proofs.Common.{true≢false, ◌≡◌, ℕ, zero, suc, ◌+◌, ◌<◌, ◌≤◌, ◌&&◌, Bool, true, false, cond, List, [], ◌∷◌, map, nat_lt, refl, ap, sym, subst, ◌∙◌, arith, inl, inr}
 use Rattle.std.specs.Prelude.{fold}
 use Rattle.std.specs.List.{list_all, AllByRecursion}
 use Rattle.std.specs.List.Sorted.{IsStrictlyIncreasing}
@@ -13,12 +13,14 @@ use Rattle.loglinear_bins.specs.Counts.{AreLawful, IsBinList, placed, added, mer
 use Rattle.loglinear_bins.specs.Table.{place_of, bin_at}
 use Rattle.loglinear_bins.proofs.Order.{low_tenths-bin_at}
 use Rattle.loglinear_bins.proofs.Places.{is_same-refl, bin_at-place_of}
-use Rattle.book_state.proofs.Lists.{both, true_false}
-use Rattle.flush_view.specs.Views.{merged_parts}
+
+pub both_hold : (a b : Bool) → (a && b) ≡ true → (a ≡ true) × (b ≡ true)
+both_hold true b e = (refl, e)
+both_hold false b e = absurd (true≢false (sym e))
 
 pub and_so : (a b : Bool) → a ≡ true → b ≡ true → (a && b) ≡ true
 and_so true b e f = f
-and_so false b e f = absurd (true_false (sym e))
+and_so false b e f = absurd (true≢false (sym e))
 
 lower_place : (b c : Bin) → is_lawful b ≡ true → is_lawful c ≡ true → place_of b < place_of c → low_tenths b < low_tenths c
 lower_place b c lb lc below =
@@ -34,14 +36,14 @@ above b c lb lc other not_less = elim (leb_tells (place_of b) (place_of c)) [
   | inl h ↦ elim (eqb_tells (place_of b) (place_of c)) [
     | inl same ↦
         let one : b ≡ c = sym (bin_at-place_of b lb) ∙ ap bin_at same.1 ∙ bin_at-place_of c lc in
-        absurd (true_false (sym (sym other ∙ ap (λ x. is_same c x) one ∙ is_same-refl c)))
+        absurd (true≢false (sym (sym other ∙ ap (λ x. is_same c x) one ∙ is_same-refl c)))
     | inr apart ↦
         let low = h.1 in
         let less = lower_place b c lb lc (elim (leb_tells (place_of c) (place_of b)) [
           | inl g ↦ let high = g.1 in absurd (apart.1 (omega (arith, low, high)))
           | inr g ↦ g.1
         ]) in
-        absurd (true_false (sym ((Decides-ltb (low_tenths b) (low_tenths c)).1 less) ∙ not_less))
+        absurd (true≢false (sym ((Decides-ltb (low_tenths b) (low_tenths c)).1 less) ∙ not_less))
   ]
 ]
 
@@ -69,8 +71,8 @@ module _ (bin : Bin) (n : ℕ) (is : is_lawful bin ≡ true) where
   unfolding step
   placed-good lo [] good low = record { lawful = and_so (is_lawful bin) true is refl; some = and_so (nat_lt 0 (suc n)) true positive refl; rise = (low, tt) }
   placed-good lo (c ∷ cs) good low =
-      let lawful = both (is_lawful c.bin) (list_all (λ x. is_lawful x.bin) cs) good.lawful in
-      let some = both (nat_lt 0 c.count) (list_all (λ x. nat_lt 0 x.count) cs) good.some in
+      let lawful = both_hold (is_lawful c.bin) (list_all (λ x. is_lawful x.bin) cs) good.lawful in
+      let some = both_hold (nat_lt 0 c.count) (list_all (λ x. nat_lt 0 x.count) cs) good.some in
       let tail : Good (low_tenths c.bin + 1) cs = record { lawful = lawful.1; some = some.1; rise = good.rise.1 } in
       elim (cases_Bool (is_same c.bin bin)) [
         | inl same ↦ subst (λ b. Good lo (step c cs bin (suc n) b (nat_lt (low_tenths bin) (low_tenths c.bin)))) (sym same) (record {
@@ -104,7 +106,7 @@ added-good cs bin (suc n) is good = placed-good bin n is 0 cs good (omega arith)
 merged-good : (cs ps : List BinCount) → AreLawful ps → Good 0 cs → Good 0 (merged cs ps)
 merged-good cs [] lawful good = good
 merged-good cs (p ∷ ps) lawful good =
-    let parts = both (is_lawful p.bin) (list_all (λ x. is_lawful x.bin) ps) lawful in
+    let parts = both_hold (is_lawful p.bin) (list_all (λ x. is_lawful x.bin) ps) lawful in
     merged-good (added cs p.bin p.count) ps parts.1 (added-good cs p.bin p.count parts.0 good)
 
 all-good : (cs : List BinCount) (parts : List Part) → AllByRecursion (λ part. AreLawful part.bins) parts → Good 0 cs → Good 0 (fold merged cs (map (λ part. part.bins) parts))
@@ -122,7 +124,7 @@ rises lo (c ∷ (d ∷ cs)) rise =
     let first = rise.1.0 in
     rising-cons (low_tenths c.bin) (low_tenths d.bin) (map (λ x. low_tenths x.bin) cs) (omega (arith, first)) (rises (low_tenths c.bin + 1) (d ∷ cs) rise.1)
 
-pub sums_rise : (parts : List Part) → AllByRecursion (λ part. AreLawful part.bins) parts → IsBinList (merged_parts parts)
+pub sums_rise : (parts : List Part) → AllByRecursion (λ part. AreLawful part.bins) parts → IsBinList (fold merged [] (map (λ part. part.bins) parts))
 sums_rise parts lawful =
     let good = all-good [] parts lawful (record { lawful = refl; some = refl; rise = tt }) in
-    record { lawful = good.lawful; rising = rises 0 (merged_parts parts) good.rise; some = good.some }
+    record { lawful = good.lawful; rising = rises 0 (fold merged [] (map (λ part. part.bins) parts)) good.rise; some = good.some }

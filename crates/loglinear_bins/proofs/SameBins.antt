@@ -15,9 +15,10 @@ use Rattle.loglinear_bins.proofs.Adding.{count_of-merged}
 use Rattle.loglinear_bins.proofs.Order.{low_tenths-bin_at}
 use Rattle.loglinear_bins.proofs.Places.{is_same-refl, is_same-true, bin_at-place_of}
 use Rattle.loglinear_bins.proofs.Restored.{merged-IsBinList}
-use Rattle.book_state.proofs.Lists.{both}
-use Rattle.ledger.proofs.Lists.{cons_same}
-use Rattle.flush_view.proofs.Rising.{sums_rise}
+use Rattle.loglinear_bins.proofs.MergedBins.{both_hold, sums_rise}
+
+cons_same : {X : Type 0} {x y : X} {xs ys : List X} → x ≡ y → xs ≡ ys → x ∷ xs ≡ y ∷ ys
+cons_same e f = λ i. e i ∷ f i
 
 -- lawful bins that are not empty and rise from a place on
 abbrev RisesFrom : ℕ → List BinCount → Type 0
@@ -29,10 +30,10 @@ rise_from : (low : ℕ) (c : BinCount) (cs : List BinCount) → low ≤ low_tent
     → list_all (λ b. is_lawful b.bin) (c ∷ cs) ≡ true → list_all (λ b. nat_lt 0 b.count) (c ∷ cs) ≡ true
     → IsStrictlyIncreasing (map (λ b. low_tenths b.bin) (c ∷ cs)) → RisesFrom low (c ∷ cs)
 rise_from low c [] first lawful some rising =
-    (first, (Decides-ltb 0 c.count).0 (both (nat_lt 0 c.count) true some).0, (both (is_lawful c.bin) true lawful).0, tt)
+    (first, (Decides-ltb 0 c.count).0 (both_hold (nat_lt 0 c.count) true some).0, (both_hold (is_lawful c.bin) true lawful).0, tt)
 rise_from low c (d ∷ ds) first lawful some rising =
-    let is = both (is_lawful c.bin) (list_all (λ b. is_lawful b.bin) (d ∷ ds)) lawful in
-    let has = both (nat_lt 0 c.count) (list_all (λ b. nat_lt 0 b.count) (d ∷ ds)) some in
+    let is = both_hold (is_lawful c.bin) (list_all (λ b. is_lawful b.bin) (d ∷ ds)) lawful in
+    let has = both_hold (nat_lt 0 c.count) (list_all (λ b. nat_lt 0 b.count) (d ∷ ds)) some in
     let next = rising 0 (omega arith) in (
       first,
       (Decides-ltb 0 c.count).0 has.0,
@@ -125,7 +126,7 @@ same_rising low (c ∷ cs) (d ∷ ds) one other same =
     sym (first_count low c cs one) ∙ same c.bin ∙ ap (λ (b : Bin). count_of (d ∷ ds) b) bin_same
     ∙ first_count low d ds other in
     let first : c ≡ d = λ i. record { bin = bin_same i; count = count_same i } in
-    cons_same c d cs ds first (same_rising (low_tenths c.bin + 1) cs ds one.3
+    cons_same first (same_rising (low_tenths c.bin + 1) cs ds one.3
     (subst (λ (n : ℕ). RisesFrom (n + 1) ds) (sym even) other.3) (λ bin.
     let left = sum_by-cons (λ (b : BinCount). cond (is_same b.bin bin) b.count 0) c cs in
     let right = sum_by-cons (λ (b : BinCount). cond (is_same b.bin bin) b.count 0) d ds in
@@ -134,7 +135,7 @@ same_rising low (c ∷ cs) (d ∷ ds) one other same =
     let all = same bin in
     omega (arith, left, right, heads, all)))
 
-same_bins : (cs ds : List BinCount) → IsBinList cs → IsBinList ds → SameCounts cs ds → cs ≡ ds
+pub same_bins : (cs ds : List BinCount) → IsBinList cs → IsBinList ds → SameCounts cs ds → cs ≡ ds
 same_bins cs ds one other same = same_rising 0 cs ds (rise cs one) (rise ds other) same
 
 part_of : List BinCount → Part

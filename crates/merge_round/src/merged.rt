@@ -1,0 +1,59 @@
+//! The tables of parents.
+ghost use Rattle.std.specs.Prelude.{◌≡◌, ℕ, ◌+◌, ◌^◌, ◌<◌, ◌≤◌, [], OnOk, vec_len};
+ghost use Rattle.loglinear_bins.specs.declared.place.TheConstants.{MAX_COUNT};
+ghost use Rattle.merge_round.specs.Halves.{HasAtMost, no_bins};
+ghost use Rattle.merge_round.specs.Slots.{bins_at};
+ghost use Rattle.merge_round.specs.Kept.{parts_in, IsReady, HasSameBins, HasFew, IsMerged};
+
+use crate::tables::Tables;
+use crate::workers::{clear_workers, merge_worker, warm_worker};
+use stat_defs::NoMemory;
+use std::alloc::Global;
+
+/// The tables of a round by worker, those of all workers together, and those of all rounds.
+#[derive(Drop)]
+pub(crate) struct Merged {
+    pub(crate) workers: Vec<Tables>,
+    pub(crate) interval: Tables,
+    pub(crate) cumulative: Tables,
+}
+
+impl Merged {
+    /// Tables for each histogram of which the others hold a value.
+    pub(crate) fn make_room(
+        &mut self,
+        alloc: Global,
+        worker: usize,
+        others: &Tables,
+    ) -> Result<(), NoMemory>
+        requires { worker < 2 ^ 32 }
+        ensures same { HasSameBins self.old self.new }
+        ensures ready { OnOk result (IsReady self.new worker others.now) }
+    {
+        warm_worker(alloc, &mut self.workers, worker, others)?;
+        self.interval.warm_for(alloc, others)?;
+        self.cumulative.warm_for(alloc, others)
+    }
+
+    /// Adds all values of the others to the worker's part, to the interval and to the cumulative bins.
+    pub(crate) fn add(&mut self, worker: usize, others: &Tables)
+        requires ready { IsReady self.old worker others.now }
+        requires room { (n m : ℕ) × HasFew self.old n × HasAtMost m (bins_at others.now) × (n + m ≤ MAX_COUNT) }
+        ensures { IsMerged worker (bins_at others.now) self.old self.new }
+    {
+        merge_worker(&mut self.workers, worker, others);
+        self.interval.merge(others);
+        self.cumulative.merge(others);
+    }
+
+    /// Forgets the values of the round. The tables stay.
+    pub(crate) fn clear_round(&mut self)
+        ensures parts { (worker : ℕ) → parts_in self.new worker ≡ no_bins }
+        ensures interval { bins_at self.new.interval ≡ no_bins }
+        ensures cumulative { self.new.cumulative ≡ self.old.cumulative }
+        ensures workers { vec_len self.new.workers ≡ vec_len self.old.workers }
+    {
+        clear_workers(&mut self.workers);
+        self.interval.clear();
+    }
+}
