@@ -5,9 +5,9 @@ use Rattle.std.proofs.lemmas.List.Elements.{All-nil, All-cons}
 use Rattle.stat_defs.specs.declared.history.Entry.{Entry}
 use Rattle.stat_defs.specs.declared.ids.MetricId.{MetricId}
 use Rattle.seat_parts.specs.Parts.{total}
-use Rattle.metric_words.specs.declared.view.CountKind.TheVariants as count
-use Rattle.metric_words.specs.declared.view.CountPart.{CountPart}
-use Rattle.metric_words.specs.declared.view.CountStep.{CountStep}
+use Rattle.metric_words.specs.declared.counter_view.CountKind.TheVariants as count
+use Rattle.metric_words.specs.declared.counter_view.CountPart.{CountPart}
+use Rattle.metric_words.specs.declared.counter_view.CountStep.{CountStep}
 use Rattle.metric_words.specs.Counters.{when, step_of, latches, seconds}
 use Rattle.seat_history.specs.History.{entries_by}
 use Rattle.seat_history.proofs.Logs.{past-goes-on, by-append, by-own}

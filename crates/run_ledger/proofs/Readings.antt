@@ -15,9 +15,9 @@ use Rattle.stat_defs.specs.declared.history.Verdict.TheVariants as verdict
 use Rattle.stat_defs.specs.declared.ids.Kind.TheVariants.{Counter, Gauge}
 use Rattle.stat_defs.specs.declared.ids.MetricId.{MetricId}
 use Rattle.stat_defs.specs.declared.reports.Reading.{Reading}
-use Rattle.metric_words.specs.declared.view.CountKind.{CountKind}
-use Rattle.metric_words.specs.declared.view.CountKind.TheVariants.{First, Second, Latch, Load}
-use Rattle.metric_words.specs.declared.view.CountStep.{CountStep}
+use Rattle.metric_words.specs.declared.counter_view.CountKind.{CountKind}
+use Rattle.metric_words.specs.declared.counter_view.CountKind.TheVariants.{First, Second, Latch, Load}
+use Rattle.metric_words.specs.declared.counter_view.CountStep.{CountStep}
 use Rattle.metric_words.specs.Counters.{choose, as_load, seen_by, Rises}
 use Rattle.metric_words.specs.CounterLaws.{as_loaded, loads_of}
 use Rattle.book_state.specs.State.{NameRules, Row, Seat, State, metrics_of}

@@ -17,8 +17,8 @@ use Rattle.book_state.specs.State.{NameRules, State, metrics_of, names_in}
 use Rattle.book_state.specs.Log.{openings, replay, Legal}
 use Rattle.book_state.specs.Follows.{Follows}
 use Rattle.seat_parts.specs.Parts.{total}
-use Rattle.metric_words.specs.declared.view.CountPart.{CountPart}
-use Rattle.metric_words.specs.declared.view.CountStep.{CountStep}
+use Rattle.metric_words.specs.declared.counter_view.CountPart.{CountPart}
+use Rattle.metric_words.specs.declared.counter_view.CountStep.{CountStep}
 use Rattle.metric_words.specs.declared.gauge_view.GaugePart.{GaugePart}
 use Rattle.metric_words.specs.Counters.{seconds, latches, Rises}
 use Rattle.metric_words.specs.CounterLaws.{IsCounterEnd}

@@ -6,9 +6,9 @@ use Rattle.stat_defs.specs.declared.history.Entry.{Entry}
 use Rattle.stat_defs.specs.declared.ids.MetricId.{MetricId}
 use Rattle.seat_history.specs.declared.known.LogKnown.{LogKnown}
 use Rattle.seat_history.specs.History.{past, entries_by, SeatHistory}
-use Rattle.metric_words.specs.declared.view.CountKind.TheVariants as count
-use Rattle.metric_words.specs.declared.view.CountPart.{CountPart}
-use Rattle.metric_words.specs.declared.view.CountStep.{CountStep}
+use Rattle.metric_words.specs.declared.counter_view.CountKind.TheVariants as count
+use Rattle.metric_words.specs.declared.counter_view.CountPart.{CountPart}
+use Rattle.metric_words.specs.declared.counter_view.CountStep.{CountStep}
 use Rattle.metric_words.specs.declared.gauge_view.GaugePart.{GaugePart}
 use Rattle.metric_words.specs.Counters.{step_of}
 use Rattle.metric_words.specs.Gauges.{written, IsGaugeWord}

@@ -10,8 +10,8 @@ use Rattle.stat_defs.specs.declared.history.Verdict.TheVariants.{Accepted}
 use Rattle.stat_defs.specs.declared.reports.Delta.{Delta}
 use Rattle.stat_defs.specs.declared.reports.Reading.{Reading}
 use Rattle.stat_defs.specs.declared.reports.FlushRecord.{FlushRecord}
-use Rattle.metric_words.specs.declared.view.CountKind.TheVariants as count
-use Rattle.metric_words.specs.declared.view.CountStep.{CountStep}
+use Rattle.metric_words.specs.declared.counter_view.CountKind.TheVariants as count
+use Rattle.metric_words.specs.declared.counter_view.CountStep.{CountStep}
 use Rattle.metric_words.specs.declared.gauge_view.GaugeKind.{GaugeKind}
 use Rattle.metric_words.specs.declared.gauge_view.GaugeKind.TheVariants as gauge
 use Rattle.metric_words.specs.declared.gauge_view.GaugeStep.{GaugeStep}

@@ -7,8 +7,8 @@ use Rattle.stat_defs.specs.declared.reports.FlushRecord.{FlushRecord}
 use Rattle.stat_defs.specs.declared.reports.ReadRecord.{ReadRecord}
 use Rattle.stat_defs.specs.declared.reports.Reading.{Reading}
 use Rattle.seat_history.specs.declared.known.LogKnown.{LogKnown}
-use Rattle.metric_words.specs.declared.view.CountStep.{CountStep}
-use Rattle.metric_words.specs.declared.view.CountPart.{CountPart}
+use Rattle.metric_words.specs.declared.counter_view.CountStep.{CountStep}
+use Rattle.metric_words.specs.declared.counter_view.CountPart.{CountPart}
 use Rattle.metric_words.specs.declared.gauge_view.GaugeKind.{GaugeKind}
 use Rattle.metric_words.specs.declared.gauge_view.GaugeKind.TheVariants.{Add, Sub, Set, Load}
 use Rattle.metric_words.specs.declared.gauge_view.GaugeStep.{GaugeStep}

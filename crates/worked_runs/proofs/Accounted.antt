@@ -6,8 +6,8 @@ use Rattle.std.proofs.lemmas.List.Elements.{All-from_recursion}
 use Rattle.stat_defs.specs.declared.history.Entry.{Entry}
 use Rattle.stat_defs.specs.declared.reports.Part.{Part}
 use Rattle.metric_words.specs.declared.gauge_view.GaugePart.{GaugePart}
-use Rattle.metric_words.specs.declared.view.CountKind.TheVariants as count
-use Rattle.metric_words.specs.declared.view.CountStep.{CountStep}
+use Rattle.metric_words.specs.declared.counter_view.CountKind.TheVariants as count
+use Rattle.metric_words.specs.declared.counter_view.CountStep.{CountStep}
 use Rattle.metric_words.specs.Counters.{step_of, latches}
 use Rattle.metric_words.specs.Gauges.{written, fold_of}
 use Rattle.seat_parts.specs.Parts.{total}

@@ -1,7 +1,7 @@
 -- The two workers follow their events, and did their work.
 use Rattle.std.proofs.Common.{ℕ, List, [], ◌∷◌, take, drop, refl, inl, arith}
 use Rattle.stat_defs.specs.declared.history.Entry.{Entry}
-use Rattle.metric_words.specs.declared.view.CountKind.TheVariants as count
+use Rattle.metric_words.specs.declared.counter_view.CountKind.TheVariants as count
 use Rattle.metric_words.specs.Counters.{step_of}
 use Rattle.metric_words.specs.declared.gauge_view.GaugeKind.TheVariants as gauge
 use Rattle.metric_words.specs.Gauges.{gauge_step}

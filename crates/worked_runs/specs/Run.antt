@@ -12,10 +12,10 @@ use Rattle.stat_defs.specs.declared.reports.ReadRecord.{ReadRecord}
 use Rattle.stat_defs.specs.declared.reports.Report.{Report}
 use Rattle.seat_history.specs.declared.known.LogKnown.{LogKnown}
 use Rattle.seat_history.specs.History.{past, entries_by}
-use Rattle.metric_words.specs.declared.view.CountKind.TheVariants as count
-use Rattle.metric_words.specs.declared.view.SeatRole.TheVariants.{Worker}
-use Rattle.metric_words.specs.declared.view.CountStep.{CountStep}
-use Rattle.metric_words.specs.declared.view.CountPart.{CountPart}
+use Rattle.metric_words.specs.declared.counter_view.CountKind.TheVariants as count
+use Rattle.metric_words.specs.declared.counter_view.SeatRole.TheVariants.{Worker}
+use Rattle.metric_words.specs.declared.counter_view.CountStep.{CountStep}
+use Rattle.metric_words.specs.declared.counter_view.CountPart.{CountPart}
 use Rattle.metric_words.specs.declared.gauge_view.GaugeKind.TheVariants as gauge
 use Rattle.metric_words.specs.declared.gauge_view.GaugePart.{GaugePart}
 use Rattle.metric_words.specs.declared.gauge_view.GaugeStep.{GaugeStep}
