@@ -16,6 +16,7 @@ use stat_defs::MetricId;
 impl CounterBank {
     /// Adds `n` units: one atomic add to the counter's value, and then one to what of it is pending, where the units
     /// count as accepted. The two words found are told as numbers that some moment had.
+    #[inline(always)]
     pub fn add(&self, seat: &mut WorkerSeat, id: MetricId, n: u32)
         requires bank { (worker_known seat.old).bank ≡ bank_id self.now }
         requires id { id.0 < size_of self.now }

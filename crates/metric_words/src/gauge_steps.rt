@@ -14,6 +14,7 @@ use stat_defs::MetricId;
 
 impl GaugeBank {
     /// Adds `n`, modulo 2^64, by one atomic add.
+    #[inline(always)]
     pub fn add(&self, seat: &mut GaugeSeat, id: MetricId, n: u64)
         requires bank { (gauge_known seat.old).bank ≡ gauges_id self.now }
         requires id { id.0 < gauges_size self.now }
@@ -25,6 +26,7 @@ impl GaugeBank {
     }
 
     /// Subtracts `n`, modulo 2^64, by one atomic subtraction.
+    #[inline(always)]
     pub fn sub(&self, seat: &mut GaugeSeat, id: MetricId, n: u64)
         requires bank { (gauge_known seat.old).bank ≡ gauges_id self.now }
         requires id { id.0 < gauges_size self.now }
@@ -36,6 +38,7 @@ impl GaugeBank {
     }
 
     /// Stores `n` by one atomic swap, and gives the word that it displaced.
+    #[inline(always)]
     pub fn set(&self, seat: &mut GaugeSeat, id: MetricId, n: u64) -> u64
         requires bank { (gauge_known seat.old).bank ≡ gauges_id self.now }
         requires id { id.0 < gauges_size self.now }

@@ -1,0 +1,6 @@
+pub mod HandLemmas
+pub mod UnitLemmas
+pub mod SeatMoves
+pub mod RecorderLemmas
+pub mod PollLemmas
+pub mod WorkLemmas

@@ -1,0 +1,7 @@
+pub mod Acting
+pub mod Hands
+pub mod Knowing
+pub mod Calling
+pub mod RecorderKept
+pub mod Ending
+pub mod Following
