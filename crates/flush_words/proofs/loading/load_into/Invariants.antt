@@ -1,0 +1,12 @@
+use Rattle.std.proofs.Common.{◌≡◌, ◌≤◌, length, map, take, vec_capacity}
+use Rattle.metric_words.specs.GaugeLedger.{gauge_known}
+use Rattle.flush_words.specs.Words.{after_gauge_loads}
+use Rattle.flush_words.proofs.loading.load_into.Given as goal
+
+abbrev pub invariant-loop-id : goal.invariant-loop-id
+invariant-loop-id l =
+    ((gauge_known l.seat).bank ≡ (gauge_known l.initial.seat).bank)
+    × (gauge_known l.seat ≡ after_gauge_loads l.readings.items (gauge_known l.initial.seat))
+    × (map (λ r. r.id) l.readings.items ≡ take l.id-index l.ids)
+    × (length l.ids ≤ vec_capacity l.readings)
+    × (length l.readings.items ≡ l.id-index)
