@@ -19,6 +19,6 @@ returns-in-Err-Failed-clause-read g c =
     (record {
       count_before = ap (λ (e : WorkerEnd). e.faults_before) told ∙ c.fault_count-faults_before.ensures;
       count_after = ap (λ (e : WorkerEnd). e.faults_after) told ∙ c.fault_count.ensures;
-      unopened = c.in-Err-Failed.ensures.failed refl;
+      unopened = c.in-Err-Failed.ensures.failed (search rules);
       taken = ap (λ (e : WorkerEnd). e.taken) told;
     })
