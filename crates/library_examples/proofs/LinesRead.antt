@@ -35,12 +35,12 @@ module _ {S : Type 0} (state : S → SourceState) where
   lines_read source init old new earlier later verdicts so is answer end tells answered =
       let last : Moves state old new answered.got [] =
       subst (λ (es : List Event). Moves state old new answered.got es) tells.0 answered.moves in
-      let all = moves_trans state init old new so.got answered.got so.events [] so.moves last in
+      let all = moves_trans state init old new so.read.got answered.got so.events [] so.read.moves last in
       let from_start = rw (is, append-nil) at all in
       let has : HasEnded state new end =
       subst (λ (o : Option FileEnd). IfSome o (HasEnded state new)) tells.1 answered.ended in
       let run : IsRun (state source).left end new.taken so.events =
-      run_of state source new (state source).faults (so.got ++ answered.got) so.events end from_start has
+      run_of state source new (state source).faults (so.read.got ++ answered.got) so.events end from_start has
       answered.whole in
       record {
         events = so.events;
@@ -48,5 +48,5 @@ module _ {S : Type 0} (state : S → SourceState) where
         is_run = run;
         applied = so.are_applied;
         lawful = run_lawful (state source).left end new.taken so.events run;
-        few = so.few;
+        few = so.read.few;
       }

@@ -1,5 +1,6 @@
 use Rattle.std.proofs.Common.{Ok, ap}
-use Rattle.replay_report.proofs.SoFar.{so_far_none, lawful_now, room_so_far, so_far_more}
+use Rattle.file_reading.proofs.ReadSoFar.{lawful_now, room_now, read_more}
+use Rattle.replay_report.proofs.SoFar.{so_far_none, room_so_far, applied_more}
 use Rattle.library_examples.proofs.LinesFlushed.{lines_stay, lines_few, no_flush}
 use Rattle.library_examples.proofs.LinesRead.{lines_read}
 use Rattle.library_examples.proofs.reading.apply_lines.Goals as goal
@@ -16,16 +17,21 @@ apply_event-requires-clause-lawful g c =
 
 pub apply_event-requires-clause-few : goal.apply_event-requires-clause-few
 apply_event-requires-clause-few g c =
-    room_so_far g.S.Source.state c.in_ok-lines.lines c.loop-lines.lines c.next.new.self c.args.store.now
-    c.loop-lines.store c.loop-lines.verdicts.items c.loop-lines.invariant c.in-Ok.event
-    (rw c.in-Ok.ensures at c.in_ok-step.ensures.answer) c.requires
+    let so = c.loop-lines.invariant in
+    room_so_far c.args.store.now c.loop-lines.store so.events c.loop-lines.verdicts.items so.are_applied
+    (room_now g.S.Source.state c.in_ok-lines.lines c.loop-lines.lines c.next.new.self so.events so.read c.in-Ok.event
+    (rw c.in-Ok.ensures at c.in_ok-step.ensures.answer)) c.requires
 
 pub loop-lines-preserved : goal.loop-lines-preserved
 loop-lines-preserved g c =
-    so_far_more g.S.Source.state c.in_ok-lines.lines c.loop-lines.lines c.next.new.self c.args.store.now
-    c.loop-lines.store c.loop-lines.verdicts.items c.loop-lines.invariant c.in-Ok.event
-    (rw c.in-Ok.ensures at c.in_ok-step.ensures.answer) c.apply_event.new.store c.apply_event.new.verdicts.items
-    c.in_ok-apply_event-in-Ok.ensures
+    let so = c.loop-lines.invariant in record {
+      events = _;
+      read = read_more g.S.Source.state c.in_ok-lines.lines c.loop-lines.lines c.next.new.self so.events so.read
+          c.in-Ok.event (rw c.in-Ok.ensures at c.in_ok-step.ensures.answer);
+      are_applied = applied_more c.args.store.now c.loop-lines.store c.apply_event.new.store so.events c.in-Ok.event
+          c.loop-lines.verdicts.items c.apply_event.new.verdicts.items so.are_applied
+          c.in_ok-apply_event-in-Ok.ensures;
+    }
 
 pub returns-in-Err : goal.returns-in-Err
 returns-in-Err g c =
