@@ -1,9 +1,10 @@
 -- Requests, a pass and a new round leave each worker in step.
 use Rattle.std.proofs.Common.{◌≡◌, ℕ, suc, ◌<◌, ◌==◌, Bool, true, false, List, [], ◌∷◌, ◌++◌, map, filter, cond, refl, ap, sym, ◌∙◌, subst, arith, append-nil, append_assoc}
+use Rattle.std.specs.List.{flat_map}
 use Rattle.std.proofs.lemmas.Bool.Decides.{Decides-eqb}
 use Rattle.std.proofs.lemmas.List.{map-append}
 use Rattle.merge_round.specs.Halves.{HalfState}
-use Rattle.merge_round.specs.Rounds.{ParentsState, after_round}
+use Rattle.merge_round.specs.Rounds.{ParentsState, worker_values, after_round}
 use Rattle.turn_cell.specs.Tokens.{TurnKnown, waiting_known, holding_known}
 use Rattle.turn_cell.specs.declared.flusher.Take.TheVariants as take
 use Rattle.flush_cells.specs.declared.tokens.FlushCell.{FlushCell}
@@ -139,9 +140,19 @@ new_round first earlier p [] all = tt
 new_round first earlier p (c ∷ cells) all =
     (all.0 ∙ ap (λ (l : HalfValues). l ++ held_in c) (sym (append-nil (earlier first ++ round_of first p.round))), new_round (suc first) earlier p cells all.1)
 
+values_are : (worker : ℕ) (round : List Merged) → worker_values worker round ≡ flat_map (λ half. half) (round_of worker round)
+values_are worker [] = refl
+values_are worker (h ∷ round) = by_case (values_are worker round) (h.0 == worker) where
+  by_case : worker_values worker round ≡ flat_map (λ half. half) (round_of worker round) → (b : Bool)
+      → cond b h.1.values [] ++ worker_values worker round
+      ≡ flat_map (λ half. half) (map (λ (x : Merged). x.1.values) (cond b (h ∷ filter (λ x. x.0 == worker) round) (filter (λ x. x.0 == worker) round)))
+  by_case rest true = ap (λ (l : List (ℕ × ℕ)). h.1.values ++ l) rest
+  by_case rest false = rest
+
 pub stay-in-step : StayInStep
 stay-in-step = record {
   asks = λ earlier parents olds news each all. all_asks 1 earlier parents olds news each all;
   pass = λ earlier old new olds news each all. all_pass 1 earlier old new olds news each all;
   round = λ earlier parents cells all. new_round 1 earlier parents cells all;
+  values = values_are;
 }

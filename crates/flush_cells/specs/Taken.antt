@@ -1,7 +1,8 @@
 -- The halves that were taken of each worker (this project's own).
 use Rattle.std.specs.Prelude.{◌≡◌, ℕ, suc, ◌==◌, List, [], ◌∷◌, ◌++◌, map, filter}
+use Rattle.std.specs.List.{flat_map}
 use Rattle.merge_round.specs.Halves.{HalfState}
-use Rattle.merge_round.specs.Rounds.{ParentsState, after_round}
+use Rattle.merge_round.specs.Rounds.{ParentsState, after_round, worker_values}
 use Rattle.flush_cells.specs.declared.tokens.FlushCell.{FlushCell}
 use Rattle.flush_cells.specs.declared.tokens.FlushCell.TheVariants.{Holding}
 use Rattle.flush_cells.specs.Cells.{cell_known}
@@ -33,7 +34,7 @@ abbrev pub EachInStep : ℕ → (ℕ → HalfValues) → ParentsState → List F
 EachInStep worker earlier parents [] = Unit {0}
 EachInStep worker earlier parents (c ∷ cells) = InStep worker (earlier worker) parents c × EachInStep (suc worker) earlier parents cells
 
--- requests, a pass and a new round leave each worker in step
+-- requests, a pass and a new round leave each worker in step; and a worker's values in a round are those of its halves
 pub record StayInStep : Type 0 where
   pub asks : (earlier : ℕ → HalfValues) (parents : ParentsState) (olds news : List FlushCell) → AsksEach olds news
       → EachInStep 1 earlier parents olds → EachInStep 1 earlier parents news
@@ -41,3 +42,4 @@ pub record StayInStep : Type 0 where
       → EachInStep 1 earlier old olds → EachInStep 1 earlier new news
   pub round : (earlier : ℕ → HalfValues) (parents : ParentsState) (cells : List FlushCell) → EachInStep 1 earlier parents cells
       → EachInStep 1 (λ worker. earlier worker ++ round_of worker parents.round) (after_round parents) cells
+  pub values : (worker : ℕ) (round : List (ℕ × HalfState)) → worker_values worker round ≡ flat_map (λ half. half) (round_of worker round)
