@@ -5,3 +5,4 @@ pub mod Calling
 pub mod RecorderKept
 pub mod Ending
 pub mod Following
+pub mod Tied

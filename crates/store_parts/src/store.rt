@@ -1,8 +1,6 @@
 //! The shared parts.
-ghost use Rattle.std.specs.Prelude.{◌≡◌};
-ghost use Rattle.book_state.specs.declared.limits.TheConstants.{MAX_METRICS};
-ghost use Rattle.metric_words.specs.CounterLedger.{size_of};
-ghost use Rattle.metric_words.specs.GaugeLedger.{gauges_size};
+ghost use Rattle.std.specs.Prelude.{length};
+ghost use Rattle.store_parts.specs.Whole.{IsWhole};
 
 use locked_book::SharedBook;
 use merge_round::Half;
@@ -17,5 +15,5 @@ pub struct Store {
     pub counters: CounterBank,
     pub gauges: GaugeBank,
     pub cells: Vec<TurnCell<Half>>,
-    ghost sized: { (size_of counters ≡ MAX_METRICS) × (gauges_size gauges ≡ MAX_METRICS) },
+    ghost whole: { IsWhole book counters gauges (length cells.items) },
 }

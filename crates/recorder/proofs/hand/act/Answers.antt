@@ -23,7 +23,7 @@ add-requires c =
     let units = c.requires.room.units c.in-Accepted.id.0 in
     record {
       bank = c.requires.own.counters;
-      id = subst (λ (n : ℕ). c.in-Accepted.id.0 < n) (sym c.args.store.now.sized.0) word;
+      id = subst (λ (n : ℕ). c.in-Accepted.id.0 < n) (sym c.args.store.now.whole.sizes.0) word;
       units = omega (arith, small, units);
     }
 
@@ -36,7 +36,7 @@ returns-in-Inc-clause-acts c =
 pub step-requires : goal.step-requires
 step-requires c =
     let word = subst IsInRoom c.in-Accepted.is (subst (λ (e : EventRef). NamesInRoom (event_of e) c.args.verdict) c.in-Gauge.is c.requires.word) in
-    record { bank = c.requires.own.gauges; id = subst (λ (n : ℕ). c.in-Accepted.id.0 < n) (sym c.args.store.now.sized.1) word }
+    record { bank = c.requires.own.gauges; id = subst (λ (n : ℕ). c.in-Accepted.id.0 < n) (sym c.args.store.now.whole.sizes.1) word }
 
 pub returns-in-Gauge-clause-acts : goal.returns-in-Gauge-clause-acts
 returns-in-Gauge-clause-acts c =

@@ -1,0 +1,45 @@
+-- A worker's recorder as a store deals it, and what it leaves when it is done (this project's own).
+use Rattle.std.specs.Prelude.{◌≡◌, ℕ, suc, []}
+use Rattle.seat_history.specs.declared.known.LogKnown.{LogKnown}
+use Rattle.locked_book.specs.Sharing.{known_by}
+use Rattle.metric_words.specs.CounterLedger.{worker_part}
+use Rattle.turn_cell.specs.Tokens.{note_known}
+use Rattle.book_seat.specs.Following.{HasFollowed}
+use Rattle.book_seat.specs.Polling.{Ends}
+use Rattle.ledger.specs.Work.{events_in, verdicts_in}
+use Rattle.run_ledger.specs.Accounts.{DidItsWork}
+use Rattle.store_parts.specs.Ids.{ids_of, HasCell}
+use Rattle.store_parts.specs.declared.store.Store.{Store}
+use Rattle.recorder.specs.declared.ended.Ended.{Ended}
+use Rattle.recorder.specs.Ending.{store_of, told_at_end}
+use Rattle.recorder.specs.Following.{HasFollowedAll}
+use Rattle.recorder.specs.Knowing.{RecorderKnown, HasItsCell}
+use Rattle.recorder.specs.RecorderKept.{AddsToMade}
+
+-- the recorder of the store's worker w, whose cell is at that worker's place; workers are numbered from 1
+pub record IsWorkerOf (store : Store) (w : ℕ) (r : RecorderKnown) : Type 0 where
+  pub of : r.of ≡ ids_of store
+  pub number : r.seat.number ≡ w
+  pub place : suc r.place ≡ w
+  pub cell : HasItsCell store r
+
+-- it was given no event yet
+pub record IsNewWorker (store : Store) (w : ℕ) (r : RecorderKnown) : Type 0 where
+  pub worker : IsWorkerOf store w r
+  pub work : r.work ≡ []
+  pub given : r.given ≡ 0
+  pub followed : HasFollowedAll r
+
+-- What the store's worker w left: its seat has ended behind the entries of its events, it did its work, and it added to
+-- no counter that the log did not make.
+pub record HasEnded (store : Store) (w : ℕ) (ended : Ended) : Type 0 where
+  pub of : store_of ended ≡ ids_of store
+  pub number : (known_by ended.seat).number ≡ w
+  pub place : ℕ
+  pub at : suc place ≡ w
+  pub cell : HasCell store place (note_known ended.note).cell
+  pub before : LogKnown
+  pub followed : HasFollowed before (events_in ended.work.items) (verdicts_in ended.work.items)
+  pub ends : Ends before (known_by ended.seat)
+  pub did : DidItsWork (told_at_end ended)
+  pub made : AddsToMade (known_by ended.seat) (worker_part ended.counts)
