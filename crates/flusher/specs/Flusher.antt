@@ -1,5 +1,6 @@
 -- What a flusher of a store knows and tells (this project's own). Its own calls alone change it.
-use Rattle.std.specs.Prelude.{◌≡◌, ◌⊎◌, ℕ, ◌<◌, false, Option, Some, None, IfSome, List, [], ◌∷◌, ◌++◌, length, map, take}
+use Rattle.std.specs.Prelude.{◌≡◌, ◌⊎◌, ℕ, ◌<◌, false, Option, Some, None, IfSome, List, [], ◌∷◌, ◌++◌, length, map}
+use Rattle.std.specs.Prelude.{take}
 use Rattle.std.specs.List.{AllByRecursion, range_with_len}
 use Rattle.std.specs.List.Sorted.{IsStrictlyIncreasing}
 use Rattle.stat_defs.specs.Books.{BookHistory}

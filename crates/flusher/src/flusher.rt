@@ -30,8 +30,8 @@ pub(crate) struct FlushNote {
     pub(crate) round: RoundNote,
 }
 
-/// A flusher of a store. Contracts see what its seats know, its tokens, what it merged, each of its flushes with the log
-/// that its sweep found, in order, and the round that is begun.
+/// A flusher of a store. Contracts see what its seats know, its tokens, what it merged, each of its flushes in order,
+/// with the log that its sweep found, and the round that is begun.
 #[derive(Drop)]
 pub struct Flusher {
     pub(crate) parts: FlusherParts,
