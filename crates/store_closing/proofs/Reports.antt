@@ -7,12 +7,18 @@ use Rattle.std.proofs.lemmas.List.{map-append, length-append}
 use Rattle.stat_defs.specs.declared.events.Event.{Event}
 use Rattle.stat_defs.specs.declared.history.Entry.{Entry}
 use Rattle.stat_defs.specs.declared.history.Verdict.{Verdict}
+use Rattle.stat_defs.specs.declared.reports.Delta.{Delta}
+use Rattle.metric_words.specs.declared.counter_view.CountKind.TheVariants as count
+use Rattle.metric_words.specs.Counters.{step_of}
+use Rattle.metric_words.specs.CounterLedger.{CounterKnown, after_step}
+use Rattle.flush_words.specs.Words.{after_latches}
 use Rattle.book_state.specs.State.{NameRules}
 use Rattle.ledger.specs.Lists.{EachNumbered}
 use Rattle.ledger.specs.Work.{Work, events_in, verdicts_in, apart}
 use Rattle.ledger.proofs.Members.{all_as}
 use Rattle.run_ledger.specs.Told.{WorkerTold, FlushTold, ReadTold}
 use Rattle.run_ledger.specs.Accounts.{FlushAccounts, ReadAccounts}
+use Rattle.run_ledger.specs.Grows.{Latches}
 use Rattle.run_ledger.proofs.Grows.{run_grows}
 
 cons_both : {X : Type 0} (x y : X) (xs ys : List X) → x ≡ y → xs ≡ ys → ◌≡◌ {A = List X} (x ∷ xs) (y ∷ ys)
@@ -78,3 +84,8 @@ push_rising (x ∷ (y ∷ xs)) n rise below = two_rise x y (xs ++ n ∷ []) (ris
 -- numbers that rise, and one above them all
 pub rising_and_last : (xs : List ℕ) (n : ℕ) → IsStrictlyIncreasing xs → AllByRecursion (λ x. x < n) xs → IsStrictlyIncreasing (xs ++ n ∷ [])
 rising_and_last xs n rise below = at_rising (xs ++ n ∷ []) (push_rising xs n (rising_at xs rise) below)
+
+-- what the flusher's seat did for these deltas
+pub latches_are : (deltas : List Delta) (k : CounterKnown) → Latches deltas k.own.steps (after_latches deltas k).own.steps
+latches_are [] k = refl
+latches_are (d ∷ deltas) k = latches_are deltas (after_step (step_of count.Latch d.id.0 0 d.n) k)
