@@ -22,7 +22,7 @@ use Rattle.stat_defs.specs.declared.reports.ReadRecord.{ReadRecord}
 use Rattle.seat_history.specs.declared.known.LogKnown.{LogKnown}
 use Rattle.seat_history.specs.History.{SeatHistory, entries_by, past}
 use Rattle.book_state.specs.declared.limits.TheConstants.{MAX_METRICS}
-use Rattle.book_state.specs.State.{NameRules, State, ids_from}
+use Rattle.book_state.specs.State.{NameRules, State}
 use Rattle.book_state.specs.Step.{overdue_in}
 use Rattle.book_state.specs.Log.{openings, replay, Legal}
 use Rattle.stat_book.specs.Calls.{rules_of, state_of, IsLegal, name_rules}
@@ -34,7 +34,8 @@ use Rattle.locked_book.proofs.OfKind.{few_metrics}
 use Rattle.metric_words.specs.declared.counter_view.CountPart.{CountPart}
 use Rattle.metric_words.specs.declared.counter_view.CountStep.{CountStep}
 use Rattle.metric_words.specs.declared.gauge_view.GaugePart.{GaugePart}
-use Rattle.metric_words.specs.Counters.{latches, seconds}
+use Rattle.metric_words.specs.Counters.{latches}
+use Rattle.metric_words.specs.CounterLaws.{IsCounterEnd}
 use Rattle.metric_words.specs.CounterLedger.{worker_part}
 use Rattle.metric_words.specs.GaugeLedger.{gauge_part}
 use Rattle.flush_words.specs.Words.{after_latches}
@@ -44,7 +45,7 @@ use Rattle.cells_end.specs.LastRound.{IsLastRound, halves_at_end}
 use Rattle.ledger.specs.Flushes.{ids_made, id_of_delta, id_of_reading, flushed}
 use Rattle.ledger.specs.Ledger.{plan_of}
 use Rattle.ledger.specs.Lists.{EachNumbered}
-use Rattle.ledger.proofs.Members.{all_as, all_mapped, all_parts, each_as, each_mapped}
+use Rattle.ledger.proofs.Members.{all_as, all_both, all_mapped, all_parts, each_as, each_mapped}
 use Rattle.run_ledger.specs.Told.{WorkerTold, FlushTold, ReadTold, RunTold, all_flushes, halves_of, halves_at}
 use Rattle.run_ledger.specs.Accounts.{RunAccounts, WorkerAccounts, FlushAccounts, ReadAccounts, CountersAccount, CounterAtEnd, IsLatched, IsLogOf, IsTold, LeftBy, listed}
 use Rattle.run_ledger.proofs.Grows.{run_grows}
@@ -95,6 +96,7 @@ module _ (store : Store) (ended : List Ended) (flusher : FlusherKnown) (reader :
       (new : first.log ≡ openings 0 first.config.scopes)
       (history : IsOneHistory first (seat_count store.book) (seats_at_end flusher.seat ended reader.seat) found)
       (last : BookHistory) (sweeps : SweepsListed listing 0 found last) (legal : IsLegal last)
+      (within : AllByRecursion (λ (id : MetricId). id.0 < MAX_METRICS) (ids_made Counter (state_of last)))
       (at : shown.at ≡ listing.at) (deltas : map id_of_delta shown.deltas ≡ ids_made Counter (state_of last))
       (counters : EndsCounters (counts_at_end ended) flusher.counters reader.counters shown.deltas)
       (gauges : map id_of_reading shown.gauges ≡ listing.gauges)
@@ -309,21 +311,20 @@ module _ (store : Store) (ended : List Ended) (flusher : FlusherKnown) (reader :
 
     emptied : AllByRecursion (IsEmptied told) (ids_made Counter (replay R W log))
     emptied =
-        let made = deltas ∙ ap (λ (s : State). ids_made Counter s) last_state in
-        all_both_as (IsLatched counts told.flusher) (λ id. id.0 < MAX_METRICS) (IsEmptied told) (ids_made Counter (replay R W log))
-        (λ id latched within.
-            let is = at_end id.0 within in
+        all_as (λ id. IsLatched counts told.flusher id × (id.0 < MAX_METRICS)) (IsEmptied told) (ids_made Counter (replay R W log))
+        (λ id both.
+            let is = at_end id.0 both.1 in
             record {
               value = is.value;
               end = record {
                 firsts = is.end.firsts;
                 seconds = is.end.seconds;
-                latched = (let all = latched in let sum = is.end.seconds in omega (arith, all, sum));
+                latched = (let all = both.0 in let sum = is.end.seconds in omega (arith, all, sum));
                 loads = is.end.loads;
               };
-            }) all_latched
-        (all_as (λ id. id.0 < length (replay R W log).metrics) (λ id. id.0 < MAX_METRICS) (ids_made Counter (replay R W log)) (λ id low. omega (arith, low, few))
-        (made_within (replay R W log)))
+            })
+        (all_both (IsLatched counts told.flusher) (λ id. id.0 < MAX_METRICS) (ids_made Counter (replay R W log)) all_latched
+        (subst (λ (s : State). AllByRecursion (λ (id : MetricId). id.0 < MAX_METRICS) (ids_made Counter s)) last_state within))
 
     pub closes : (lastflush : LastFlush) → lastflush ≡ record { last = shown; log = last.log } → Closes store ended flusher reader lastflush
     closes lastflush is =
