@@ -250,12 +250,9 @@ module _ (store : Store) (ended : List Ended) (flusher : FlusherKnown) (reader :
         record {
           value = is.value;
           pending = is.pending;
-          end = subst (λ (l : List CountPart). IsEnd id l is.value is.pending) counts_are is.end;
+          end = subst (λ (l : List CountPart). IsCounterEnd id l told.flusher told.reader is.value is.pending) counts_are is.end;
           rises = is.rises;
         }
-      where
-        abbrev IsEnd : ℕ → List CountPart → ℕ → ℕ → Type 0
-        IsEnd id l value pending = IsCounterEnd id l told.flusher told.reader value pending
 
     few : length (replay R W log).metrics ≤ MAX_METRICS
     few = subst (λ (s : State). length s.metrics ≤ MAX_METRICS) last_state (few_metrics last legal)
