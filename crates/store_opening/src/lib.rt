@@ -1,0 +1,6 @@
+//! How a store that threads share is made.
+#![tactic(auto)]
+
+mod book;
+mod cells;
+mod words;
