@@ -3,4 +3,5 @@
 
 mod book;
 mod cells;
+mod dealing;
 mod words;
