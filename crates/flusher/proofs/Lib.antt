@@ -1,0 +1,4 @@
+pub mod Rising
+pub mod Sweeping
+pub mod Rounds
+pub mod Accounts
