@@ -18,7 +18,7 @@ use Rattle.store_parts.specs.declared.store.Store.{Store}
 use Rattle.recorder.specs.Tied.{IsNewWorker}
 use Rattle.store_opening.specs.declared.dealing.WorkerHand.{WorkerHand}
 use Rattle.store_opening.specs.declared.dealing.Dealing.{Dealing}
-use Rattle.store_opening.specs.Dealing.{IsSeatFor, IsCountSeat, IsGaugeSeat, IsSideFor, IsHandFor, AreLeft, HasLeft, Deals, HasMore, recorder_of}
+use Rattle.store_opening.specs.Dealing.{IsSeatFor, IsCountSeat, IsGaugeSeat, IsSideFor, IsHandFor, AreLeft, HasLeft, Deals, recorder_of}
 
 -- the openings of a configuration are the store's, and of no worker
 store_opens : (at id : ℕ) (scopes : List ScopeSpec) → AreOfOthers (suc at) (openings id scopes)
@@ -35,10 +35,10 @@ new_seats_are_new first place new legal below = record {
 }
 
 module _ (store : Store) (place : ℕ) where
-  pub is_new_seat : (hand : WorkerHand) → IsHandFor store place hand → IsLegal (first_of store.book) → place < (first_of store.book).workers → IsNewSeat (known_by hand.seat)
+  is_new_seat : (hand : WorkerHand) → IsHandFor store place hand → IsLegal (first_of store.book) → place < (first_of store.book).workers → IsNewSeat (known_by hand.seat)
   is_new_seat hand is legal below = subst IsNewSeat (sym is.seat.new) (new_seats_are_new (first_of store.book) place store.whole.new legal below)
 
-  pub is_new_worker : (hand : WorkerHand) → IsHandFor store place hand → IsNewSeat (known_by hand.seat) → IsNewWorker store (suc place) (recorder_of hand place)
+  is_new_worker : (hand : WorkerHand) → IsHandFor store place hand → IsNewSeat (known_by hand.seat) → IsNewWorker store (suc place) (recorder_of hand place)
   is_new_worker hand is new = record {
     worker = record {
       of = λ i. record { lock = is.seat.own i; counters = is.counts.own i; gauges = is.gauges.own i };
@@ -51,7 +51,7 @@ module _ (store : Store) (place : ℕ) where
     followed = (seat_follows.begins (known_by hand.seat) new).1;
   }
 
-first_one : {X : Type 0} (P : ℕ → X → Type 0) (n : ℕ) (xs rest : List X) (x : X) → xs ≡ x ∷ rest → EachNumbered P n xs → P n x × EachNumbered P (suc n) rest
+pub first_one : {X : Type 0} (P : ℕ → X → Type 0) (n : ℕ) (xs rest : List X) (x : X) → xs ≡ x ∷ rest → EachNumbered P n xs → P n x × EachNumbered P (suc n) rest
 first_one P n xs rest x e each = subst (λ l. EachNumbered P n l) e each
 
 pub one_more : {X : Type 0} (P : ℕ → X → Type 0) (n k : ℕ) (xs : List X) (x : X) → EachNumbered P n xs → k ≡ n + length xs → P k x → EachNumbered P n (xs ++ x ∷ [])
@@ -72,7 +72,7 @@ module _ (store : Store) (place : ℕ) (left after : Dealing) (hand : WorkerHand
   hand_side is = first_one (IsSideFor store) place (into_iter_items left.sides) (into_iter_items after.sides) hand.side deals.side is.sides
 
   -- what is dealt is the worker's
-  pub is_hand : AreLeft store place left → IsHandFor store place hand
+  is_hand : AreLeft store place left → IsHandFor store place hand
   is_hand is = record { seat = (hand_seat is).0; counts = (hand_counts is).0; gauges = (hand_gauges is).0; side = (hand_side is).0 }
 
   pub stays_left : AreLeft store place left → AreLeft store (suc place) after
@@ -85,3 +85,10 @@ module _ (store : Store) (place : ℕ) (left after : Dealing) (hand : WorkerHand
     gauges = (let all = ap length deals.gauges in let count = has.gauges in omega (arith, all, count));
     sides = (let all = ap length deals.side in let count = has.sides in omega (arith, all, count));
   }
+
+  -- the seat and the recorder of a worker that the store has
+  pub new_seat : AreLeft store place left → IsLegal (first_of store.book) → place < length store.cells.items → IsNewSeat (known_by hand.seat)
+  new_seat is legal below = is_new_seat store place hand (is_hand is) legal (let workers = store.whole.cells in omega (arith, below, workers))
+
+  pub new_worker : AreLeft store place left → IsLegal (first_of store.book) → place < length store.cells.items → IsNewWorker store (suc place) (recorder_of hand place)
+  new_worker is legal below = is_new_worker store place hand (is_hand is) (new_seat is legal below)

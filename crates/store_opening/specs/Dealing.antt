@@ -60,6 +60,14 @@ pub record HasLeft (workers : ℕ) (left : Dealing) : Type 0 where
   pub gauges : length (into_iter_items left.gauges) ≡ workers
   pub sides : length (into_iter_items left.sides) ≡ workers
 
+-- these lists are left, the first seat of the book taken
+pub record IsQueued (seats : List LockedBook) (counts : List WorkerSeat) (gauges : List GaugeSeat)
+    (sides : List HalfKnown) (first : LockedBook) (left : Dealing) : Type 0 where
+  pub seats_left : seats ≡ first ∷ into_iter_items left.seats
+  pub counts_left : into_iter_items left.counts ≡ counts
+  pub gauges_left : into_iter_items left.gauges ≡ gauges
+  pub sides_left : into_iter_items left.sides ≡ sides
+
 -- the first of each list was dealt
 pub record Deals (hand : WorkerHand) (old new : Dealing) : Type 0 where
   pub seat : into_iter_items old.seats ≡ hand.seat ∷ into_iter_items new.seats

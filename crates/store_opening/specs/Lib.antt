@@ -1,3 +1,4 @@
 pub mod Cells
-pub mod Parts
+pub mod Made
 pub mod Dealing
+pub mod Opening

@@ -2,8 +2,9 @@
 ghost use Rattle.std.specs.Prelude.{◌≡◌, ◌+◌, ◌≤◌, IfOk};
 ghost use Rattle.stat_defs.specs.Configs.{IsConfig};
 ghost use Rattle.book_state.specs.declared.limits.TheConstants.{MAX_WORKERS};
-ghost use Rattle.stat_book.specs.Calls.{new_book, IsLegal};
-ghost use Rattle.locked_book.specs.Sharing.{first_of, seat_count, AreNewSeats};
+ghost use Rattle.stat_book.specs.Calls.{new_book};
+ghost use Rattle.locked_book.specs.Sharing.{first_of};
+ghost use Rattle.store_opening.specs.Made.{IsBookDeal};
 
 use locked_book::{LockedBook, SharedBook};
 use name_map::HashKey;
@@ -12,7 +13,14 @@ use stat_defs::{Config, NoMemory};
 use std::alloc::Global;
 use tag_rules::{Matcher, TagRules};
 
-// The book of a configuration behind its lock. Its seats are the store's, the workers' and the reader's, in this order.
+/// A book behind its lock, and its seats in the order of their numbers: the store's, the workers' and the reader's.
+#[derive(Drop)]
+pub(crate) struct BookDeal {
+    pub(crate) book: SharedBook,
+    pub(crate) seats: Vec<LockedBook>,
+}
+
+// The book of a configuration.
 pub(crate) fn make_book(
     alloc: Global,
     key: HashKey,
@@ -20,17 +28,16 @@ pub(crate) fn make_book(
     rules: TagRules,
     matcher: Matcher,
     workers: u32,
-) -> Result<(SharedBook, Vec<LockedBook>), NoMemory>
+) -> Result<BookDeal, NoMemory>
     requires config { IsConfig config.now }
     requires rules { rules ≡ config.now.tags }
     requires matcher { matcher ≡ config.now.matcher }
     requires workers { (1 ≤ workers) × (workers ≤ MAX_WORKERS) }
-    ensures book { IfOk result (λ r. first_of r.0 ≡ new_book config.now workers) }
-    ensures count { IfOk result (λ r. seat_count r.0 ≡ workers + 2) }
-    ensures legal { IfOk result (λ r. IsLegal (first_of r.0)) }
-    ensures seats { IfOk result (λ r. AreNewSeats r.0 (workers + 2) r.1.items) }
+    ensures book { IfOk result (λ deal. first_of deal.book ≡ new_book config.now workers) }
+    ensures seats { IfOk result (IsBookDeal workers) }
 {
     let book = Book::with_key(alloc, key, config, rules, matcher, workers)?;
     let _log = book.log();
-    SharedBook::new(alloc, book, workers + 2)
+    let (book, seats) = SharedBook::new(alloc, book, workers + 2)?;
+    Ok(BookDeal { book, seats })
 }

@@ -4,4 +4,8 @@
 mod book;
 mod cells;
 mod dealing;
+mod making;
+mod opening;
 mod words;
+
+pub use opening::{Opened, open_store};

@@ -1,16 +1,14 @@
 //! The words of a new store.
-ghost use Rattle.std.specs.Prelude.{◌≡◌, ◌≤◌, IfOk};
+ghost use Rattle.std.specs.Prelude.{◌≤◌, IfOk};
 ghost use Rattle.book_state.specs.declared.limits.TheConstants.{MAX_WORKERS};
-ghost use Rattle.metric_words.specs.CounterLedger.{bank_id, AreNew};
-ghost use Rattle.metric_words.specs.GaugeLedger.{gauges_id, AreNewGauges};
-ghost use Rattle.store_opening.specs.Parts.{AreWords};
+ghost use Rattle.store_opening.specs.Made.{AreWords};
 
 use book_state::MAX_METRICS;
 use metric_words::{CounterBank, GaugeBank, GaugeSeats, WordSeats};
 use stat_defs::NoMemory;
 use std::alloc::Global;
 
-/// A word for each metric of a book, as a counter and as a gauge, and the seats of all parties.
+/// Words for each metric of a book, as a counter and as a gauge, and the seats of all parties.
 #[derive(Drop)]
 pub(crate) struct Words {
     pub(crate) counters: CounterBank,
@@ -21,10 +19,8 @@ pub(crate) struct Words {
 
 // Words for so many workers.
 pub(crate) fn make_words(alloc: Global, workers: u32) -> Result<Words, NoMemory>
-    requires workers { (1 ≤ workers) × (workers ≤ MAX_WORKERS) }
-    ensures banks { IfOk result (λ words. AreWords workers words.counters words.gauges) }
-    ensures counts { IfOk result (λ words. AreNew (bank_id words.counters) workers words.counts) }
-    ensures levels { IfOk result (λ words. AreNewGauges (gauges_id words.gauges) workers words.levels) }
+    requires { (1 ≤ workers) × (workers ≤ MAX_WORKERS) }
+    ensures { IfOk result (AreWords workers) }
 {
     let size = MAX_METRICS as u32;
     let (counters, counts) = CounterBank::new(alloc, workers, size)?;
