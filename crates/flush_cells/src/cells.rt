@@ -3,7 +3,7 @@ ghost use Rattle.std.specs.Prelude.{◌≡◌, ◌⊎◌, ◌≤◌, [], All, le
 ghost use Rattle.merge_round.specs.Halves.{bins_by};
 ghost use Rattle.merge_round.specs.Rounds.{new_parents, after_round, worker_values, ArePartsOf};
 ghost use Rattle.turn_cell.specs.Tokens.{cell_id};
-ghost use Rattle.flush_cells.specs.Cells.{cell_of, merged_count, AreKept, IsNotHolding};
+ghost use Rattle.flush_cells.specs.Cells.{cell_of, merged_count, AreKept, IsNotHolding, IsRoundOf};
 ghost use Rattle.flush_cells.specs.Asks.{AsksEach};
 ghost use Rattle.flush_cells.specs.Passes.{PassesEach};
 ghost use Rattle.flush_cells.specs.Late.{pass_from};
@@ -18,12 +18,13 @@ use std::mem::replace;
 use turn_cell::TurnCell;
 
 /// The flusher's token of each worker's cell, in the order of workers from 1, and the parents that it merges their
-/// halves into. No more values were merged than were taken.
+/// halves into. No more values were merged than were taken, and the round has halves of these workers alone.
 #[derive(Drop)]
 pub struct FlushCells {
     pub(crate) tokens: Vec<FlushCell>,
     pub(crate) parents: Parents,
     ghost kept: { AreKept (merged_count parents) tokens.items },
+    ghost round: { IsRoundOf (length tokens.items) parents.round },
 }
 
 impl FlushCells {
@@ -91,6 +92,7 @@ impl FlushCells {
     pub fn into_parts(self) -> (Vec<FlushCell>, Parents)
         ensures parts { (result.0 ≡ self.tokens) × (result.1 ≡ self.parents) }
         ensures kept { AreKept (merged_count self.parents) self.tokens.items }
+        ensures round { IsRoundOf (length self.tokens.items) self.parents.round }
     {
         let FlushCells { tokens, parents } = self;
         (tokens, parents)
