@@ -1,3 +1,4 @@
 pub mod Reports
 pub mod Parties
 pub mod Composing
+pub mod NeverMade
