@@ -1,10 +1,9 @@
 -- A flusher keeps its accounts through each call.
-use Rattle.std.proofs.Common.{◌≡◌, ℕ, zero, suc, ◌+◌, ◌<◌, ◌⊎◌, Option, Some, None, List, [], ◌∷◌, ◌++◌, map, length, drop, false, refl, ap, sym, ◌∙◌, subst, arith, append-nil, All, inl, inr}
-use Rattle.std.specs.Prelude.{IfSome}
+use Rattle.std.proofs.Common.{◌≡◌, ℕ, ◌<◌, ◌⊎◌, Option, Some, None, Result, Ok, Err, List, [], ◌∷◌, ◌++◌, map, length, drop, false, refl, ap, sym, ◌∙◌, subst, arith, append-nil, All, inl, inr}
+use Rattle.std.specs.Prelude.{IfSome, OnOk, OnErr}
 use Rattle.std.specs.List.{AllByRecursion}
 use Rattle.std.specs.List.Sorted.{IsStrictlyIncreasing}
 use Rattle.std.proofs.lemmas.List.{map-append, length-map}
-use Rattle.atomic_table.specs.Seated.{TableId}
 use Rattle.std.proofs.Math.Seq.{drop-length}
 use Rattle.stat_defs.specs.Books.{BookHistory}
 use Rattle.stat_defs.specs.declared.history.Entry.{Entry}
@@ -14,7 +13,7 @@ use Rattle.stat_defs.specs.declared.reports.FlushRecord.{FlushRecord}
 use Rattle.seat_history.specs.declared.known.LogKnown.{LogKnown}
 use Rattle.seat_history.specs.History.{with_log, known_history}
 use Rattle.merge_round.specs.Halves.{bins_by}
-use Rattle.merge_round.specs.Rounds.{ParentsState, new_parents, after_round, worker_values, ArePartsOf}
+use Rattle.merge_round.specs.Rounds.{ParentsState, after_round, worker_values, ArePartsOf}
 use Rattle.metric_words.specs.declared.counter_view.CountKind.TheVariants as count
 use Rattle.metric_words.specs.Counters.{step_of, latches}
 use Rattle.metric_words.specs.CounterLedger.{CounterKnown, after_step}
@@ -31,7 +30,7 @@ use Rattle.flush_cells.specs.declared.tokens.FlushCell.{FlushCell}
 use Rattle.flush_cells.specs.Cells.{cell_of}
 use Rattle.flush_cells.specs.Asks.{AsksEach}
 use Rattle.flush_cells.specs.Passes.{PassesEach}
-use Rattle.flush_cells.specs.Taken.{HalfValues, round_of, HasNoToken}
+use Rattle.flush_cells.specs.Taken.{HasNoToken}
 use Rattle.flush_cells.proofs.InStep.{stay-in-step}
 use Rattle.ledger.specs.Flushes.{flushed}
 use Rattle.run_ledger.specs.Told.{FlushTold, halves_of}
@@ -43,10 +42,10 @@ use Rattle.admin_side.specs.Reader.{rules_by}
 use Rattle.admin_side.proofs.Listed.{listed-is}
 use Rattle.admin_side.proofs.Readings.{all-push, gauge_loads-taken}
 use Rattle.flusher.specs.Shown.{Flushed}
-use Rattle.flusher.specs.Flusher.{FlusherKnown, FlusherAccounts, Begun, RoundAccounts, IsNewToken, new_flusher, with_seat, begun_by, told_of, round_by, at_of, sweeps_of}
+use Rattle.flusher.specs.Flusher.{FlusherKnown, FlusherAccounts, Begun, Begins, RoundAccounts, IsNewToken, new_flusher, with_seat, begun_by, told_of, round_by, at_of, sweeps_of}
 use Rattle.flusher.proofs.Rising.{rises-more}
-use Rattle.flusher.proofs.Sweeping.{AllFlushed, still-flushed, found-further, swept-further, swept-made, round-begun}
-use Rattle.flusher.proofs.Rounds.{new-in-step, many-halves, round-parts, round-over}
+use Rattle.flusher.proofs.Sweeping.{still-flushed, found-further, swept-further, swept-found, swept-made, round-begun}
+use Rattle.flusher.proofs.Taking.{new-in-step, many-halves, round-parts, round-over}
 
 pub new-accounts : (of : StoreIds) (seat : LogKnown) (counters : CounterKnown) (gauges : GaugeKnown) (tokens : List FlushCell)
     → seat.made ≡ [] → (counters.own.steps ≡ []) × (counters.taken ≡ []) → (gauges.own.steps ≡ []) × (gauges.taken ≡ []) → All IsNewToken tokens → length tokens ≡ seat.workers
@@ -81,6 +80,11 @@ accounts-found k seat c none was = record {
   made : seat.made ≡ k.seat.made
   made = ap (λ (z : LogKnown). z.made) c.leaves ∙ (ap (λ (l : List Entry). k.seat.made ++ drop (length c.found.log) l) (ap (λ (b : BookHistory). b.log) c.makes)
       ∙ (ap (λ (l : List Entry). k.seat.made ++ l) (drop-length c.found.log) ∙ append-nil k.seat.made))
+
+-- the same, or nothing was done
+pub accounts-unbegun : (k : FlusherKnown) (seat : LogKnown) → (seat ≡ k.seat) ⊎ Calls IsAsFound k.seat seat → k.round ≡ None → FlusherAccounts k → FlusherAccounts (with_seat seat k)
+accounts-unbegun k seat (inl same) none was = subst (λ (z : LogKnown). FlusherAccounts (with_seat z k)) (sym same) was
+accounts-unbegun k seat (inr c) none was = accounts-found k seat c none was
 
 -- as many tokens of the same cells
 same-many : (olds news : List FlushCell) → map cell_of news ≡ map cell_of olds → length news ≡ length olds
@@ -122,6 +126,27 @@ accounts-begun k seat listing tokens c number none asks cells was =
           was.sweeps ∙ (ap (λ (o : Option Begun). map (λ (flush : FlushTold). flush.sweep) k.flushes ++ sweeps_of o) none
           ∙ append-nil (map (λ (flush : FlushTold). flush.sweep) k.flushes))
 
+-- what was done to begin it
+pub begins : (k : FlusherKnown) (seat : LogKnown) (listing : Listing) (tokens : List FlushCell) → Calls (SweepsListed listing) k.seat seat → k.seat.number ≡ 0 → AsksEach k.tokens tokens
+    → Begins k (record {
+      of = k.of;
+      seat = seat;
+      counters = k.counters;
+      gauges = k.gauges;
+      tokens = tokens;
+      parents = k.parents;
+      flushes = k.flushes;
+      round = Some (begun_by seat listing);
+    })
+begins k seat listing tokens c number asks = record {
+  begun = begun_by seat listing;
+  sweeps = c;
+  found = sym (swept-found listing k.seat seat c);
+  sweep = swept-made listing k.seat seat c number;
+  asks = asks;
+  rest = refl;
+}
+
 -- each cell was looked at once
 pub accounts-looked : (k : FlusherKnown) (parents : ParentsState) (tokens : List FlushCell) → PassesEach 1 k.parents k.tokens parents tokens → map cell_of tokens ≡ map cell_of k.tokens → FlusherAccounts k
     → FlusherAccounts (record {
@@ -149,6 +174,38 @@ accounts-looked k parents tokens passes cells was =
           let before = no-token worker k.tokens tokens many none in
           stay-in-step.others k.parents parents k.tokens tokens passes worker before ∙ was.others worker before;
     }
+
+-- the same, or nothing was done
+pub accounts-passed : (k : FlusherKnown) (parents : ParentsState) (tokens : List FlushCell) → ((parents ≡ k.parents) × (tokens ≡ k.tokens)) ⊎ PassesEach 1 k.parents k.tokens parents tokens
+    → map cell_of tokens ≡ map cell_of k.tokens → FlusherAccounts k
+    → FlusherAccounts (record {
+      of = k.of;
+      seat = k.seat;
+      counters = k.counters;
+      gauges = k.gauges;
+      tokens = tokens;
+      parents = parents;
+      flushes = k.flushes;
+      round = k.round;
+    })
+accounts-passed k parents tokens (inl same) cells was =
+    subst FlusherAccounts
+    (λ i. record {
+      of = k.of;
+      seat = k.seat;
+      counters = k.counters;
+      gauges = k.gauges;
+      tokens = sym same.1 i;
+      parents = sym same.0 i;
+      flushes = k.flushes;
+      round = k.round;
+    })
+    was
+accounts-passed k parents tokens (inr passes) cells was = accounts-looked k parents tokens passes cells was
+
+pub passed-or-not : {T E : Type 0} (r : Result T E) {P Q : Type 0} → OnOk r P → OnErr r (Q ⊎ P) → Q ⊎ P
+passed-or-not (Ok x) ok err = inr ok
+passed-or-not (Err e) ok err = err
 
 are-latches : (ds : List Delta) (k : CounterKnown) → Latches ds k.own.steps (after_latches ds k).own.steps
 are-latches [] k = refl

@@ -1,4 +1,5 @@
 pub mod Rising
 pub mod Sweeping
-pub mod Rounds
+pub mod Taking
 pub mod Accounts
+pub mod Views

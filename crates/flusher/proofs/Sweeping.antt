@@ -1,5 +1,5 @@
 -- What a seat that swept the book knows, and how the accounts of flushes go on with the log.
-use Rattle.std.proofs.Common.{◌≡◌, ℕ, ◌+◌, ◌<◌, List, [], ◌∷◌, ◌++◌, length, take, drop, refl, ap, sym, ◌∙◌, subst, arith, append_assoc, length-append, false}
+use Rattle.std.proofs.Common.{◌≡◌, ℕ, ◌<◌, List, [], ◌∷◌, ◌++◌, length, take, drop, refl, ap, sym, ◌∙◌, subst, arith, append_assoc, length-append, false}
 use Rattle.std.specs.List.{AllByRecursion}
 use Rattle.std.proofs.Math.Seq.{take-append_seam, drop-append_seam}
 use Rattle.stat_defs.specs.Books.{BookHistory}
@@ -19,7 +19,7 @@ use Rattle.run_ledger.specs.Accounts.{FlushAccounts}
 use Rattle.run_ledger.proofs.Grows.{run_grows}
 use Rattle.admin_side.specs.Reader.{rules_by}
 use Rattle.admin_side.proofs.Readings.{all-weaker, went-on, config-stays}
-use Rattle.flusher.specs.Flusher.{Begun, RoundAccounts, begun_by, sweep_of, at_of}
+use Rattle.flusher.specs.Flusher.{RoundAccounts, begun_by, sweep_of, at_of}
 
 -- the flushes account for the log that the seat knows
 abbrev pub AllFlushed : LogKnown → List FlushTold → Type 0

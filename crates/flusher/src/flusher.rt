@@ -16,22 +16,28 @@ use stat_defs::{Entry, FlushRecord};
 use std::collections::LinkedList;
 use std::marker::Model;
 
-// A flush, the log that its sweep found, the sweep's entry, and of each worker the values of each half of the round. No
-// value of this type is made.
-pub(crate) struct FlushNote {
-    pub(crate) shown: FlushRecord,
+// A round: the log that its sweep found, the sweep's entry, and of each worker, in order, the values of each half that
+// was merged. No value of this type is made.
+pub(crate) struct RoundNote {
     pub(crate) found: LinkedList<Entry>,
     pub(crate) sweep: Entry,
     pub(crate) halves: LinkedList<LinkedList<LinkedList<(u64, u64)>>>,
+}
+
+// A flush and its round. No value of this type is made.
+pub(crate) struct FlushNote {
+    pub(crate) shown: FlushRecord,
+    pub(crate) round: RoundNote,
 }
 
 /// A flusher of a store. Contracts see what its seats know, its tokens, what it merged, each of its flushes with the log
 /// that its sweep found, in order, and the round that is begun.
 #[derive(Drop)]
 pub struct Flusher {
-    parts: FlusherParts,
-    round: Option<Listing>,
-    flushes: GhostList<FlushNote>,
+    pub(crate) parts: FlusherParts,
+    /// The round that is begun.
+    pub(crate) round: Option<Listing>,
+    pub(crate) flushes: GhostList<FlushNote>,
 }
 
 impl Model for Flusher {

@@ -7,6 +7,7 @@
 
 mod flusher;
 mod parts;
+mod rounds;
 
 pub use flusher::Flusher;
 pub use parts::FlusherParts;

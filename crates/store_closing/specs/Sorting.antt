@@ -37,13 +37,10 @@ pub record Sorts (cells : List (TurnCell HalfState)) (ended : List Ended) (old n
   pub gauges : new.gauges.items ≡ old.gauges.items ++ map (λ e. e.gauges) ended
   pub ends : new.ends.items ≡ old.ends.items ++ ends_of cells ended
 
--- nothing yet, and room for what so many workers left, and for the seats of the store and of the reader
+-- nothing yet, and room for what so many workers left and for two seats more
 pub record IsEmptyFor (workers : ℕ) (s : Sorted) : Type 0 where
   pub none : (s.seats.items ≡ []) × (s.counts.items ≡ []) × (s.gauges.items ≡ []) × (s.ends.items ≡ [])
-  pub seats : workers + 2 ≤ vec_capacity s.seats
-  pub counts : workers ≤ vec_capacity s.counts
-  pub gauges : workers + 1 ≤ vec_capacity s.gauges
-  pub ends : workers ≤ vec_capacity s.ends
+  pub room : HasRoomFor (workers + 2) s
 
 -- All is sorted: the store's seat of the book stands before those of the workers, and the reader's seats behind theirs.
 pub record AreSorted (store reader : LockedBook) (reader_gauges : GaugeSeat) (cells : List (TurnCell HalfState))

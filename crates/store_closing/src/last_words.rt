@@ -11,7 +11,7 @@ ghost use Rattle.ledger.specs.Flushes.{id_of_delta, id_of_reading};
 ghost use Rattle.run_ledger.specs.Accounts.{LeftBy};
 ghost use Rattle.store_closing.specs.Pieces.{EndsCounters};
 
-use flush_words::{CounterEnds, close_counters, load_last, take_gauges};
+use flush_words::{close_counters, load_last, take_gauges};
 use metric_words::{CounterBank, GaugeBank, GaugeSeat, WordSeats};
 use stat_defs::{Delta, MetricId, NoMemory, Reading};
 use std::alloc::Global;
@@ -32,8 +32,8 @@ pub(crate) fn last_deltas(
     ensures ends { IfOk result (λ deltas. EndsCounters (map worker_part seats.workers.items)
         (flush_known seats.flusher) (read_known seats.reader) deltas.items) }
 {
-    let CounterEnds { deltas, words: _ } = close_counters(alloc, bank, seats, ids)?;
-    Ok(deltas)
+    let ends = close_counters(alloc, bank, seats, ids)?;
+    Ok(ends.deltas)
 }
 
 /// Takes all other seats in, and loads each of these gauges once, in order.

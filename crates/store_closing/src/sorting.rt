@@ -13,16 +13,17 @@ use std::alloc::Global;
 use turn_cell::TurnCell;
 
 impl Sorted {
-    // No seats, with room for those of so many workers, of the store and of the reader.
+    // No seats, with room for those of so many workers, and for those of the store and of the reader.
     fn with_room(alloc: Global, workers: usize) -> Result<Sorted, NoMemory>
         requires { workers + 2 < 2 ^ 64 }
         ensures { IfOk result (IsEmptyFor workers) }
     {
+        let room = workers + 2;
         Ok(Sorted {
-            seats: Vec::with_capacity(alloc, workers + 2)?,
-            counts: Vec::with_capacity(alloc, workers)?,
-            gauges: Vec::with_capacity(alloc, workers + 1)?,
-            ends: Vec::with_capacity(alloc, workers)?,
+            seats: Vec::with_capacity(alloc, room)?,
+            counts: Vec::with_capacity(alloc, room)?,
+            gauges: Vec::with_capacity(alloc, room)?,
+            ends: Vec::with_capacity(alloc, room)?,
         })
     }
 

@@ -1,6 +1,5 @@
 -- What a flush took of each worker are the halves of its round.
-use Rattle.std.proofs.Common.{◌≡◌, ℕ, zero, suc, ◌+◌, ◌<◌, ◌≤◌, ◌⊎◌, List, [], ◌∷◌, ◌++◌, map, length, get_or, refl, ap, sym, ◌∙◌, subst, arith, inl, inr, All}
-use Rattle.std.specs.List.{range_with_len}
+use Rattle.std.proofs.Common.{◌≡◌, ℕ, zero, suc, ◌<◌, ◌≤◌, ◌⊎◌, List, [], ◌∷◌, ◌++◌, map, length, get_or, refl, ap, sym, ◌∙◌, subst, arith, inl, inr, All}
 use Rattle.std.proofs.lemmas.Bool.{cases_lt}
 use Rattle.std.proofs.lemmas.List.{get_or_past}
 use Rattle.std.proofs.lemmas.List.FromFn.{get_or-map-range_with_len, length-map-range_with_len}
@@ -10,7 +9,6 @@ use Rattle.stat_defs.specs.declared.reports.Part.{Part}
 use Rattle.merge_round.specs.Halves.{bins_by}
 use Rattle.merge_round.specs.Rounds.{ParentsState, new_parents, after_round, worker_values, ArePartsOf}
 use Rattle.ledger.specs.Segments.{segment_of, bins_by_worker}
-use Rattle.turn_cell.specs.Tokens.{idle_known}
 use Rattle.flush_cells.specs.declared.tokens.FlushCell.{FlushCell}
 use Rattle.flush_cells.specs.declared.tokens.FlushCell.TheVariants.{Idle, Waiting, Holding}
 use Rattle.flush_cells.specs.Taken.{HalfValues, values_of, round_of, EachInStep, HasNoToken}
