@@ -209,13 +209,13 @@ module _ (store : Store) (ended : List Ended) (flusher : FlusherKnown) (reader :
     below_last : AllByRecursion (λ f. shown_at f < shown.at) flusher.flushes
     below_last =
         all_as (FlushAccounts R W flusher.seat.known false) (λ f. shown_at f < shown.at) flusher.flushes (λ f is.
-            let place = is.at in
-            let whole = ap (λ (l : List Entry). length l) is.whole in
-            let parts = length-append f.found (f.sweep ∷ is.behind) in
-            let known = ap (λ (l : List Entry). length l) by_flusher.known.1 in
-            let more = length-append flusher.seat.known by_flusher.known.0 in
-            let here = at ∙ sweeps.lists.at in
-            omega (arith, place, whole, parts, known, more, here)) flushes_known
+        let place = is.at in
+        let whole = ap (λ (l : List Entry). length l) is.whole in
+        let parts = length-append f.found (f.sweep ∷ is.behind) in
+        let known = ap (λ (l : List Entry). length l) by_flusher.known.1 in
+        let more = length-append flusher.seat.known by_flusher.known.0 in
+        let here = at ∙ sweeps.lists.at in
+        omega (arith, place, whole, parts, known, more, here)) flushes_known
 
     flush_places : map (λ (f : FlushRecord). f.at) (map (λ (f : FlushTold). f.shown) (all_flushes told)) ≡ map shown_at flusher.flushes ++ shown.at ∷ []
     flush_places = map-map (λ (f : FlushRecord). f.at) (λ (f : FlushTold). f.shown) (all_flushes told) ∙ map-append shown_at flusher.flushes (flush ∷ [])
@@ -313,16 +313,16 @@ module _ (store : Store) (ended : List Ended) (flusher : FlusherKnown) (reader :
     emptied =
         all_as (λ id. IsLatched counts told.flusher id × (id.0 < MAX_METRICS)) (IsEmptied told) (ids_made Counter (replay R W log))
         (λ id both.
-            let is = at_end id.0 both.1 in
-            record {
-              value = is.value;
-              end = record {
-                firsts = is.end.firsts;
-                seconds = is.end.seconds;
-                latched = (let all = both.0 in let sum = is.end.seconds in omega (arith, all, sum));
-                loads = is.end.loads;
-              };
-            })
+        let is = at_end id.0 both.1 in
+        record {
+          value = is.value;
+          end = record {
+            firsts = is.end.firsts;
+            seconds = is.end.seconds;
+            latched = (let all = both.0 in let sum = is.end.seconds in omega (arith, all, sum));
+            loads = is.end.loads;
+          };
+        })
         (all_both (IsLatched counts told.flusher) (λ id. id.0 < MAX_METRICS) (ids_made Counter (replay R W log)) all_latched
         (subst (λ (s : State). AllByRecursion (λ (id : MetricId). id.0 < MAX_METRICS) (ids_made Counter s)) last_state within))
 
