@@ -8,7 +8,7 @@ use Rattle.seat_history.specs.declared.known.LogKnown.{LogKnown}
 use Rattle.turn_cell.specs.Tokens.{cell_id}
 use Rattle.metric_words.specs.declared.counter_seats.WorkerSeat.{WorkerSeat}
 use Rattle.metric_words.specs.declared.gauge_seats.GaugeSeat.{GaugeSeat}
-use Rattle.metric_words.specs.CounterLedger.{CounterKnown, read_known}
+use Rattle.metric_words.specs.CounterLedger.{CounterKnown, flush_known, read_known}
 use Rattle.metric_words.specs.GaugeLedger.{GaugeKnown, gauge_known}
 use Rattle.stat_book.specs.Calls.{new_book}
 use Rattle.book_lock.specs.Seats.{seat_lock}
@@ -63,6 +63,12 @@ module _ (made : Made) (is : IsMade made) (first : LockedBook) (left : Dealing)
   token_for_each =
       let cells = ap length is.cells.same_cells in let a = length-map made.tokens.items cell_of in let b = length-map made.store.cells.items cell_id in
       let all = made.store.whole.cells in let workers = ap (λ (k : LogKnown). k.workers) first_seat.new in omega (arith, cells, a, b, all, workers)
+
+  pub banks_sized : ((flush_known made.counts.flusher).own.workers ≡ length made.tokens.items) × ((gauge_known made.levels.flusher).own.workers ≡ length made.tokens.items)
+  banks_sized =
+      let cells = ap length is.cells.same_cells in let a = length-map made.tokens.items cell_of in let b = length-map made.store.cells.items cell_id in
+      let counters = ap (λ (c : CounterKnown). c.own.workers) is.counts.flusher in let gauges = ap (λ (g : GaugeKnown). g.own.workers) is.levels.flusher in
+      (omega (arith, cells, a, b, counters), omega (arith, cells, a, b, gauges))
 
   pub is_new_flusher : (k : FlusherKnown) → k ≡ flusher_of first made.counts.flusher made.levels.flusher made.tokens.items → IsNewFlusher made.store k
   is_new_flusher k made_so = subst (λ (f : FlusherKnown). IsNewFlusher made.store f) (sym made_so) (record {

@@ -71,6 +71,8 @@ fn new_flusher(
     requires tokens { All IsNewToken tokens.items }
     requires few { length tokens.items ≤ MAX_CELLS }
     requires workers { length tokens.items ≡ (known_by seat).workers }
+    requires sized { ((flush_known counters).own.workers ≡ length tokens.items)
+        × ((gauge_known gauges).own.workers ≡ length tokens.items) }
     ensures { result ≡ flusher_of seat counters gauges tokens.items }
 {
     Flusher::new(seat, counters, gauges, FlushCells::new(alloc, tokens))

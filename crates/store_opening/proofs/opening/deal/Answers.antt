@@ -1,6 +1,6 @@
 use Rattle.std.proofs.Common.{◌∙◌}
 use Rattle.std.specs.Vec.Iter.{into_iter_items}
-use Rattle.store_opening.proofs.Dealt.{has_seats, all_left, has_left, nothing_made, token_for_each, is_new_flusher, is_new_reader}
+use Rattle.store_opening.proofs.Dealt.{has_seats, all_left, has_left, nothing_made, token_for_each, banks_sized, is_new_flusher, is_new_reader}
 use Rattle.store_opening.proofs.opening.deal.Goals as goal
 
 pub queued-first-requires : goal.queued-first-requires
@@ -16,6 +16,9 @@ new_flusher-requires-clause-seat c = let taken = c.queued-first in nothing_made 
 
 pub new_flusher-requires-clause-workers : goal.new_flusher-requires-clause-workers
 new_flusher-requires-clause-workers c = let taken = c.queued-first in token_for_each c.args.made c.requires.made taken.result.0 taken.result.1 taken.ensures
+
+pub new_flusher-requires-clause-sized : goal.new_flusher-requires-clause-sized
+new_flusher-requires-clause-sized c = let taken = c.queued-first in banks_sized c.args.made c.requires.made taken.result.0 taken.result.1 taken.ensures
 
 pub returns-clause-parties : goal.returns-clause-parties
 returns-clause-parties c =
