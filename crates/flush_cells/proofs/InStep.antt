@@ -1,5 +1,5 @@
 -- Requests, a pass and a new round leave each worker in step.
-use Rattle.std.proofs.Common.{◌≡◌, ◌+◌, ℕ, suc, ◌<◌, ◌≤◌, length, inl, inr, ◌==◌, Bool, true, false, List, [], ◌∷◌, ◌++◌, map, filter, cond, refl, ap, sym, ◌∙◌, subst, arith, append-nil, append_assoc}
+use Rattle.std.proofs.Common.{◌≡◌, ℕ, suc, ◌<◌, ◌==◌, Bool, true, false, List, [], ◌∷◌, ◌++◌, map, filter, cond, refl, ap, sym, ◌∙◌, subst, arith, append-nil, append_assoc}
 use Rattle.std.specs.List.{flat_map}
 use Rattle.std.proofs.lemmas.Bool.Decides.{Decides-eqb}
 use Rattle.std.proofs.lemmas.List.{map-append}
@@ -12,7 +12,7 @@ use Rattle.flush_cells.specs.declared.tokens.FlushCell.TheVariants.{Idle, Waitin
 use Rattle.flush_cells.specs.Cells.{cell_known}
 use Rattle.flush_cells.specs.Asks.{Asks, AsksEach}
 use Rattle.flush_cells.specs.Passes.{Merges, Passes, PassesEach}
-use Rattle.flush_cells.specs.Taken.{HalfValues, values_of, round_of, held_in, InStep, EachInStep, HasNoToken, StayInStep}
+use Rattle.flush_cells.specs.Taken.{HalfValues, values_of, round_of, held_in, InStep, EachInStep, StayInStep}
 
 abbrev pub Merged : Type 0
 Merged = ℕ × HalfState
@@ -121,22 +121,6 @@ all_pass first earlier p q (o ∷ olds) (n ∷ news) each all = (
 all_pass first earlier p q [] (n ∷ news) each all = absurd each
 all_pass first earlier p q (o ∷ olds) [] each all = absurd each
 
--- a worker behind those that are looked at
-after_stay : (worker first : ℕ) (p : ParentsState) (olds : List FlushCell) (q : ParentsState) (news : List FlushCell) → first + length olds ≤ worker → PassesEach first p olds q news
-    → round_of worker q.round ≡ round_of worker p.round
-after_stay worker first p [] q [] less each = ap (λ (z : ParentsState). round_of worker z.round) each
-after_stay worker first p (o ∷ olds) q (n ∷ news) less each =
-    after_stay worker (suc first) each.0 olds q news (omega (arith, less)) each.2 ∙ pass_others first p o each.0 n each.1 worker (not_same first worker (omega (arith, less)))
-after_stay worker first p [] q (n ∷ news) less each = absurd each
-after_stay worker first p (o ∷ olds) q [] less each = absurd each
-
-other_rounds : (p q : ParentsState) (olds news : List FlushCell) → PassesEach 1 p olds q news → (worker : ℕ) → HasNoToken worker olds → round_of worker q.round ≡ round_of worker p.round
-other_rounds p q olds news each worker none =
-    elim none as (λ _. round_of worker q.round ≡ round_of worker p.round) [
-      inl zero ↦ before_stay worker 1 p olds q news (omega (arith, zero)) each
-      | inr behind ↦ after_stay worker 1 p olds q news (omega (arith, behind)) each
-    ]
-
 ask_stays : (worker : ℕ) (earlier : HalfValues) (p : ParentsState) (old new : FlushCell) → Asks old new → InStep worker earlier p old → InStep worker earlier p new
 ask_stays worker earlier p (Idle f) (Waiting w) asks is = ap (λ (z : TurnKnown HalfState). map values_of z.halves) asks ∙ is
 ask_stays worker earlier p (Idle f) (Idle i) asks is = ap (λ (z : TurnKnown HalfState). map values_of z.halves) asks ∙ is
@@ -169,7 +153,6 @@ pub stay-in-step : StayInStep
 stay-in-step = record {
   asks = λ earlier parents olds news each all. all_asks 1 earlier parents olds news each all;
   pass = λ earlier old new olds news each all. all_pass 1 earlier old new olds news each all;
-  others = λ old new olds news each worker none. other_rounds old new olds news each worker none;
   round = λ earlier parents cells all. new_round 1 earlier parents cells all;
   values = values_are;
 }

@@ -1,6 +1,8 @@
 -- The round has halves of the workers of the cells alone.
-use Rattle.std.proofs.Common.{◌≡◌, ◌⊎◌, ℕ, suc, ◌+◌, ◌≤◌, List, [], ◌∷◌, ◌++◌, length, map, inl, inr, Result, Ok, Err, IfOk, OnErr, ap, sym, ◌∙◌, subst, arith}
+use Rattle.std.proofs.Common.{◌≡◌, ◌⊎◌, ◌<◌, ◌==◌, Bool, true, false, cond, filter, refl, ℕ, suc, ◌+◌, ◌≤◌, List, [], ◌∷◌, length, map, inl, inr, Result, Ok, Err, IfOk, OnErr, ap, sym, ◌∙◌, subst, arith}
+use Rattle.std.proofs.lemmas.Bool.Decides.{Decides-eqb}
 use Rattle.std.proofs.lemmas.List.{length-map}
+use Rattle.std.proofs.lemmas.List.Elements.{All-head, All-tail}
 use Rattle.stat_defs.specs.declared.memory.NoMemory.{NoMemory}
 use Rattle.merge_round.specs.Halves.{HalfState}
 use Rattle.merge_round.specs.Rounds.{ParentsState, with_half}
@@ -11,6 +13,7 @@ use Rattle.flush_cells.specs.declared.tokens.FlushCell.TheVariants.{Idle, Waitin
 use Rattle.flush_cells.specs.declared.passing.Pass.{Pass}
 use Rattle.flush_cells.specs.Cells.{cell_of, IsRoundOf}
 use Rattle.flush_cells.specs.Passes.{Merges, Passes, PassesEach}
+use Rattle.flush_cells.specs.Taken.{round_of}
 use Rattle.flush_cells.proofs.ListLemmas.{all_more}
 
 -- one half more of one of the workers
@@ -65,3 +68,16 @@ pub any_round : (p q : ParentsState) (olds news : List FlushCell) (answer : Resu
     → IsRoundOf (length olds) p.round → IsRoundOf (length news) q.round
 any_round p q olds news (Ok pass) same ok err all = passed_round p q olds news same ok all
 any_round p q olds news (Err none) same ok err all = short_round p q olds news same err all
+
+-- there is none of another worker
+pub none-of_other : (workers worker : ℕ) (round : List (ℕ × HalfState)) → IsRoundOf workers round → (worker ≡ 0) ⊎ (workers < worker) → round_of worker round ≡ []
+none-of_other workers worker [] all other = refl
+none-of_other workers worker (h ∷ round) all other =
+    let here = All-head (λ (x : ℕ × HalfState). (1 ≤ x.0) × (x.0 ≤ workers)) h round all in
+    let rest = All-tail (λ (x : ℕ × HalfState). (1 ≤ x.0) × (x.0 ≤ workers)) h round all in
+    by_case here (none-of_other workers worker round rest other) (h.0 == worker) refl where
+      by_case : (1 ≤ h.0) × (h.0 ≤ workers) → round_of worker round ≡ [] → (t : Bool) → (h.0 == worker) ≡ t
+          → map (λ (x : ℕ × HalfState). x.1.values) (cond t (h ∷ filter (λ x. x.0 == worker) round) (filter (λ x. x.0 == worker) round)) ≡ []
+      by_case here none true same =
+          absurd (let is = (Decides-eqb h.0 worker).0 same in elim other as (λ _. ⊥) [ inl zero ↦ omega (arith, is, zero, here) | inr past ↦ omega (arith, is, past, here) ])
+      by_case here none false apart = none

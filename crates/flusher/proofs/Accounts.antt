@@ -27,10 +27,9 @@ use Rattle.locked_book.specs.Lists.{SweepsListed}
 use Rattle.flush_words.specs.Words.{after_latches, after_gauge_loads}
 use Rattle.flush_words.proofs.Appending.{loads-keep, latches-keep, loads-write-none}
 use Rattle.flush_cells.specs.declared.tokens.FlushCell.{FlushCell}
-use Rattle.flush_cells.specs.Cells.{cell_of}
+use Rattle.flush_cells.specs.Cells.{cell_of, IsRoundOf}
 use Rattle.flush_cells.specs.Asks.{AsksEach}
 use Rattle.flush_cells.specs.Passes.{PassesEach}
-use Rattle.flush_cells.specs.Taken.{HasNoToken}
 use Rattle.flush_cells.proofs.InStep.{stay-in-step}
 use Rattle.ledger.specs.Flushes.{flushed}
 use Rattle.run_ledger.specs.Told.{FlushTold, halves_of}
@@ -61,7 +60,6 @@ new-accounts of seat counters gauges tokens made counts words new many sized = r
   round = tt;
   halves = new-in-step 1 tokens new;
   workers = many;
-  others = λ worker none. refl;
 }
 
 -- the log was found, and nothing else was done
@@ -77,7 +75,6 @@ accounts-found k seat c none was = record {
   round = subst (λ (o : Option Begun). IfSome o (RoundAccounts seat k.flushes)) (sym none) tt;
   halves = was.halves;
   workers = was.workers ∙ sym (ap (λ (z : LogKnown). z.workers) c.leaves);
-  others = was.others;
 } where
   made : seat.made ≡ k.seat.made
   made = ap (λ (z : LogKnown). z.made) c.leaves ∙ (ap (λ (l : List Entry). k.seat.made ++ drop (length c.found.log) l) (ap (λ (b : BookHistory). b.log) c.makes)
@@ -91,10 +88,6 @@ accounts-unbegun k seat (inr c) none was = accounts-found k seat c none was
 -- as many tokens of the same cells
 same-many : (olds news : List FlushCell) → map cell_of news ≡ map cell_of olds → length news ≡ length olds
 same-many olds news cells = sym (length-map news cell_of) ∙ (ap length cells ∙ length-map olds cell_of)
-
-no-token : (worker : ℕ) (olds news : List FlushCell) → length news ≡ length olds → HasNoToken worker news → HasNoToken worker olds
-no-token worker olds news many (inl none) = inl none
-no-token worker olds news many (inr behind) = inr (omega (arith, many, behind))
 
 -- a round was begun
 pub accounts-begun : (k : FlusherKnown) (seat : LogKnown) (listing : Listing) (tokens : List FlushCell) → Calls (SweepsListed listing) k.seat seat → k.seat.number ≡ 0 → k.round ≡ None
@@ -122,7 +115,6 @@ accounts-begun k seat listing tokens c number none asks cells was =
       round = round-begun listing k.seat seat c k.flushes number was.each;
       halves = stay-in-step.asks (λ worker. halves_of worker k.flushes) k.parents k.tokens tokens asks was.halves;
       workers = many ∙ (was.workers ∙ sym further.workers);
-      others = λ worker none. was.others worker (no-token worker k.tokens tokens many none);
     } where
       swept-before : k.seat.made ≡ map (λ (flush : FlushTold). flush.sweep) k.flushes
       swept-before =
@@ -174,9 +166,6 @@ accounts-looked k parents tokens passes cells was =
       round = was.round;
       halves = stay-in-step.pass (λ worker. halves_of worker k.flushes) k.parents parents k.tokens tokens passes was.halves;
       workers = many ∙ was.workers;
-      others = λ worker none.
-          let before = no-token worker k.tokens tokens many none in
-          stay-in-step.others k.parents parents k.tokens tokens passes worker before ∙ was.others worker before;
     }
 
 -- the same, or nothing was done
@@ -215,7 +204,7 @@ pub are-latches : (ds : List Delta) (k : CounterKnown) → Latches ds k.own.step
 are-latches [] k = refl
 are-latches (d ∷ ds) k = are-latches ds (after_step (step_of count.Latch d.id.0 0 d.n) k)
 
-module _ (k : FlusherKnown) (begun : Begun) (shown : FlushRecord) (was : FlusherAccounts k) (is : k.round ≡ Some begun) (shows : Flushed begun.listing shown)
+module _ (k : FlusherKnown) (begun : Begun) (shown : FlushRecord) (was : FlusherAccounts k) (alone : IsRoundOf (length k.tokens) k.parents.round) (is : k.round ≡ Some begun) (shows : Flushed begun.listing shown)
     (parts : ArePartsOf (λ worker. bins_by (worker_values worker k.parents.round)) shown.parts) where
   round : RoundAccounts k.seat k.flushes begun
   round = subst (λ (o : Option Begun). IfSome o (RoundAccounts k.seat k.flushes)) is was.round
@@ -231,8 +220,8 @@ module _ (k : FlusherKnown) (begun : Begun) (shown : FlushRecord) (was : Flusher
     sweep = round.sweep;
     counters = shows.counters ∙ (round.lists.counters ∙ listed-is Counter (state_of (with_log begun.found (known_history k.seat))));
     gauges = shows.gauges ∙ (round.lists.gauges ∙ listed-is Gauge (state_of (with_log begun.found (known_history k.seat))));
-    each = many-halves k.tokens k.parents was.others ∙ was.workers;
-    parts = round-parts k.tokens k.parents was.others told refl shown.parts parts;
+    each = many-halves k.tokens k.parents alone ∙ was.workers;
+    parts = round-parts k.tokens k.parents alone told refl shown.parts parts;
   }
 
   places-rise : IsStrictlyIncreasing (map at_of (k.flushes ++ told ∷ []))
@@ -264,7 +253,6 @@ module _ (k : FlusherKnown) (begun : Begun) (shown : FlushRecord) (was : Flusher
         ∙ (ap (λ (o : Option Begun). map (λ (flush : FlushTold). flush.sweep) k.flushes ++ sweeps_of o) is
         ∙ (sym (map-append (λ (flush : FlushTold). flush.sweep) k.flushes (told ∷ [])) ∙ sym (append-nil (map (λ (flush : FlushTold). flush.sweep) (k.flushes ++ told ∷ [])))));
     round = tt;
-    halves = round-over k.tokens k.parents was.others told refl k.flushes was.halves;
+    halves = round-over k.tokens k.parents alone told refl k.flushes was.halves;
     workers = was.workers;
-    others = λ worker none. refl;
   }

@@ -11,8 +11,10 @@ use Rattle.merge_round.specs.Rounds.{ParentsState, new_parents, after_round, wor
 use Rattle.ledger.specs.Segments.{segment_of, bins_by_worker}
 use Rattle.flush_cells.specs.declared.tokens.FlushCell.{FlushCell}
 use Rattle.flush_cells.specs.declared.tokens.FlushCell.TheVariants.{Idle, Waiting, Holding}
-use Rattle.flush_cells.specs.Taken.{HalfValues, values_of, round_of, EachInStep, HasNoToken}
+use Rattle.flush_cells.specs.Taken.{HalfValues, values_of, round_of, EachInStep}
+use Rattle.flush_cells.specs.Cells.{IsRoundOf}
 use Rattle.flush_cells.proofs.InStep.{stay-in-step}
+use Rattle.flush_cells.proofs.RoundLemmas.{none-of_other}
 use Rattle.run_ledger.specs.Told.{FlushTold, values_in, taken_by, halves_at, halves_of}
 use Rattle.run_ledger.proofs.Halves.{of_halves}
 use Rattle.run_ledger.proofs.Grows.{run_grows}
@@ -28,7 +30,7 @@ new-in-step first (Idle f ∷ cells) new = (
 new-in-step first (Waiting f ∷ cells) new = absurd (All-head IsNewToken (Waiting f) cells new)
 new-in-step first (Holding half f ∷ cells) new = absurd (All-head IsNewToken (Holding half f) cells new)
 
-module _ (cells : List FlushCell) (parents : ParentsState) (others : (worker : ℕ) → HasNoToken worker cells → round_of worker parents.round ≡ []) where
+module _ (cells : List FlushCell) (parents : ParentsState) (alone : IsRoundOf (length cells) parents.round) where
   abbrev halves : List HalfValues
   halves = round_by (length cells) parents
 
@@ -37,10 +39,10 @@ module _ (cells : List FlushCell) (parents : ParentsState) (others : (worker : �
       get_or-map-range_with_len (λ (worker : ℕ). round_of worker parents.round) 1 (length cells) place (suc place) [] within (omega arith)
   at-place place (inr past) =
       get_or_past halves place [] (let long = length-map-range_with_len (λ (worker : ℕ). round_of worker parents.round) 1 (length cells) in omega (arith, long, past))
-      ∙ sym (others (suc place) (inr (omega (arith, past))))
+      ∙ sym (none-of_other (length cells) (suc place) parents.round alone (inr (omega (arith, past))))
 
   pub halves-are : (worker : ℕ) → halves_at halves worker ≡ round_of worker parents.round
-  halves-are zero = sym (others zero (inl refl))
+  halves-are zero = sym (none-of_other (length cells) zero parents.round alone (inl refl))
   halves-are (suc place) = at-place place (cases_lt place (length cells))
 
   pub many-halves : length halves ≡ length cells

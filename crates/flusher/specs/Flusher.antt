@@ -29,7 +29,7 @@ use Rattle.flush_cells.specs.declared.tokens.FlushCell.TheVariants.{Idle}
 use Rattle.flush_cells.specs.Cells.{cell_of}
 use Rattle.flush_cells.specs.Asks.{AsksEach}
 use Rattle.flush_cells.specs.Passes.{PassesEach}
-use Rattle.flush_cells.specs.Taken.{HalfValues, round_of, EachInStep, HasNoToken}
+use Rattle.flush_cells.specs.Taken.{HalfValues, round_of, EachInStep}
 use Rattle.ledger.specs.Flushes.{flushed}
 use Rattle.run_ledger.specs.Told.{FlushTold, halves_of}
 use Rattle.run_ledger.specs.Accounts.{FlushAccounts}
@@ -201,8 +201,7 @@ pub record FlusherAccounts (k : FlusherKnown) : Type 0 where
   pub rise : IsStrictlyIncreasing (map at_of k.flushes)
   pub sweeps : k.seat.made ≡ map (λ flush. flush.sweep) k.flushes ++ sweeps_of k.round
   pub round : IfSome k.round (RoundAccounts k.seat k.flushes)
-  -- the halves that it took of a worker are those of its flushes, those of this round, and the one that it holds; it
-  -- has a token of each worker, and no half of anyone else
+  -- the halves that it took of a worker are those of its flushes, those of this round, and the one that it holds; and
+  -- it has a token of each worker
   pub halves : EachInStep 1 (λ worker. halves_of worker k.flushes) k.parents k.tokens
   pub workers : length k.tokens ≡ k.seat.workers
-  pub others : (worker : ℕ) → HasNoToken worker k.tokens → round_of worker k.parents.round ≡ []

@@ -14,7 +14,7 @@ invariant_of-self-2 c =
     let told = note-told f.flushes.items c.with_flush-self-inside.result.items c.in_ok-shown.shown c.round_of-round.result.items f.parts c.in-Some.listing c.with_flush-self-inside.ensures c.round_of-round.ensures in
     subst FlusherAccounts
     (flushed-words f.parts c.flush.new.self c.in_ok-shown.shown _ (map told_by c.with_flush-self-inside.result.items) (step.rest.0, step.rest.1) step.counters step.gauges step.round told)
-    (accounts-flushed (shown f) begun c.in_ok-shown.shown c.self.invariant (ap (option_map (begun_by (known_by f.parts.seat))) c.in-Some.is) step.shows step.parts)
+    (accounts-flushed (shown f) begun c.in_ok-shown.shown c.self.invariant f.parts.cells.round (ap (option_map (begun_by (known_by f.parts.seat))) c.in-Some.is) step.shows step.parts)
 
 pub returns-clause-own : goal.returns-clause-own
 returns-clause-own c =
