@@ -1,0 +1,105 @@
+#!/usr/bin/env python3
+"""Runs the program over random files and looks at all that it writes.
+
+usage: soak.py PROGRAM [RUNS [SEED]]       200 runs where none are said; each of 8 files with 20 flushes and 20 readings
+
+Each run has a bootstrap and files of its own, a format and, every other time, the symbols. Each is replayed too. What the
+events come to is told by `model.py`, which knows no threads; `checks.py` compares. A line says of each fault what was
+wrong, and where its files are; the last line is what was done. The status is the number of runs with a fault, at most
+100.
+"""
+import collections
+import json
+import os
+import random
+import subprocess
+import sys
+import tempfile
+import time
+
+from checks import Output, check
+from model import Model
+from scripts import Script, boot_of
+
+FILES, FLUSHES, READS = 8, 20, 20
+LONGEST = 120  # seconds that a call may take
+FORMATS = ["statsd", "prom", "admin"]
+
+
+def write(place, name, text):
+    with open(os.path.join(place, name), "w", encoding="ascii") as file:
+        file.write(text)
+
+
+def prepare(rng, place):
+    """Writes a bootstrap and its files, and gives what they come to."""
+    goes, quarrels = rng.random() < 0.6, rng.random() < 0.4
+    scripts = [Script(rng, worker, goes, quarrels).lines(rng.randrange(200, 3000)) for worker in range(1, FILES + 1)]
+    boot = boot_of(rng, FLUSHES, READS, sum(map(len, scripts)))
+    write(place, "boot", json.dumps(boot))
+    for worker, script in enumerate(scripts, 1):
+        write(place, "f%d" % worker, "".join(line + "\n" for line in script))
+    return Model(boot, scripts)
+
+
+def call(program, place, words):
+    names = ["boot"] + ["f%d" % worker for worker in range(1, FILES + 1)]
+    try:
+        done = subprocess.run([program] + words + names, cwd=place, capture_output=True, timeout=LONGEST)
+    except subprocess.TimeoutExpired:
+        return -1, "", "not done after %d s" % LONGEST
+    return done.returncode, done.stdout.decode("ascii", "replace"), done.stderr.decode("ascii", "replace")
+
+
+def faults_of(program, place, model, command, fmt, symbols, tally):
+    """What is wrong with one call."""
+    words = [command] + (["--symbols"] if symbols else []) + ["--format", fmt]
+    status, out, err = call(program, place, words)
+    wrong = ["status %d, %r" % (status, err)] if status or err else []
+    runs = command == "run"
+    asked = {"format": fmt, "symbols": symbols, "prefix": "soak",
+             "flushes": FLUSHES if runs else 0, "reads": READS if runs else 0}
+    wrong += check(model, asked, out)
+    if runs and not wrong:
+        count(out, tally)
+    return wrong
+
+
+def count(text, tally):
+    """Counts how many flushes and readings came while workers were at work: those that differ from the one before."""
+    out = Output(text)
+    for before, now in zip(out.flushes, out.flushes[1:-1]):
+        tally["flushes at work"] += before != now
+    for before, now in zip(out.reads, out.reads[1:]):
+        tally["readings at work"] += before != now
+
+
+def main():
+    program = os.path.abspath(sys.argv[1])
+    runs = int(sys.argv[2]) if len(sys.argv) > 2 else 200
+    seed = int(sys.argv[3]) if len(sys.argv) > 3 else 1
+    bad, tally, began = 0, collections.Counter(), time.time()
+    for run in range(runs):
+        rng = random.Random(seed * 1_000_003 + run)
+        place = tempfile.mkdtemp(prefix="soak")
+        model = prepare(rng, place)
+        fmt, symbols = FORMATS[run % len(FORMATS)], run % 2 == 0
+        wrong = []
+        for command in ("run", "replay"):
+            wrong += ["%s: %s" % (command, what) for what in faults_of(program, place, model, command, fmt, symbols, tally)]
+        tally[fmt] += 1
+        tally["events"] += sum(events for _, _, events in model.workers)
+        for what in wrong[:5]:
+            print("wrong: run %d, %s, %s" % (run, fmt, what))
+        if wrong:
+            bad += 1
+            print("its files are in %s" % place)
+        else:
+            subprocess.run(["rm", "-r", place], check=True)
+    told = ", ".join("%d %s" % (tally[what], what) for what in FORMATS + ["events", "flushes at work", "readings at work"])
+    print("%d runs with %d faulty ones (%s) in %.0f s" % (runs, bad, told, time.time() - began))
+    sys.exit(min(bad, 100))
+
+
+if __name__ == "__main__":
+    main()
