@@ -39,7 +39,7 @@ class Output:
                 self.workers.append((accepted, dropped))
             elif self.symbols is not None and not self.workers:
                 self.symbols.append(line)
-            elif self.flushes and not self.reads and not self.workers and not (line.startswith("# ") and line[:7] != "# TYPE "):
+            elif self.flushes and not (self.reads or self.workers) and (line[:2] != "# " or line[:7] == "# TYPE "):
                 self.flushes[-1].append(line)
             else:
                 self.in_order(line, False)
@@ -62,7 +62,8 @@ def check(model, asked, text):
     wrong += check_workers(model, out)
     wrong += check_reads(model, out)
     wrong += check_symbols(model, out, asked["symbols"])
-    return wrong + {"statsd": check_statsd, "prom": check_prom, "admin": check_admin}[asked["format"]](model, out, asked)
+    by_format = {"statsd": check_statsd, "prom": check_prom, "admin": check_admin}
+    return wrong + by_format[asked["format"]](model, out, asked)
 
 
 def check_workers(model, out):
@@ -96,7 +97,7 @@ def check_reads(model, out):
 
 
 def check_symbols(model, out, asked):
-    """Names are their tokens, one number has one token and one token one number, and the stored name has the numbers."""
+    """Names are their tokens, a number has one token and a token one number, and the stored name has the numbers."""
     if (out.symbols is not None) != asked:
         return ["the symbols are there where they were not asked for, or are not"]
     wrong, number_of, token_of, live = [], {}, {}, set()

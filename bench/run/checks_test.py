@@ -1,6 +1,6 @@
 #!/usr/bin/env python3
-"""Tries `checks.py`: the outputs in `examples/`, and those of a plain store whose threads take turns at random, pass, and
-outputs that were changed do not.
+"""Tries `checks.py`: the outputs in `examples/`, and those of a plain store whose threads take turns at random, pass,
+and outputs that were changed do not.
 
 usage: checks_test.py
 """

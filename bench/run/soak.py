@@ -3,10 +3,10 @@
 
 usage: soak.py PROGRAM [RUNS [SEED]]       200 runs where none are said; each of 8 files with 20 flushes and 20 readings
 
-Each run has a bootstrap and files of its own, a format and, every other time, the symbols. Each is replayed too. What the
-events come to is told by `model.py`, which knows no threads; `checks.py` compares. A line says of each fault what was
-wrong, and where its files are; the last line is what was done. The status is the number of runs with a fault, at most
-100.
+Each run has a bootstrap and files of its own, a format and, every other time, the symbols. Each is replayed too. What
+the events come to is told by `model.py`, which knows no threads; `checks.py` compares. A line says of each fault what
+was wrong, and where its files are; the last line is what was done. The status is the number of runs with a fault, at
+most 100.
 """
 import collections
 import json
@@ -86,7 +86,8 @@ def main():
         fmt, symbols = FORMATS[run % len(FORMATS)], run % 2 == 0
         wrong = []
         for command in ("run", "replay"):
-            wrong += ["%s: %s" % (command, what) for what in faults_of(program, place, model, command, fmt, symbols, tally)]
+            faults = faults_of(program, place, model, command, fmt, symbols, tally)
+            wrong += ["%s: %s" % (command, what) for what in faults]
         tally[fmt] += 1
         tally["events"] += sum(events for _, _, events in model.workers)
         for what in wrong[:5]:
@@ -96,7 +97,8 @@ def main():
             print("its files are in %s" % place)
         else:
             subprocess.run(["rm", "-r", place], check=True)
-    told = ", ".join("%d %s" % (tally[what], what) for what in FORMATS + ["events", "flushes at work", "readings at work"])
+    whats = FORMATS + ["events", "flushes at work", "readings at work"]
+    told = ", ".join("%d %s" % (tally[what], what) for what in whats)
     print("%d runs with %d faulty ones (%s) in %.0f s" % (runs, bad, told, time.time() - began))
     sys.exit(min(bad, 100))
 
