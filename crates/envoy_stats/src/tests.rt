@@ -5,6 +5,7 @@ use crate::example_texts::{
     API_EVENTS, EDGE_ADMIN, EDGE_JSON, EDGE_STATSD, TAGS_ADMIN, TAGS_EVENTS, TAGS_JSON, TAGS_PROM,
     TAGS_STATSD, WEB_EVENTS,
 };
+use name_map::HashKey;
 use stat_defs::{Delta, MetricId, Report, Verdict};
 use stats_io::{MemFile, MemShelf, MemSink, Shelf};
 use std::alloc::Global;
@@ -72,15 +73,15 @@ const THREE_NAMES: &[u8] = b"inc root z 5\ninc web z 1\ninc root a 2\ninc root z
 
 // What a call left.
 #[derive(Drop)]
-struct Played {
-    outcome: Outcome,
-    out: MemSink,
-    err: MemSink,
-    shelf: MemShelf,
+pub(crate) struct Played {
+    pub(crate) outcome: Outcome,
+    pub(crate) out: MemSink,
+    pub(crate) err: MemSink,
+    pub(crate) shelf: MemShelf,
 }
 
 // Words parted by spaces; none where the text is empty.
-fn words_of(alloc: Global, text: &str) -> Result<Vec<String>, Fail> {
+pub(crate) fn words_of(alloc: Global, text: &str) -> Result<Vec<String>, Fail> {
     let mut words = Vec::new(alloc);
     if !text.is_empty() {
         for word in text.split(' ') {
@@ -91,7 +92,12 @@ fn words_of(alloc: Global, text: &str) -> Result<Vec<String>, Fail> {
 }
 
 // A file that is given in pieces of 16 bytes, whose pull of that number fails.
-fn file_of(alloc: Global, name: &str, bytes: &[u8], failing_pull: u64) -> Result<MemFile, Fail>
+pub(crate) fn file_of(
+    alloc: Global,
+    name: &str,
+    bytes: &[u8],
+    failing_pull: u64,
+) -> Result<MemFile, Fail>
     ensures { IfOk result (λ file. 1 ≤ file.piece) }
 {
     Ok(MemFile {
@@ -103,7 +109,7 @@ fn file_of(alloc: Global, name: &str, bytes: &[u8], failing_pull: u64) -> Result
 }
 
 // A shelf with the file `f1`.
-fn shelf_of(alloc: Global, file: &[u8], failing_pull: u64) -> Result<MemShelf, Fail> {
+pub(crate) fn shelf_of(alloc: Global, file: &[u8], failing_pull: u64) -> Result<MemShelf, Fail> {
     let file = file_of(alloc, "f1", file, failing_pull)?;
     Ok(MemShelf::new(vec![in alloc; file]?, Vec::new(alloc)))
 }
@@ -169,15 +175,15 @@ fn play_over(
 
 // What a call is to come to.
 #[derive(Clone, Copy)]
-struct Wanted<'a> {
-    status: u8,
-    reports: bool,
-    out: &'a [u8],
-    err: &'a [u8],
+pub(crate) struct Wanted<'a> {
+    pub(crate) status: u8,
+    pub(crate) reports: bool,
+    pub(crate) out: &'a [u8],
+    pub(crate) err: &'a [u8],
 }
 
 // Of that case.
-fn assert_played(rt: &impl Abort, case: &[u8], played: &Played, wanted: Wanted<'_>) {
+pub(crate) fn assert_played(rt: &impl Abort, case: &[u8], played: &Played, wanted: Wanted<'_>) {
     assert_eq!(rt; played.outcome.status, wanted.status, "{case:?}");
     assert_eq!(rt; played.outcome.report.is_some(), wanted.reports, "{case:?}");
     assert!(rt; played.out.bytes() == wanted.out, "{case:?}");
@@ -220,7 +226,7 @@ fn digit_of(text: &[u8]) -> u8 {
 }
 
 // A shelf with the files `f1`, `f2` and `f3`, which are parted by the byte 3 and empty where there are fewer.
-fn shelf_with(alloc: Global, bytes: &[u8], failing_pull: u64) -> Result<MemShelf, Fail> {
+pub(crate) fn shelf_with(alloc: Global, bytes: &[u8], failing_pull: u64) -> Result<MemShelf, Fail> {
     let mut parts = bytes.split(|b| *b == 3);
     let first = parts.next().unwrap_or(b"");
     let second = parts.next().unwrap_or(b"");
