@@ -11,10 +11,10 @@ use Rattle.metric_words.specs.CounterLedger.{size_of, workers_of}
 use Rattle.metric_words.specs.GaugeLedger.{gauges_size, gauges_workers}
 
 -- A new book of a configuration behind the lock, which has a seat for the store, for each worker and for the reader;
--- banks for the same workers, with a word for each metric of the book; and a cell for each worker.
-pub record IsWhole (book : SharedBook) (counters : CounterBank) (gauges : GaugeBank) (cells : ℕ) : Type 0 where
+-- banks for the same workers, with a word for each metric of the book; and so many cells, one for each worker.
+pub record IsWhole (book : SharedBook) (counters : CounterBank) (gauges : GaugeBank) (count : ℕ) : Type 0 where
   pub new : first_of book ≡ new_book (first_of book).config (first_of book).workers
   pub seats : seat_count book ≡ (first_of book).workers + 2
   pub workers : (workers_of counters ≡ (first_of book).workers) × (gauges_workers gauges ≡ (first_of book).workers)
   pub sizes : (size_of counters ≡ MAX_METRICS) × (gauges_size gauges ≡ MAX_METRICS)
-  pub cells : cells ≡ (first_of book).workers
+  pub cells : count ≡ (first_of book).workers
