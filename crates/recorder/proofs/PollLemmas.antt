@@ -11,7 +11,7 @@ use Rattle.book_access.specs.Making.{LogsCall}
 use Rattle.book_seat.specs.Polling.{Ends}
 use Rattle.book_seat.proofs.PartLemmas.{one_grows}
 use Rattle.metric_words.specs.CounterLedger.{worker_part}
-use Rattle.metric_words.specs.GaugeLedger.{gauge_part}
+use Rattle.metric_words.specs.GaugeLedger.{gauge_known, gauge_part}
 use Rattle.turn_cell.specs.declared.cell.TurnCell.{TurnCell}
 use Rattle.turn_cell.specs.declared.view.TurnKind.TheVariants.{Leave}
 use Rattle.turn_cell.specs.Tokens.{cell_id, after_step}
@@ -64,6 +64,7 @@ pub kept_polled : (turned : Bool) (r : Inside) (s : LockedBook) (side : HalfKnow
     → opened (known_by s) ≤ opened (known_by r.seat) + 0 → IsKept (polled r s side)
 kept_polled turned r s side is looks moves few = record {
   did = did_polled turned r s side looks is.did;
+  alone = is.alone;
   works = moves.works;
   legal = moves.legal;
   made = λ id within. is.made id (moves.metrics id within);
@@ -114,5 +115,6 @@ ends_its r s ended is lock ends leaves =
       did = same_work (told_by (shown r)) (told_at_end ended) (ap (λ (x : Ended). x.work.items) leaves.rest) (ap (λ (x : Ended). (worker_part x.counts).steps) leaves.rest)
           (ap (λ (x : Ended). (gauge_part x.gauges).steps) leaves.rest) turned (ap (λ (x : Ended). x.half.values) leaves.rest) is.did;
       made = subst (λ (x : Ended). AddsToMade (known_by x.seat) (worker_part x.counts)) (sym leaves.rest) (λ id within. is.made id (metrics_grow (known_by r.seat) (known_by s) _ grows id within));
+      alone = ap (λ (x : Ended). (gauge_known x.gauges).taken) leaves.rest ∙ is.alone;
       few = (let count = ap value_count side in let was = is.values in let few = is.few in omega (arith, count, was, few));
     }

@@ -12,7 +12,7 @@ use Rattle.metric_words.specs.declared.counter_view.CountStep.{CountStep}
 use Rattle.metric_words.specs.declared.gauge_view.GaugeStep.{GaugeStep}
 use Rattle.metric_words.specs.Counters.{firsts, seconds}
 use Rattle.metric_words.specs.CounterLedger.{worker_known, worker_part}
-use Rattle.metric_words.specs.GaugeLedger.{gauge_known, gauge_part}
+use Rattle.metric_words.specs.GaugeLedger.{GaugeKnown, gauge_known, gauge_part}
 use Rattle.turn_cell.specs.Tokens.{TurnKnown}
 use Rattle.merge_round.specs.Halves.{HalfState}
 use Rattle.half_side.specs.Halves.{values_of, value_count}
@@ -99,6 +99,7 @@ module _ (r new : Inside) (is : IsKept r) (few : r.given < MAX_GIVEN) (given : n
       omega (arith, even, after, whole, before, was)) in
       record {
         did = did;
+        alone = ap (λ (k : GaugeKnown). k.taken) acts.gauges ∙ is.alone;
         works = moves.works;
         legal = moves.legal;
         made = λ id within. (let a = more id in let b = is.made id (moves.metrics id within) in let c = units_named (known_state (known_by new.seat)) id e v names within in omega (arith, a, b, c));
@@ -118,6 +119,7 @@ module _ (r new : Inside) (is : IsKept r) (few : r.given < MAX_GIVEN) (given : n
   kept_cut hand work = record {
     did = same_work (told_by (shown r)) (told_by (shown new)) work (ap (λ (h : Hand). (worker_part h.counts).steps) hand) (ap (λ (h : Hand). (gauge_part h.gauges).steps) hand)
         (ap (λ (h : Hand). map values_of h.side.cell.halves) hand) (ap (λ (h : Hand). h.side.active.values) hand) is.did;
+    alone = ap (λ (h : Hand). (gauge_known h.gauges).taken) hand ∙ is.alone;
     works = moves.works;
     legal = moves.legal;
     made = λ id within. ap (λ (h : Hand). firsts id (worker_part h.counts).steps) hand ∙ is.made id (moves.metrics id within);

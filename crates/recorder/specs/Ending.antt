@@ -1,5 +1,5 @@
 -- What a recorder leaves at its end (this project's own).
-use Rattle.std.specs.Prelude.{◌≡◌, ℕ, ◌≤◌}
+use Rattle.std.specs.Prelude.{◌≡◌, ℕ, ◌≤◌, []}
 use Rattle.ghost_list.specs.declared.GhostList.{GhostList}
 use Rattle.stat_defs.specs.declared.events.Event.{Event}
 use Rattle.stat_defs.specs.declared.history.Verdict.{Verdict}
@@ -56,7 +56,7 @@ pub record LeavesHand (seat : LockedBook) (hand : Hand) (work : GhostList (Event
   }
 
 -- Its seat ended, and its cell was left. All else that it tells is as it was, and accounts for its events; no counter was
--- added to that the log did not make.
+-- added to that the log did not make, and no other seat of the gauges taken in.
 pub record EndsIts (r : RecorderKnown) (ended : Ended) : Type 0 where
   pub of : store_of ended ≡ r.of
   pub ends : Ends r.seat (known_by ended.seat)
@@ -65,4 +65,5 @@ pub record EndsIts (r : RecorderKnown) (ended : Ended) : Type 0 where
   pub told : told_at_end ended ≡ record (told_by r) { seat = known_by ended.seat }
   pub did : DidItsWork (told_at_end ended)
   pub made : AddsToMade (known_by ended.seat) (worker_part ended.counts)
+  pub alone : (gauge_known ended.gauges).taken ≡ []
   pub few : value_count (side_of ended) ≤ MAX_GIVEN

@@ -1,5 +1,5 @@
 -- What a recorder keeps.
-use Rattle.std.specs.Prelude.{◌≡◌, ℕ, ◌*◌, ◌^◌, ◌≤◌, length}
+use Rattle.std.specs.Prelude.{◌≡◌, ℕ, ◌*◌, ◌^◌, ◌≤◌, [], length}
 use Rattle.stat_book.specs.Calls.{IsLegal}
 use Rattle.seat_history.specs.declared.known.LogKnown.{LogKnown}
 use Rattle.seat_history.specs.History.{known_history}
@@ -41,6 +41,8 @@ pub record IsKept (r : Inside) : Type 0 where
   pub works : WorksUnder (known_by r.seat)
   pub legal : IsLegal (known_history (known_by r.seat))
   pub made : AddsToMade (known_by r.seat) (worker_part r.hand.counts)
+  -- it has taken in no other seat of the gauges
+  pub alone : (gauge_known r.hand.gauges).taken ≡ []
   -- bounds by the number of events that it was given
   pub units : (id : ℕ) → firsts id (worker_part r.hand.counts).steps ≤ 2 ^ 32 * r.given
   pub values : value_count r.hand.side ≤ r.given

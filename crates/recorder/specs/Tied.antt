@@ -1,9 +1,11 @@
 -- A worker's recorder as a store deals it, and what it leaves when it is done (this project's own).
-use Rattle.std.specs.Prelude.{◌≡◌, ℕ, suc, []}
+use Rattle.std.specs.Prelude.{◌≡◌, ℕ, suc, ◌≤◌, []}
 use Rattle.seat_history.specs.declared.known.LogKnown.{LogKnown}
 use Rattle.locked_book.specs.Sharing.{known_by}
 use Rattle.metric_words.specs.CounterLedger.{worker_part}
+use Rattle.metric_words.specs.GaugeLedger.{gauge_known}
 use Rattle.turn_cell.specs.Tokens.{note_known}
+use Rattle.half_side.specs.Halves.{value_count}
 use Rattle.book_seat.specs.Following.{HasFollowed}
 use Rattle.book_seat.specs.Polling.{Ends}
 use Rattle.ledger.specs.Work.{events_in, verdicts_in}
@@ -11,7 +13,8 @@ use Rattle.run_ledger.specs.Accounts.{DidItsWork}
 use Rattle.store_parts.specs.Ids.{ids_of, HasCell}
 use Rattle.store_parts.specs.declared.store.Store.{Store}
 use Rattle.recorder.specs.declared.ended.Ended.{Ended}
-use Rattle.recorder.specs.Ending.{store_of, told_at_end}
+use Rattle.recorder.specs.declared.limits.TheConstants.{MAX_GIVEN}
+use Rattle.recorder.specs.Ending.{store_of, side_of, told_at_end}
 use Rattle.recorder.specs.Following.{HasFollowedAll}
 use Rattle.recorder.specs.Knowing.{RecorderKnown, HasItsCell}
 use Rattle.recorder.specs.RecorderKept.{AddsToMade}
@@ -30,8 +33,8 @@ pub record IsNewWorker (store : Store) (w : ℕ) (r : RecorderKnown) : Type 0 wh
   pub given : r.given ≡ 0
   pub followed : HasFollowedAll r
 
--- What the store's worker w left: its seat has ended behind the entries of its events, it did its work, and it added to
--- no counter that the log did not make.
+-- What the store's worker w left: its seat has ended behind the entries of its events, and it did its work. It added to
+-- no counter that the log did not make, took in no other seat of the gauges, and has no more values than a file events.
 pub record HasEnded (store : Store) (w : ℕ) (ended : Ended) : Type 0 where
   pub of : store_of ended ≡ ids_of store
   pub number : (known_by ended.seat).number ≡ w
@@ -43,3 +46,5 @@ pub record HasEnded (store : Store) (w : ℕ) (ended : Ended) : Type 0 where
   pub ends : Ends before (known_by ended.seat)
   pub did : DidItsWork (told_at_end ended)
   pub made : AddsToMade (known_by ended.seat) (worker_part ended.counts)
+  pub alone : (gauge_known ended.gauges).taken ≡ []
+  pub few : value_count (side_of ended) ≤ MAX_GIVEN

@@ -50,7 +50,7 @@ impl Recorder {
     ) -> Recorder
         requires seat { IsNewSeat (known_by seat) }
         requires counts { (worker_part counts).steps ≡ [] }
-        requires gauges { (gauge_part gauges).steps ≡ [] }
+        requires gauges { ((gauge_part gauges).steps ≡ []) × ((gauge_known gauges).taken ≡ []) }
         requires side { (side.cell.halves ≡ []) × (side.active.values ≡ []) }
         ensures { result ≡ record {
           of = record { lock = lock_of seat; counters = (worker_known counts).bank; gauges = (gauge_known gauges).bank };

@@ -21,9 +21,10 @@ invariant_of-result c =
     record {
       did = record {
         adds = λ id. ap (λ (l : List CountStep). seconds id l) c.requires.counts ∙ ap (λ (w : Work). units_by id w) (sym work);
-        moves = λ id. ap (λ (l : List GaugeStep). moves_made id l) c.requires.gauges ∙ ap (λ (w : Work). moves_of id w) (sym work);
+        moves = λ id. ap (λ (l : List GaugeStep). moves_made id l) c.requires.gauges.0 ∙ ap (λ (w : Work). moves_of id w) (sym work);
         values = (λ i. values_in (map values_of (side.0 i) ++ side.1 i ∷ [])) ∙ ap recordings (sym work);
       };
+      alone = c.requires.gauges.1;
       works = (seat_follows.begins (known_by c.args.seat) new).0;
       legal = new.legal;
       made = λ id within. ap (λ (l : List CountStep). firsts id l) c.requires.counts;
