@@ -44,4 +44,6 @@ has_ended store w r ended is followed ends =
       ends = ends.ends;
       did = ends.did;
       made = ends.made;
+      alone = ends.alone;
+      few = ends.few;
     }
