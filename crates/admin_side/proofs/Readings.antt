@@ -46,15 +46,15 @@ pub gauge_loads-bank : (rs : List Reading) (k : GaugeKnown) → (after_gauge_loa
 gauge_loads-bank [] k = refl
 gauge_loads-bank (r ∷ rs) k = gauge_loads-bank rs (after_gauge_step (gauge_step gauge.Load r.id.0 0 r.word) k)
 
-gauge_loads-taken : (rs : List Reading) (k : GaugeKnown) → (after_gauge_loads rs k).taken ≡ k.taken
+pub gauge_loads-taken : (rs : List Reading) (k : GaugeKnown) → (after_gauge_loads rs k).taken ≡ k.taken
 gauge_loads-taken [] k = refl
 gauge_loads-taken (r ∷ rs) k = gauge_loads-taken rs (after_gauge_step (gauge_step gauge.Load r.id.0 0 r.word) k)
 
-all-push : {A : Type 0} (P : A → Type 0) (xs : List A) (x : A) → P x → AllByRecursion P xs → AllByRecursion P (xs ++ x ∷ [])
+pub all-push : {A : Type 0} (P : A → Type 0) (xs : List A) (x : A) → P x → AllByRecursion P xs → AllByRecursion P (xs ++ x ∷ [])
 all-push P [] x p h = (p, tt)
 all-push P (y ∷ xs) x p h = (h.0, all-push P xs x p h.1)
 
-all-weaker : {A : Type 0} (P Q : A → Type 0) → ((x : A) → P x → Q x) → (xs : List A) → AllByRecursion P xs → AllByRecursion Q xs
+pub all-weaker : {A : Type 0} (P Q : A → Type 0) → ((x : A) → P x → Q x) → (xs : List A) → AllByRecursion P xs → AllByRecursion Q xs
 all-weaker P Q to [] h = tt
 all-weaker P Q to (x ∷ xs) h = (to x h.0, all-weaker P Q to xs h.1)
 
@@ -66,7 +66,7 @@ lists-found listing k k' c = record { found = c.found; finds = c.finds; last = c
 pub went-on : (k k' : LogKnown) → Calls IsAsFound k k' → (more : List Entry) × (k'.known ≡ k.known ++ more)
 went-on k k' c = (c.finds.log.0, ap (λ z. z.known) c.leaves ∙ (ap (λ b. b.log) c.makes ∙ c.finds.log.1))
 
-config-stays : (k k' : LogKnown) → Calls IsAsFound k k' → (k'.config ≡ k.config) × (k'.workers ≡ k.workers)
+pub config-stays : (k k' : LogKnown) → Calls IsAsFound k k' → (k'.config ≡ k.config) × (k'.workers ≡ k.workers)
 config-stays k k' c = (ap (λ z. z.config) c.leaves, ap (λ z. z.workers) c.leaves)
 
 pub found-is : (k k' : LogKnown) (c : Calls IsAsFound k k') → c.found ≡ known_history k'

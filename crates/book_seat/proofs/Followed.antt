@@ -92,16 +92,19 @@ ends_grow : (p q : LogKnown) → Ends p q → Grows p IsEnd q
 ends_grow p q under = let Makes : ℕ → BookHistory → BookHistory → Type 0 = LogsCall call.End reply.Ended in
     one_grows Makes p q under call.End reply.Ended under.makes IsEnd (the_own Makes p q under call.End reply.Ended under.makes, refl, refl)
 
+-- in the log that the seat left last
+pub ended_known : (p q : LogKnown) (events : List Event) (verdicts : List Verdict) → HasFollowed p events verdicts → Ends p q → Follows (rules_of (known_history q)) q.workers q.number events verdicts q.known
+ended_known p q events verdicts so_far ends =
+    let g = ends_grow p q ends in let o = g.asked in
+    subst (λ (h : BookHistory). Follows (rules_of h) h.workers q.number events verdicts h.log) (sym (grown_history p q IsEnd g))
+    (subst (λ (k : ℕ). Follows (rules_of (known_history p)) p.workers k events verdicts (p.known ++ g.more)) (sym g.number)
+    (chain_ended (rules_of (known_history p)) p.workers p.number events verdicts p.known g.more o.0 so_far o.1 o.2))
+
 pub ended_follows : (p q : LogKnown) (events : List Event) (verdicts : List Verdict) (first : BookHistory) (log : List Entry) → HasFollowed p events verdicts → Ends p q → SeatHistory first log q
     → Follows (rules_of (known_history q)) q.workers q.number events verdicts log
 ended_follows p q events verdicts first log so_far ends history =
-    let g = ends_grow p q ends in let o = g.asked in
-    let at_end : Follows (rules_of (known_history q)) q.workers q.number events verdicts q.known =
-    subst (λ (h : BookHistory). Follows (rules_of h) h.workers q.number events verdicts h.log) (sym (grown_history p q IsEnd g))
-    (subst (λ (k : ℕ). Follows (rules_of (known_history p)) p.workers k events verdicts (p.known ++ g.more)) (sym g.number)
-    (chain_ended (rules_of (known_history p)) p.workers p.number events verdicts p.known g.more o.0 so_far o.1 o.2)) in
     subst (λ (l : List Entry). Follows (rules_of (known_history q)) q.workers q.number events verdicts l) (sym history.known.1)
-    (chain_left (rules_of (known_history q)) q.workers q.number events verdicts q.known history.known.0 at_end
+    (chain_left (rules_of (known_history q)) q.workers q.number events verdicts q.known history.known.0 (ended_known p q events verdicts so_far ends)
     (All-weaker (λ (entry : Entry). entry.seat ≢ q.number) (λ entry. q.number ≢ entry.seat) (λ entry other same. other (sym same)) history.known.0 history.known.2))
 
 -- entries of others leave the seat as the book was made with it

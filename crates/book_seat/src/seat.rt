@@ -96,6 +96,18 @@ impl<A: KnowsLog> BookSeat<A> {
         &self.access
     }
 
+    /// The access to the book, of a seat that is done with.
+    pub fn into_access(self) -> A
+        ensures { result ≡ self }
+    {
+        let BookSeat {
+            access,
+            cache: _,
+            tag: _,
+        } = self;
+        access
+    }
+
     // Finds the query's key, which is not held. A verdict to hold is held.
     #[inline(never)]
     fn find_anew<W>(

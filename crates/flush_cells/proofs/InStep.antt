@@ -1,5 +1,5 @@
 -- Requests, a pass and a new round leave each worker in step.
-use Rattle.std.proofs.Common.{◌≡◌, ℕ, suc, ◌<◌, ◌==◌, Bool, true, false, List, [], ◌∷◌, ◌++◌, map, filter, cond, refl, ap, sym, ◌∙◌, subst, arith, append-nil, append_assoc}
+use Rattle.std.proofs.Common.{◌≡◌, ◌+◌, ℕ, suc, ◌<◌, ◌≤◌, length, inl, inr, ◌==◌, Bool, true, false, List, [], ◌∷◌, ◌++◌, map, filter, cond, refl, ap, sym, ◌∙◌, subst, arith, append-nil, append_assoc}
 use Rattle.std.specs.List.{flat_map}
 use Rattle.std.proofs.lemmas.Bool.Decides.{Decides-eqb}
 use Rattle.std.proofs.lemmas.List.{map-append}
@@ -12,13 +12,13 @@ use Rattle.flush_cells.specs.declared.tokens.FlushCell.TheVariants.{Idle, Waitin
 use Rattle.flush_cells.specs.Cells.{cell_known}
 use Rattle.flush_cells.specs.Asks.{Asks, AsksEach}
 use Rattle.flush_cells.specs.Passes.{Merges, Passes, PassesEach}
-use Rattle.flush_cells.specs.Taken.{HalfValues, values_of, round_of, held_in, InStep, EachInStep, StayInStep}
+use Rattle.flush_cells.specs.Taken.{HalfValues, values_of, round_of, held_in, InStep, EachInStep, HasNoToken, StayInStep}
 
-abbrev Merged : Type 0
+abbrev pub Merged : Type 0
 Merged = ℕ × HalfState
 
 -- a half more of a round, of the worker or of another
-round_here : (worker : ℕ) (half : HalfState) (round : List Merged) → round_of worker (round ++ (worker, half) ∷ []) ≡ round_of worker round ++ half.values ∷ []
+pub round_here : (worker : ℕ) (half : HalfState) (round : List Merged) → round_of worker (round ++ (worker, half) ∷ []) ≡ round_of worker round ++ half.values ∷ []
 round_here worker half [] = ap (λ (b : Bool). map (λ (h : Merged). h.1.values) (cond b ((worker, half) ∷ []) [])) ((Decides-eqb worker worker).1 refl)
 round_here worker half (h ∷ round) = by_case (round_here worker half round) (h.0 == worker) where
   by_case : round_of worker (round ++ (worker, half) ∷ []) ≡ round_of worker round ++ half.values ∷ [] → (b : Bool) → map (λ (x : Merged). x.1.values) (cond b (h ∷ filter (λ x. x.0 == worker) (round ++ (worker, half) ∷ [])) (filter (λ x. x.0 == worker) (round ++ (worker, half) ∷ [])))
@@ -26,7 +26,7 @@ round_here worker half (h ∷ round) = by_case (round_here worker half round) (h
   by_case rest true = ap (λ (l : HalfValues). h.1.values ∷ l) rest
   by_case rest false = rest
 
-round_other : (worker other : ℕ) (half : HalfState) (round : List Merged) → (worker == other) ≡ false → round_of other (round ++ (worker, half) ∷ []) ≡ round_of other round
+pub round_other : (worker other : ℕ) (half : HalfState) (round : List Merged) → (worker == other) ≡ false → round_of other (round ++ (worker, half) ∷ []) ≡ round_of other round
 round_other worker other half [] apart = ap (λ (b : Bool). map (λ (h : Merged). h.1.values) (cond b ((worker, half) ∷ []) [])) apart
 round_other worker other half (h ∷ round) apart = by_case (round_other worker other half round apart) (h.0 == other) where
   by_case : round_of other (round ++ (worker, half) ∷ []) ≡ round_of other round → (b : Bool) → map (λ (x : Merged). x.1.values) (cond b (h ∷ filter (λ x. x.0 == other) (round ++ (worker, half) ∷ [])) (filter (λ x. x.0 == other) (round ++ (worker, half) ∷ [])))
@@ -35,7 +35,7 @@ round_other worker other half (h ∷ round) apart = by_case (round_other worker 
   by_case rest false = rest
 
 -- the halves of other workers in the round stay
-abbrev KeepsOthers : ℕ → ParentsState → ParentsState → Type 0
+abbrev pub KeepsOthers : ℕ → ParentsState → ParentsState → Type 0
 KeepsOthers worker p q = (other : ℕ) → (worker == other) ≡ false → round_of other q.round ≡ round_of other p.round
 
 same_others : (worker : ℕ) (p q : ParentsState) → q ≡ p → KeepsOthers worker p q
@@ -82,14 +82,14 @@ pass_stays worker earlier p (Waiting f) q new (take.NotYet g word, found, settle
 pass_stays worker earlier p (Waiting f) q new (take.Left g, found, settles) is =
     moved worker earlier p q (Waiting f) new settles.1 (ap (λ (z : FlushCell). map values_of (cell_known z).halves) settles.0 ∙ ap (λ (z : TurnKnown HalfState). map values_of z.halves) found) (ap held_in settles.0) is
 
-not_same : (a b : ℕ) → a < b → (a == b) ≡ false
+pub not_same : (a b : ℕ) → a < b → (a == b) ≡ false
 not_same a b less = by_case (a == b) refl where
   by_case : (t : Bool) → (a == b) ≡ t → t ≡ false
   by_case true e = absurd (let same = (Decides-eqb a b).0 e in omega (arith, same, less))
   by_case false e = refl
 
 -- workers behind one that was looked at
-behind_stay : (worker first : ℕ) (earlier : ℕ → HalfValues) (p q : ParentsState) (cells : List FlushCell) → worker < first → KeepsOthers worker p q
+pub behind_stay : (worker first : ℕ) (earlier : ℕ → HalfValues) (p q : ParentsState) (cells : List FlushCell) → worker < first → KeepsOthers worker p q
     → EachInStep first earlier p cells → EachInStep first earlier q cells
 behind_stay worker first earlier p q [] less keeps all = tt
 behind_stay worker first earlier p q (c ∷ cells) less keeps all = (
@@ -121,6 +121,22 @@ all_pass first earlier p q (o ∷ olds) (n ∷ news) each all = (
 all_pass first earlier p q [] (n ∷ news) each all = absurd each
 all_pass first earlier p q (o ∷ olds) [] each all = absurd each
 
+-- a worker behind those that are looked at
+after_stay : (worker first : ℕ) (p : ParentsState) (olds : List FlushCell) (q : ParentsState) (news : List FlushCell) → first + length olds ≤ worker → PassesEach first p olds q news
+    → round_of worker q.round ≡ round_of worker p.round
+after_stay worker first p [] q [] less each = ap (λ (z : ParentsState). round_of worker z.round) each
+after_stay worker first p (o ∷ olds) q (n ∷ news) less each =
+    after_stay worker (suc first) each.0 olds q news (omega (arith, less)) each.2 ∙ pass_others first p o each.0 n each.1 worker (not_same first worker (omega (arith, less)))
+after_stay worker first p [] q (n ∷ news) less each = absurd each
+after_stay worker first p (o ∷ olds) q [] less each = absurd each
+
+other_rounds : (p q : ParentsState) (olds news : List FlushCell) → PassesEach 1 p olds q news → (worker : ℕ) → HasNoToken worker olds → round_of worker q.round ≡ round_of worker p.round
+other_rounds p q olds news each worker none =
+    elim none as (λ _. round_of worker q.round ≡ round_of worker p.round) [
+      inl zero ↦ before_stay worker 1 p olds q news (omega (arith, zero)) each
+      | inr behind ↦ after_stay worker 1 p olds q news (omega (arith, behind)) each
+    ]
+
 ask_stays : (worker : ℕ) (earlier : HalfValues) (p : ParentsState) (old new : FlushCell) → Asks old new → InStep worker earlier p old → InStep worker earlier p new
 ask_stays worker earlier p (Idle f) (Waiting w) asks is = ap (λ (z : TurnKnown HalfState). map values_of z.halves) asks ∙ is
 ask_stays worker earlier p (Idle f) (Idle i) asks is = ap (λ (z : TurnKnown HalfState). map values_of z.halves) asks ∙ is
@@ -140,7 +156,7 @@ new_round first earlier p [] all = tt
 new_round first earlier p (c ∷ cells) all =
     (all.0 ∙ ap (λ (l : HalfValues). l ++ held_in c) (sym (append-nil (earlier first ++ round_of first p.round))), new_round (suc first) earlier p cells all.1)
 
-values_are : (worker : ℕ) (round : List Merged) → worker_values worker round ≡ flat_map (λ half. half) (round_of worker round)
+pub values_are : (worker : ℕ) (round : List Merged) → worker_values worker round ≡ flat_map (λ half. half) (round_of worker round)
 values_are worker [] = refl
 values_are worker (h ∷ round) = by_case (values_are worker round) (h.0 == worker) where
   by_case : worker_values worker round ≡ flat_map (λ half. half) (round_of worker round) → (b : Bool)
@@ -153,6 +169,7 @@ pub stay-in-step : StayInStep
 stay-in-step = record {
   asks = λ earlier parents olds news each all. all_asks 1 earlier parents olds news each all;
   pass = λ earlier old new olds news each all. all_pass 1 earlier old new olds news each all;
+  others = λ old new olds news each worker none. other_rounds old new olds news each worker none;
   round = λ earlier parents cells all. new_round 1 earlier parents cells all;
   values = values_are;
 }

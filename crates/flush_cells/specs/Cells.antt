@@ -58,6 +58,10 @@ pub record AreKept (count : ℕ) (seats : List FlushCell) : Type 0 where
   pub each : All IsCellKept seats
   pub merged : count + total held_weight seats ≤ total taken_weight seats
 
+-- each half of the round is one of these workers', who are numbered from 1
+abbrev pub IsRoundOf : ℕ → List (ℕ × HalfState) → Type 0
+IsRoundOf workers round = All (λ half. (1 ≤ half.0) × (half.0 ≤ workers)) round
+
 -- a half is held that could not be merged
 abbrev pub is_holding_in : FlushCell → Bool
 is_holding_in (Holding half f) = true

@@ -1,5 +1,5 @@
 -- The halves that were taken of each worker (this project's own).
-use Rattle.std.specs.Prelude.{◌≡◌, ℕ, suc, ◌==◌, List, [], ◌∷◌, ◌++◌, map, filter}
+use Rattle.std.specs.Prelude.{◌≡◌, ◌⊎◌, ℕ, suc, ◌<◌, ◌==◌, List, [], ◌∷◌, ◌++◌, length, map, filter}
 use Rattle.std.specs.List.{flat_map}
 use Rattle.merge_round.specs.Halves.{HalfState}
 use Rattle.merge_round.specs.Rounds.{ParentsState, after_round, worker_values}
@@ -34,12 +34,19 @@ abbrev pub EachInStep : ℕ → (ℕ → HalfValues) → ParentsState → List F
 EachInStep worker earlier parents [] = Unit {0}
 EachInStep worker earlier parents (c ∷ cells) = InStep worker (earlier worker) parents c × EachInStep (suc worker) earlier parents cells
 
--- requests, a pass and a new round leave each worker in step; and a worker's values in a round are those of its halves
+-- no token is of this worker; workers are numbered from 1
+abbrev pub HasNoToken : ℕ → List FlushCell → Type 0
+HasNoToken worker cells = (worker ≡ 0) ⊎ (length cells < worker)
+
+-- Requests, a pass and a new round leave each worker in step; a pass merges no half of another worker; and a worker's
+-- values in a round are those of its halves.
 pub record StayInStep : Type 0 where
   pub asks : (earlier : ℕ → HalfValues) (parents : ParentsState) (olds news : List FlushCell) → AsksEach olds news
       → EachInStep 1 earlier parents olds → EachInStep 1 earlier parents news
   pub pass : (earlier : ℕ → HalfValues) (old new : ParentsState) (olds news : List FlushCell) → PassesEach 1 old olds new news
       → EachInStep 1 earlier old olds → EachInStep 1 earlier new news
+  pub others : (old new : ParentsState) (olds news : List FlushCell) → PassesEach 1 old olds new news
+      → (worker : ℕ) → HasNoToken worker olds → round_of worker new.round ≡ round_of worker old.round
   pub round : (earlier : ℕ → HalfValues) (parents : ParentsState) (cells : List FlushCell) → EachInStep 1 earlier parents cells
       → EachInStep 1 (λ worker. earlier worker ++ round_of worker parents.round) (after_round parents) cells
   pub values : (worker : ℕ) (round : List (ℕ × HalfState)) → worker_values worker round ≡ flat_map (λ half. half) (round_of worker round)

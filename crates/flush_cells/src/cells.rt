@@ -1,9 +1,9 @@
 //! The tokens of all cells, and what was merged.
-ghost use Rattle.std.specs.Prelude.{◌≡◌, ◌⊎◌, All, map, IfOk, OnOk, OnErr};
+ghost use Rattle.std.specs.Prelude.{◌≡◌, ◌⊎◌, ◌≤◌, [], All, length, map, IfOk, OnOk, OnErr, vec_capacity};
 ghost use Rattle.merge_round.specs.Halves.{bins_by};
 ghost use Rattle.merge_round.specs.Rounds.{new_parents, after_round, worker_values, ArePartsOf};
 ghost use Rattle.turn_cell.specs.Tokens.{cell_id};
-ghost use Rattle.flush_cells.specs.Cells.{cell_of, merged_count, AreKept, IsNotHolding};
+ghost use Rattle.flush_cells.specs.Cells.{cell_of, merged_count, AreKept, IsNotHolding, IsRoundOf};
 ghost use Rattle.flush_cells.specs.Asks.{AsksEach};
 ghost use Rattle.flush_cells.specs.Passes.{PassesEach};
 ghost use Rattle.flush_cells.specs.Late.{pass_from};
@@ -18,12 +18,13 @@ use std::mem::replace;
 use turn_cell::TurnCell;
 
 /// The flusher's token of each worker's cell, in the order of workers from 1, and the parents that it merges their
-/// halves into. No more values were merged than were taken.
+/// halves into. No more values were merged than were taken, and the round has halves of these workers alone.
 #[derive(Drop)]
 pub struct FlushCells {
     pub(crate) tokens: Vec<FlushCell>,
     pub(crate) parents: Parents,
     ghost kept: { AreKept (merged_count parents) tokens.items },
+    ghost round: { IsRoundOf (length tokens.items) parents.round },
 }
 
 impl FlushCells {
@@ -39,20 +40,25 @@ impl FlushCells {
         }
     }
 
-    /// Asks each worker once for its half, in order. One that left is not asked again. The memory is taken before the
-    /// first request.
-    pub fn ask(&mut self, alloc: Global, cells: &[TurnCell<Half>]) -> Result<(), NoMemory>
-        requires cells { map cell_id cells.now ≡ map cell_of self.old.tokens.items }
-        ensures cells { map cell_of self.new.tokens.items ≡ map cell_of self.old.tokens.items }
-        ensures asks { OnOk result (AsksEach self.old.tokens.items self.new.tokens.items) }
-        ensures parents { self.new.parents ≡ self.old.parents }
-        ensures err { OnErr result (self.new ≡ self.old) }
+    /// The memory that the requests take.
+    pub fn room(&self, alloc: Global) -> Result<Vec<FlushCell>, NoMemory>
+        ensures { IfOk result (λ room. (room.items ≡ []) × (length self.now.tokens.items ≤ vec_capacity room)) }
     {
-        let mut asked = Vec::with_capacity(alloc, self.tokens.len())?;
+        Ok(Vec::with_capacity(alloc, self.tokens.len())?)
+    }
+
+    /// Asks each worker once for its half, in order. One that left is not asked again. The memory is taken before, as
+    /// `room`, so that this cannot fail.
+    pub fn ask(&mut self, alloc: Global, mut room: Vec<FlushCell>, cells: &[TurnCell<Half>])
+        requires cells { map cell_id cells.now ≡ map cell_of self.old.tokens.items }
+        requires room { (room.items ≡ []) × (length self.old.tokens.items ≤ vec_capacity room) }
+        ensures cells { map cell_of self.new.tokens.items ≡ map cell_of self.old.tokens.items }
+        ensures asks { AsksEach self.old.tokens.items self.new.tokens.items }
+        ensures parents { self.new.parents ≡ self.old.parents }
+    {
         let tokens = replace(&mut self.tokens, Vec::new(alloc));
-        ask_into(cells, tokens, &mut asked);
-        self.tokens = asked;
-        Ok(())
+        ask_into(cells, tokens, &mut room);
+        self.tokens = room;
     }
 
     /// Looks once at the cell of each worker that was asked, in order, merges the halves that are there and gives them
@@ -86,6 +92,7 @@ impl FlushCells {
     pub fn into_parts(self) -> (Vec<FlushCell>, Parents)
         ensures parts { (result.0 ≡ self.tokens) × (result.1 ≡ self.parents) }
         ensures kept { AreKept (merged_count self.parents) self.tokens.items }
+        ensures round { IsRoundOf (length self.tokens.items) self.parents.round }
     {
         let FlushCells { tokens, parents } = self;
         (tokens, parents)

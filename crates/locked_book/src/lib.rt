@@ -7,11 +7,13 @@
 mod access;
 mod calls;
 mod closing;
+mod ending;
 mod listing;
 mod making;
 mod shared;
 mod sweeping;
 
+pub use ending::{BookEnd, close_book};
 pub use listing::{Listing, listing_of};
 pub use shared::{LockedBook, SharedBook, Way};
 pub use sweeping::sweep_in;

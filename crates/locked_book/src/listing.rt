@@ -33,7 +33,7 @@ pub fn listing_of(alloc: Global, book: &Book) -> Result<Listing, NoMemory>
 }
 
 // Those of these metrics that are of the kind.
-fn of_kind(
+pub(crate) fn of_kind(
     alloc: Global,
     book: &Book,
     kind: Kind,

@@ -1,0 +1,76 @@
+//! The last sweep of a book, and its log.
+ghost use Rattle.std.specs.Prelude.{◌≡◌, IfOk, length, map};
+ghost use Rattle.std.specs.List.{range_with_len};
+ghost use Rattle.stat_book.specs.Calls.{state_of, IsLegal};
+ghost use Rattle.locked_book.specs.Sharing.{first_of, seat_count, known_by, AreAllSeats};
+ghost use Rattle.locked_book.specs.Lists.{AreMetrics};
+ghost use Rattle.locked_book.specs.Ending.{as_id, counters_made, IsLastOf, EndsBook};
+
+use crate::listing::{Listing, of_kind};
+use crate::shared::{LockedBook, SharedBook};
+use crate::sweeping::sweep_in;
+use stat_book::Book;
+use stat_defs::{Entry, Kind, List, MetricId, NoMemory};
+use std::alloc::Global;
+
+/// What a book leaves: the listing of its last sweep, all counters that were ever made, rising, and all calls with their
+/// replies.
+#[derive(Drop)]
+pub struct BookEnd {
+    pub listing: Listing,
+    pub made: List<MetricId>,
+    pub log: List<Entry>,
+}
+
+// The numbers of all metrics that were made, rising.
+fn all_made(alloc: Global, book: &Book) -> Result<Vec<MetricId>, NoMemory>
+    ensures { IfOk result (λ ids. ids.items ≡ map as_id (range_with_len 0 (length (state_of book.now).metrics))) }
+{
+    let made = book.made();
+    Ok((0..made).map(MetricId).collect(alloc)?)
+}
+
+// All counters that were made, rising.
+fn counters_in(alloc: Global, book: &Book) -> Result<Vec<MetricId>, NoMemory>
+    ensures made { IfOk result (λ ids. ids.items ≡ counters_made (state_of book.now)) }
+    ensures metrics { IfOk result (λ ids. AreMetrics ids.items) }
+    ensures legal { IsLegal book.now }
+{
+    let _log = book.log();
+    let ids = all_made(alloc, book)?;
+    of_kind(alloc, book, Kind::Counter, &ids)
+}
+
+// What a book leaves. A book that there is no memory for is gone.
+fn end_of(alloc: Global, book: Book) -> Result<BookEnd, NoMemory>
+    ensures { IfOk result (λ end. IsLastOf book end) }
+{
+    let mut book = book;
+    let Ok(listing) = sweep_in(&mut book, alloc) else {
+        drop(book);
+        return Err(NoMemory);
+    };
+    let Ok(made) = counters_in(alloc, &book) else {
+        drop(book);
+        return Err(NoMemory);
+    };
+    Ok(BookEnd {
+        listing,
+        made: List::of(made),
+        log: List::of(book.into_log()),
+    })
+}
+
+/// The end of a shared book: all its seats give it back, and it is swept once more. Where there is no memory, all is
+/// gone. It takes time in the metrics that were made, and does not wait.
+pub fn close_book(
+    alloc: Global,
+    book: SharedBook,
+    seats: Vec<LockedBook>,
+) -> Result<BookEnd, NoMemory>
+    requires { AreAllSeats book seats.items }
+    ensures { IfOk result (λ end. EndsBook (first_of book) (seat_count book) (map known_by seats.items) end) }
+{
+    let book = book.close(alloc, seats)?;
+    end_of(alloc, book)
+}

@@ -1,0 +1,3 @@
+pub mod Closes
+pub mod Pieces
+pub mod Sorting
