@@ -9,7 +9,7 @@ use Rattle.flush_cells.specs.declared.tokens.FlushCell.TheVariants.{Holding}
 use Rattle.flush_cells.specs.Cells.{cell_known}
 use Rattle.cells_end.specs.declared.end.CellEnd.{CellEnd}
 
--- the worker's note and the flusher's token are of this cell, and the active half has no more values than a file has events
+-- the worker's note and the flusher's token are of this cell, and the active half has no more values than a cell takes
 pub record IsEnd (token : FlushCell) (end : CellEnd) : Type 0 where
   pub left : (note_known end.note).cell ≡ cell_id end.cell
   pub taken : (cell_known token).cell ≡ cell_id end.cell

@@ -1,7 +1,1 @@
-pub mod World
-pub mod FaultLines
-pub mod BinLines
-pub mod LoadedLine
-pub mod Command
-pub mod Outcome
-pub mod Replay
+pub mod Running

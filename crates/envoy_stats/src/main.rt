@@ -1,29 +1,26 @@
-//! The statistics store as a program: `replay` applies event files and writes one flush, `check` tries a bootstrap, and
-//! `bins` tells the bins of values.
+//! The statistics store as a program: `run` applies event files side by side and writes all flushes and readings,
+//! `replay` applies them one after another and writes one flush, `check` tries a bootstrap, and `bins` tells the bins of
+//! values.
 #![tactic(auto)]
 
-ghost use Rattle.std.specs.Prelude.{◌≡◌, ◌≢◌, Option, IfOk, IfErr, map, string_bytes};
+ghost use Rattle.std.specs.Prelude.{◌≡◌, Option, IfOk, IfErr, map, string_bytes};
 ghost use Rattle.stat_defs.specs.declared.reports.Report.{Report};
-ghost use Rattle.envoy_stats.specs.World.{world, sight};
-ghost use Rattle.envoy_stats.specs.Outcome.{IsCall, IsUnreadable};
+ghost use Rattle.stats_commands.specs.World.{world, sight};
+ghost use Rattle.stats_commands.specs.Outcome.{IsUnreadable};
+ghost use Rattle.envoy_stats.specs.Running.{IsProgramCall};
 
-mod bins;
-mod check;
-mod command;
 #[cfg(test)]
 mod example_texts;
-mod outcome;
-mod quiet;
-mod replay;
-mod status;
-mod telling;
+mod program;
+mod run;
 #[cfg(test)]
 mod tests;
 
 pub use flush_view::flush_view;
 use name_map::HashKey;
-pub use outcome::Outcome;
-pub use quiet::{quiet_stats, quiet_stats_with};
+pub use program::{envoy_stats, envoy_stats_with};
+use stats_commands::{NO_COMMAND, NO_MEMORY, OUT_OF_MEMORY, USAGE, say};
+pub use stats_commands::{Outcome, quiet_stats, quiet_stats_with};
 use stats_io::{FolderShelf, Shelf, Sink, StdSink};
 use std::alloc::Global;
 use std::io;
@@ -31,8 +28,9 @@ use std::io::{Stderr, Stdout};
 use std::process::ExitCode;
 use std::random::RandomSource;
 use std::rt::Env;
+use std::sync::Wait;
+use std::thread::Threads;
 use tag_rules::{PatternMaker, RegexMaker};
-use telling::{OUT_OF_MEMORY, USAGE, say};
 
 // The words of the command line without the program's name.
 fn words_of<R: Env + AllocGlobal>(rt: &R) -> io::Result<Vec<String>> {
@@ -49,14 +47,15 @@ fn refuse<E: Sink>(err: &mut E, fault: io::Error) -> u8
 {
     if fault.kind() == io::ErrorKind::OutOfMemory {
         say(err, OUT_OF_MEMORY);
-        return status::NO_MEMORY;
+        return NO_MEMORY;
     }
     say(err, USAGE);
-    status::NO_COMMAND
+    NO_COMMAND
 }
 
 // The status of a call with these words, where they could be read.
-fn serve<K: PatternMaker, F: Shelf, O: Sink, E: Sink>(
+fn serve<R: Threads + Wait + Sync, K: PatternMaker, F: Shelf, O: Sink, E: Sink>(
+    rt: &R,
     alloc: Global,
     key: HashKey,
     words: io::Result<Vec<String>>,
@@ -66,14 +65,14 @@ fn serve<K: PatternMaker, F: Shelf, O: Sink, E: Sink>(
     err: &mut E,
 ) -> u8
     ensures called { IfOk words (λ read. (report : Option Report)
-        × IsCall (sight K.memory F.holds F.state F.S.state O.state E.state)
+        × IsProgramCall (sight K.memory F.holds F.state F.S.state O.state E.state)
         (world maker.old shelf.old out.old err.old) (world maker.new shelf.new out.new err.new)
         (map string_bytes read.items) result report) }
     ensures unread { IfErr words (λ fault. (maker.new ≡ maker.old) × (shelf.new ≡ shelf.old) × (out.new ≡ out.old)
         × IsUnreadable (E.state err.old) (E.state err.new) fault result) }
 {
     match words {
-        Ok(words) => quiet_stats_with(alloc, key, &words, maker, shelf, out, err).status,
+        Ok(words) => envoy_stats_with(rt, alloc, key, &words, maker, shelf, out, err).status,
         Err(fault) => refuse(err, fault),
     }
 }
@@ -94,11 +93,13 @@ fn main(rt: HostRuntime) -> ExitCode {
     let words = words_of(&rt);
     let key = drawn_key(&rt);
     let status = serve::<
+        HostRuntime,
         RegexMaker,
         FolderShelf<'_, HostRuntime>,
         StdSink<Stdout>,
         StdSink<Stderr>,
     >(
+        &rt,
         rt.alloc(),
         key,
         words,

@@ -2,3 +2,4 @@ mod UnopenedFiles
 pub mod ReadSoFar
 pub mod ReadToEnd
 pub mod FileOpened
+pub mod HeldAlike

@@ -82,7 +82,7 @@ loads-write-none [] k id = refl
 loads-write-none (r ∷ rs) k id =
     let rest = loads-write-none rs (after_gauge_step (gauge_step gauge.Load r.id.0 0 r.word) k) id in let none = when-none (r.id.0 == id) in omega (arith, rest, none)
 
-loads-keep : (rs : List Reading) (k : GaugeKnown) → ((after_gauge_loads rs k).taken ≡ k.taken) × ((after_gauge_loads rs k).own.workers ≡ k.own.workers)
+pub loads-keep : (rs : List Reading) (k : GaugeKnown) → ((after_gauge_loads rs k).taken ≡ k.taken) × ((after_gauge_loads rs k).own.workers ≡ k.own.workers)
 loads-keep [] k = (refl, refl)
 loads-keep (r ∷ rs) k = loads-keep rs (after_gauge_step (gauge_step gauge.Load r.id.0 0 r.word) k)
 

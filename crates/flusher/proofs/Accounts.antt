@@ -25,7 +25,7 @@ use Rattle.book_access.specs.Making.{IsAsFound}
 use Rattle.locked_book.specs.declared.listing.Listing.{Listing}
 use Rattle.locked_book.specs.Lists.{SweepsListed}
 use Rattle.flush_words.specs.Words.{after_latches, after_gauge_loads}
-use Rattle.flush_words.proofs.Appending.{latches-keep, loads-write-none}
+use Rattle.flush_words.proofs.Appending.{loads-keep, latches-keep, loads-write-none}
 use Rattle.flush_cells.specs.declared.tokens.FlushCell.{FlushCell}
 use Rattle.flush_cells.specs.Cells.{cell_of}
 use Rattle.flush_cells.specs.Asks.{AsksEach}
@@ -49,11 +49,12 @@ use Rattle.flusher.proofs.Taking.{new-in-step, many-halves, round-parts, round-o
 
 pub new-accounts : (of : StoreIds) (seat : LogKnown) (counters : CounterKnown) (gauges : GaugeKnown) (tokens : List FlushCell)
     → seat.made ≡ [] → (counters.own.steps ≡ []) × (counters.taken ≡ []) → (gauges.own.steps ≡ []) × (gauges.taken ≡ []) → All IsNewToken tokens → length tokens ≡ seat.workers
-    → FlusherAccounts (new_flusher of seat counters gauges tokens)
-new-accounts of seat counters gauges tokens made counts words new many = record {
+    → (counters.own.workers ≡ length tokens) × (gauges.own.workers ≡ length tokens) → FlusherAccounts (new_flusher of seat counters gauges tokens)
+new-accounts of seat counters gauges tokens made counts words new many sized = record {
   latched = λ id. ap (λ l. latches id l) counts.0;
   idle = λ id. ap (λ l. written id l) words.0;
   alone = (words.1, counts.1);
+  sized = sized;
   each = tt;
   rise = λ k short. absurd (omega (arith, short));
   sweeps = made;
@@ -69,6 +70,7 @@ accounts-found k seat c none was = record {
   latched = was.latched;
   idle = was.idle;
   alone = was.alone;
+  sized = was.sized;
   each = still-flushed k.seat seat k.flushes (found-further k.seat seat c) was.each;
   rise = was.rise;
   sweeps = made ∙ was.sweeps;
@@ -113,6 +115,7 @@ accounts-begun k seat listing tokens c number none asks cells was =
       latched = was.latched;
       idle = was.idle;
       alone = was.alone;
+      sized = (was.sized.0 ∙ sym many, was.sized.1 ∙ sym many);
       each = still-flushed k.seat seat k.flushes further was.each;
       rise = was.rise;
       sweeps = swept-made listing k.seat seat c number ∙ ap (λ (l : List Entry). l ++ (begun_by seat listing).sweep ∷ []) swept-before;
@@ -164,6 +167,7 @@ accounts-looked k parents tokens passes cells was =
       latched = was.latched;
       idle = was.idle;
       alone = was.alone;
+      sized = (was.sized.0 ∙ sym many, was.sized.1 ∙ sym many);
       each = was.each;
       rise = was.rise;
       sweeps = was.sweeps;
@@ -207,7 +211,7 @@ pub passed-or-not : {T E : Type 0} (r : Result T E) {P Q : Type 0} → OnOk r P 
 passed-or-not (Ok x) ok err = inr ok
 passed-or-not (Err e) ok err = err
 
-are-latches : (ds : List Delta) (k : CounterKnown) → Latches ds k.own.steps (after_latches ds k).own.steps
+pub are-latches : (ds : List Delta) (k : CounterKnown) → Latches ds k.own.steps (after_latches ds k).own.steps
 are-latches [] k = refl
 are-latches (d ∷ ds) k = are-latches ds (after_step (step_of count.Latch d.id.0 0 d.n) k)
 
@@ -253,6 +257,7 @@ module _ (k : FlusherKnown) (begun : Begun) (shown : FlushRecord) (was : Flusher
         ∙ ap (λ (l : List FlushRecord). flushed id l) (sym (map-append (λ (flush : FlushTold). flush.shown) k.flushes (told ∷ [])));
     idle = λ id. loads-write-none shown.gauges k.gauges id ∙ was.idle id;
     alone = (gauge_loads-taken shown.gauges k.gauges ∙ was.alone.0, (latches-keep shown.deltas k.counters).0 ∙ was.alone.1);
+    sized = ((latches-keep shown.deltas k.counters).1 ∙ was.sized.0, (loads-keep shown.gauges k.gauges).1 ∙ was.sized.1);
     each = all-push (FlushAccounts (rules_by k.seat) k.seat.workers k.seat.known false) k.flushes told told-accounts was.each;
     rise = places-rise;
     sweeps = was.sweeps

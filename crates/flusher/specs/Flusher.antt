@@ -192,6 +192,8 @@ pub record FlusherAccounts (k : FlusherKnown) : Type 0 where
   pub latched : (id : ℕ) → latches id k.counters.own.steps ≡ flushed id (map (λ flush. flush.shown) k.flushes)
   pub idle : (id : ℕ) → written id k.gauges.own.steps ≡ 0
   pub alone : (k.gauges.taken ≡ []) × (k.counters.taken ≡ [])
+  -- its banks are of as many workers as it has tokens of
+  pub sized : (k.counters.own.workers ≡ length k.tokens) × (k.gauges.own.workers ≡ length k.tokens)
   -- each flush accounts for the log that its seat knows; their places rise; and its seat made their sweeps alone, and
   -- that of the round that is begun
   pub each : AllByRecursion (FlushAccounts (rules_by k.seat) k.seat.workers k.seat.known false) k.flushes

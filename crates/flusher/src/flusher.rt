@@ -65,6 +65,8 @@ impl Flusher {
         requires gauges { ((gauge_known gauges).own.steps ≡ []) × ((gauge_known gauges).taken ≡ []) }
         requires cells { (cells.parents ≡ new_parents) × All IsNewToken cells.tokens.items }
         requires workers { length cells.tokens.items ≡ (known_by seat).workers }
+        requires sized { ((flush_known counters).own.workers ≡ length cells.tokens.items)
+            × ((gauge_known gauges).own.workers ≡ length cells.tokens.items) }
         ensures { result ≡ new_flusher
             (ids_by (record { seat = seat; counters = counters; gauges = gauges; cells = cells }))
             (known_by seat) (flush_known counters) (gauge_known gauges) cells.tokens.items }

@@ -13,8 +13,8 @@ use stat_book::Book;
 use stat_defs::{Entry, Kind, List, MetricId, NoMemory};
 use std::alloc::Global;
 
-/// What a book leaves: the listing of its last sweep, all counters that were ever made, rising, and all calls with their
-/// replies.
+/// What a book leaves: the listing of its last sweep, all counters that were ever made, rising, and all calls with
+/// their replies.
 #[derive(Drop)]
 pub struct BookEnd {
     pub listing: Listing,

@@ -4,3 +4,4 @@ pub mod Composing
 pub mod Words
 pub mod OneByOne
 pub mod Gathered
+pub mod NeverMade

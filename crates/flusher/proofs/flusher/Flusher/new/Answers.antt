@@ -23,4 +23,4 @@ invariant_of-result c =
       flushes = sym (ap (map told_by) c.new.ensures) i;
       round = None;
     })
-    (new-accounts of (known_by a.seat) (flush_known a.counters) (gauge_known a.gauges) a.cells.tokens.items c.requires.seat c.requires.counters c.requires.gauges c.requires.cells.1 c.requires.workers)
+    (new-accounts of (known_by a.seat) (flush_known a.counters) (gauge_known a.gauges) a.cells.tokens.items c.requires.seat c.requires.counters c.requires.gauges c.requires.cells.1 c.requires.workers c.requires.sized)

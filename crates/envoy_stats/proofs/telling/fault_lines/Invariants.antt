@@ -1,9 +1,0 @@
-use Rattle.std.proofs.Common.{◌≡◌, ◌+◌, ◌++◌, drop, map}
-use Rattle.envoy_stats.specs.FaultLines.{fault_lines}
-use Rattle.envoy_stats.proofs.telling.fault_lines.Given as goal
-
-abbrev pub invariant-loop-end : goal.invariant-loop-end
-invariant-loop-end l = record {
-  text : l.text.items ++ fault_lines l.number (map (λ end. end.end) (drop l.end-index l.ends)) ≡ fault_lines 1 (map (λ end. end.end) l.ends);
-  numbered : l.number ≡ l.end-index + 1;
-}

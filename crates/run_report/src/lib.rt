@@ -1,0 +1,6 @@
+//! The report of files that are read and applied side by side, a worker a file, over a store that threads share.
+#![tactic(auto)]
+
+mod running;
+
+pub use running::run_names;

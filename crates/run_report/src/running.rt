@@ -1,0 +1,38 @@
+//! The report of files.
+ghost use Rattle.std.specs.Prelude.{◌≡◌, ◌≤◌, length, map, string_bytes, IfOk};
+ghost use Rattle.stat_defs.specs.Configs.{IsConfig};
+ghost use Rattle.replay_report.specs.declared.replaying.TheConstants as limits;
+ghost use Rattle.run_report.specs.RunReport.{IsRunOf};
+
+use name_map::HashKey;
+use stat_defs::{Config, NoMemory, Report};
+use stats_io::Shelf;
+use std::alloc::Global;
+use std::sync::Wait;
+use std::thread::Threads;
+use tag_rules::{Matcher, TagRules};
+
+/// Opens the files of a shelf in order, and reads them side by side, each by a worker of its own that applies its events
+/// to one store, beside a flusher and a reader that are paced by events. The report has all flushes, the last one behind
+/// the workers' ends, and all readings. A file that cannot be opened has no events. Rules and matcher are those that were
+/// built from the configuration. Tables are hashed under the key, which only speed depends on. May wait.
+pub fn run_names<R: Threads + Wait + Sync, F: Shelf>(
+    rt: &R,
+    alloc: Global,
+    key: HashKey,
+    config: &Config,
+    rules: TagRules,
+    matcher: Matcher,
+    names: &[String],
+    shelf: &mut F,
+) -> Result<Report, NoMemory>
+    requires lawful { IsConfig config.now }
+    requires rules { rules ≡ config.now.tags }
+    requires matcher { matcher ≡ config.now.matcher }
+    requires some { 1 ≤ length names.now }
+    requires few { length names.now ≤ limits.MAX_FILES }
+    ensures { IfOk result (IsRunOf F.state F.S.state (F.holds shelf.old) config.now (map string_bytes names.now)
+        shelf.old shelf.new) }
+{
+    Err(NoMemory)
+}

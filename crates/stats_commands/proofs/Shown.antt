@@ -1,0 +1,32 @@
+-- The report of a replay can be shown.
+use Rattle.std.proofs.Common.{◌≡◌, ◌≤◌, ◌∙◌, ℕ, Option, List, length, map, refl, arith}
+use Rattle.std.proofs.lemmas.List.{length-map}
+use Rattle.stat_defs.specs.Configs.{IsConfig}
+use Rattle.stats_io.specs.States.{SourceState, ShelfState}
+use Rattle.book_state.specs.declared.limits.TheConstants.{MAX_WORKERS}
+use Rattle.flush_view.proofs.Showable.{ledgers_show}
+use Rattle.replay_report.specs.declared.replaying.TheConstants.{MAX_FILES}
+use Rattle.file_reading.specs.FileRead.{FileRead}
+use Rattle.replay_report.specs.ReplayReport.{IsReplayOf}
+use Rattle.stats_commands.specs.Replay.{IsRecorded, Records}
+use Rattle.stats_commands.specs.declared.replay.Recorded.{Recorded}
+
+module _ {F S : Type 0} (shelf : F → ShelfState) (source : S → SourceState) (holds : List ℕ → Option (List ℕ)) where
+  pub records : (names : List (List ℕ)) (before after : F) (recorded : Recorded)
+      → IsConfig recorded.config → recorded.rules ≡ recorded.config.tags → recorded.buckets ≡ recorded.config.buckets → length names ≤ MAX_FILES
+      → IsReplayOf shelf source holds recorded.config names before after recorded.report
+      → Records (IsReplayOf shelf source holds) recorded.config names before after recorded
+  records names before after recorded lawful rules buckets few is =
+      let many : length (map holds names) ≡ length names = length-map names holds in
+      let within : length (map holds names) ≤ MAX_WORKERS = omega (arith, many, few) in
+      record {
+        config_is = refl;
+        comes = is;
+        recorded_is = record {
+          rules = rules;
+          buckets = buckets;
+          showable = ledgers_show.replay recorded.config (map holds names) (map (λ (file : FileRead). file.events) is.files) recorded.report
+              lawful within is.ledger;
+          few = omega (arith, is.ledger.read.an_end_each, many, few);
+        };
+      }

@@ -1,0 +1,7 @@
+pub mod World
+pub mod FaultLines
+pub mod BinLines
+pub mod LoadedLine
+pub mod Command
+pub mod Outcome
+pub mod Replay

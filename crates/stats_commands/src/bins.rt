@@ -1,0 +1,74 @@
+//! `bins V..`.
+ghost use Rattle.std.specs.Prelude.{◌≡◌, None, IfOk, map, string_bytes};
+ghost use Rattle.std.specs.List.{filter_map};
+ghost use Rattle.stats_commands.specs.Command.{value_in};
+ghost use Rattle.stats_commands.specs.BinLines.{value_line, bin_line, bin_lines};
+ghost use Rattle.stats_commands.specs.Outcome.{Prints};
+
+use crate::command::value_in;
+use crate::outcome::{Outcome, give_up, print};
+use loglinear_bins::bin_of;
+use stat_defs::{Bin, NoMemory};
+use stats_io::Sink;
+use std::alloc::Global;
+
+// The line on a value with its bin.
+fn value_line(alloc: Global, value: u64, bin: Bin) -> Result<String, NoMemory>
+    ensures { IfOk result (λ text. string_bytes text ≡ value_line value bin) }
+{
+    let Bin { val, exp } = bin;
+    Ok(format!(in alloc; "{value} {val} {exp}\n")?)
+}
+
+fn bin_line(alloc: Global, value: u64) -> Result<String, NoMemory>
+    ensures { IfOk result (λ text. string_bytes text ≡ bin_line value) }
+{
+    value_line(alloc, value, bin_of(value))
+}
+
+// The values that the words say.
+fn values_in(alloc: Global, words: &[String]) -> Result<Vec<u64>, NoMemory>
+    ensures { IfOk result (λ values. values.items ≡ filter_map (λ word. value_in (string_bytes word)) words.now) }
+{
+    Ok(
+        words
+            .iter()
+            .filter_map(|word| value_in(word.as_str()))
+            .collect(alloc)?,
+    )
+}
+
+// A line for each value.
+fn bin_lines(alloc: Global, values: &[u64]) -> Result<Vec<u8>, NoMemory>
+    ensures { IfOk result (λ text. text.items ≡ bin_lines values.now) }
+{
+    let mut text = Vec::new(alloc);
+    for value in values {
+        let line = bin_line(alloc, *value)?;
+        text.extend_from_slice(line.as_bytes())?;
+    }
+    Ok(text)
+}
+
+// The lines on the values that the words say.
+fn lines_of(alloc: Global, words: &[String]) -> Result<Vec<u8>, NoMemory>
+    ensures { IfOk result (λ text. text.items ≡ bin_lines (filter_map value_in (map string_bytes words.now))) }
+{
+    let values = values_in(alloc, words)?;
+    bin_lines(alloc, &values)
+}
+
+/// Tells the bins of the values that the words say.
+pub fn bins<O: Sink, E: Sink>(alloc: Global, words: &[String], out: &mut O, err: &mut E) -> Outcome
+    ensures report { result.report ≡ None }
+    ensures printed { Prints O.state out.old out.new (E.state err.old) (E.state err.new)
+        (bin_lines (filter_map value_in (map string_bytes words.now))) result.status }
+{
+    match lines_of(alloc, words) {
+        Ok(text) => Outcome {
+            status: print(&text, out, err),
+            report: None,
+        },
+        Err(NoMemory) => give_up(err),
+    }
+}

@@ -1,0 +1,21 @@
+//! The commands of the statistics store that start no thread: the words that say them, the statuses, and what is written
+//! and said.
+#![tactic(auto)]
+
+mod bins;
+mod check;
+mod command;
+mod outcome;
+mod quiet;
+mod replay;
+mod reporting;
+mod status;
+mod telling;
+
+pub use command::{Command, MAX_VALUES, command_of};
+pub use outcome::{Outcome, give_up, refuse_boot};
+pub use quiet::{quiet_stats, quiet_stats_with};
+pub use replay::{Recorded, tell};
+pub use reporting::Reporting;
+pub use status::{BAD_BOOT, BAD_FILE, DONE, NO_COMMAND, NO_MEMORY, UNREADABLE, UNWRITTEN};
+pub use telling::{OUT_OF_MEMORY, USAGE, say};

@@ -1,0 +1,91 @@
+//! The commands that start no thread.
+ghost use Rattle.std.specs.Prelude.{◌≡◌, None, map, string_bytes};
+ghost use Rattle.stats_commands.specs.Command.{quiet_command};
+ghost use Rattle.stats_commands.specs.FaultLines.{usage};
+ghost use Rattle.stats_commands.specs.World.{world, sight};
+ghost use Rattle.stats_commands.specs.Outcome.{IsSaid, IsCall};
+ghost use Rattle.stats_commands.specs.declared.status.TheConstants as statuses;
+
+use crate::bins::bins;
+use crate::check::check;
+use crate::command::{Command, command_of};
+use crate::outcome::Outcome;
+use crate::replay::replay;
+use crate::status;
+use crate::telling::{USAGE, say};
+use name_map::HashKey;
+use stats_io::{Shelf, Sink};
+use std::alloc::Global;
+use tag_rules::PatternMaker;
+
+// Says that the words are no command.
+fn refuse_words<E: Sink>(err: &mut E) -> Outcome
+    ensures outcome { result ≡ record { status = statuses.NO_COMMAND; report = None } }
+    ensures said { IsSaid (E.state err.old) (E.state err.new) usage }
+{
+    say(err, USAGE);
+    Outcome {
+        status: status::NO_COMMAND,
+        report: None,
+    }
+}
+
+/// The commands that start no thread: `run` is none here. `replay [--symbols] [--format F] BOOT FILE..` loads a bootstrap, applies the
+/// events of 1 to 32 files one after another to one store, and writes its one flush in the format that is asked for:
+/// `statsd`, which is usual, `prom` or `admin`. `check BOOT` loads a bootstrap with all its patterns and writes a line
+/// on it. `bins V..` writes the bin of each of 1 to 64 values.
+///
+/// - Status 0: every file was read to its end, or the command has none, and all was written.
+/// - Status 1: the words are no command. Nothing was opened or written.
+/// - Status 2: the bootstrap was read, or is `-`, and is at fault, or one of its patterns was refused. Nothing was
+///   written.
+/// - Status 3: the first file that was not read whole has a line of no meaning or past a limit. What stands before is
+///   applied.
+/// - Status 4: that file could not be opened or read on; the whole lines before that are applied. Or the bootstrap
+///   could not be read, and nothing was written.
+/// - Status 5: a push on `out` failed. A front of the output was written.
+/// - Status 6: memory was wanting.
+///
+/// `err` is told each of these but 0, in a line, and every file that was not read whole has its line. A fault of `err`
+/// changes nothing else. Names are looked up under the key, which only speed depends on.
+pub fn quiet_stats_with<K: PatternMaker, F: Shelf, O: Sink, E: Sink>(
+    alloc: Global,
+    key: HashKey,
+    words: &[String],
+    maker: &mut K,
+    shelf: &mut F,
+    out: &mut O,
+    err: &mut E,
+) -> Outcome
+    // Status 1 is that of words that are no command, and what comes of each command is told by one relation each.
+    ensures { IsCall (sight K.memory F.holds F.state F.S.state O.state E.state)
+        (world maker.old shelf.old out.old err.old) (world maker.new shelf.new out.new err.new)
+        (quiet_command (map string_bytes words.now)) result.status result.report }
+{
+    let Some(command) = command_of(words) else {
+        return refuse_words(err);
+    };
+    match command {
+        Command::Run(_) => refuse_words(err),
+        Command::Replay(asked) => replay(alloc, key, asked, maker, shelf, out, err),
+        Command::Check { boot } => check(alloc, boot, maker, shelf, out, err),
+        Command::Bins { values } => bins(alloc, values, out, err),
+    }
+}
+
+/// The same under the fixed key: what is written and said does not depend on it.
+pub fn quiet_stats<K: PatternMaker, F: Shelf, O: Sink, E: Sink>(
+    alloc: Global,
+    words: &[String],
+    maker: &mut K,
+    shelf: &mut F,
+    out: &mut O,
+    err: &mut E,
+) -> Outcome
+    // Status 1 is that of words that are no command, and what comes of each command is told by one relation each.
+    ensures { IsCall (sight K.memory F.holds F.state F.S.state O.state E.state)
+        (world maker.old shelf.old out.old err.old) (world maker.new shelf.new out.new err.new)
+        (quiet_command (map string_bytes words.now)) result.status result.report }
+{
+    quiet_stats_with(alloc, HashKey::fixed(), words, maker, shelf, out, err)
+}

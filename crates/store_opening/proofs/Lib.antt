@@ -1,0 +1,4 @@
+mod NewWorkers
+mod NewTokens
+mod NewParties
+mod Dealt

@@ -1,0 +1,4 @@
+pub mod Cells
+pub mod Made
+pub mod Dealing
+pub mod Opening
