@@ -122,11 +122,11 @@ module _ {S : Type 0} (state : S → SourceState) (config : Config) (store : Sto
   accounted =
       subst (λ (r : Report). RunAccounts (plan_of config) (map events_by workers) told r) (sym reported)
       (subst (λ (es : List (List Event)). RunAccounts (plan_of config) es told
-          (record (report_told told last.log) { ends = map (λ x. x.end) workers })) (told_events workers)
+      (record (report_told told last.log) { ends = map (λ x. x.end) workers })) (told_events workers)
       (subst (λ (p : RunPlan). RunAccounts p (events_told told) told
-          (record (report_told told last.log) { ends = map (λ x. x.end) workers })) planned
+      (record (report_told told last.log) { ends = map (λ x. x.end) workers })) planned
       (with_ends (plan_told (first_of store.book).config told) (events_told told) told (report_told told last.log)
-          (map (λ x. x.end) workers) closes.accounts)))
+      (map (λ x. x.end) workers) closes.accounts)))
 
   -- the run of these files
   pub run_made : IsRunOf state config files report
