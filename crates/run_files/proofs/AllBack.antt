@@ -19,8 +19,8 @@ use Rattle.run_files.specs.Gathering.{AreGathered}
 use Rattle.run_files.specs.Returning.{AreBack}
 
 -- what holds of results that all came holds of what came
-came_all : {X Y E : Type 0} (P : X → Y → Type 0) (xs : List X) (ys : List Y)
-    → AllZip (λ x (r : Result Y E). IfOk r (P x)) xs (map Ok ys) → AllZip P xs ys
+came_all : {X Y : Type 0} (P : X → Y → Type 0) (xs : List X) (ys : List Y)
+    → AllZip (λ x (r : Result Y NoMemory). IfOk r (P x)) xs (map Ok ys) → AllZip P xs ys
 came_all P [] [] all = tt
 came_all P [] (y ∷ ys) all = absurd all
 came_all P (x ∷ xs) [] all = absurd all

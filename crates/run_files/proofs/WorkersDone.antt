@@ -1,5 +1,5 @@
 -- What the workers of a run did with their files.
-use Rattle.std.proofs.Common.{◌≡◌, ℕ, suc, List, [], ◌∷◌, map, length, refl, sym, ap, ◌∙◌, subst}
+use Rattle.std.proofs.Common.{◌≡◌, ℕ, suc, None, List, [], ◌∷◌, map, length, refl, sym, ap, ◌∙◌, subst}
 use Rattle.std.specs.List.{AllZip, AllByRecursion, zip}
 use Rattle.stat_defs.specs.declared.events.Event.{Event}
 use Rattle.stat_defs.specs.declared.history.Verdict.{Verdict}
@@ -50,7 +50,7 @@ module _ {S : Type 0} (state : S → SourceState) where
       → IsRun (content_of state file) end.end end.taken events
   file_run (Opened source) events end read = read.is_run
   file_run Missing events end read =
-      subst (λ (e : WorkerEnd). IsRun (content_of state (Missing {S})) e.end e.taken events) (sym read.1) read.0
+      subst (λ (e : WorkerEnd). IsRun None e.end e.taken events) (sym read.1) read.0
 
   file_counted : (file : Given S) (events : List Event) (end : WorkerEnd) → IsFileRead state file events end
       → TakenAtFault end.end end.taken
