@@ -1,10 +1,10 @@
 -- What the workers did, with one worker more.
-use Rattle.std.proofs.Common.{◌≡◌, ℕ, ◌+◌, ◌≤◌, Ok, List, [], ◌∷◌, ◌++◌, map, refl, ap, sym, ◌∙◌, arith}
+use Rattle.std.proofs.Common.{◌≡◌, ℕ, ◌≤◌, Ok, List, [], ◌∷◌, ◌++◌, refl, ap, sym, ◌∙◌, arith}
 use Rattle.std.specs.declared.result.Result.{Result}
 use Rattle.stat_defs.specs.declared.memory.NoMemory.{NoMemory}
 use Rattle.worker_run.specs.declared.given.Worked.{Worked}
 use Rattle.run_files.specs.declared.gathering.Gathered.{Gathered}
-use Rattle.run_files.specs.Gathering.{HasRoom, Puts, AreOf, AreGathered}
+use Rattle.run_files.specs.Gathering.{HasRoom, Puts, AreGathered}
 use Rattle.run_files.proofs.Places.{map_more}
 
 pub fewer_room : (n m : ℕ) (all : Gathered) → m ≤ n → HasRoom n all → HasRoom m all

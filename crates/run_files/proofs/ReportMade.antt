@@ -4,7 +4,6 @@ use Rattle.std.specs.List.{AllZip, zip}
 use Rattle.std.proofs.lemmas.List.{map-append}
 use Rattle.stat_defs.specs.declared.configs.Config.{Config}
 use Rattle.stat_defs.specs.declared.events.Event.{Event}
-use Rattle.stat_defs.specs.declared.history.Verdict.{Verdict}
 use Rattle.stat_defs.specs.declared.reports.FlushRecord.{FlushRecord}
 use Rattle.stat_defs.specs.declared.reports.LastFlush.{LastFlush}
 use Rattle.stat_defs.specs.declared.reports.ReadRecord.{ReadRecord}
@@ -14,7 +13,7 @@ use Rattle.stats_io.specs.States.{SourceState}
 use Rattle.locked_book.specs.Sharing.{first_of}
 use Rattle.ledger.specs.Ledger.{RunPlan, plan_of}
 use Rattle.ledger.specs.Work.{events_in, verdicts_in}
-use Rattle.run_ledger.specs.Told.{RunTold, FlushTold, ReadTold, WorkerTold}
+use Rattle.run_ledger.specs.Told.{RunTold, FlushTold, ReadTold}
 use Rattle.run_ledger.specs.Accounts.{RunAccounts}
 use Rattle.run_ledger.proofs.Accounts.{run_accounts}
 use Rattle.store_parts.specs.declared.store.Store.{Store}

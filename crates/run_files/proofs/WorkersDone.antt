@@ -14,7 +14,6 @@ use Rattle.ledger.specs.Ledger.{AreRead, TakenAtFault}
 use Rattle.ledger.specs.Lists.{EachNumbered}
 use Rattle.ledger.specs.Work.{Work, events_in, verdicts_in}
 use Rattle.store_parts.specs.declared.store.Store.{Store}
-use Rattle.recorder.specs.declared.ended.Ended.{Ended}
 use Rattle.recorder.specs.Tied.{HasEnded}
 use Rattle.worker_run.specs.declared.given.Given.{Given}
 use Rattle.worker_run.specs.declared.given.Given.TheVariants.{Opened, Missing}
