@@ -1,0 +1,2 @@
+pub mod JobsDone
+pub mod Places
