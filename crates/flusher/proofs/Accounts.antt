@@ -211,7 +211,7 @@ pub passed-or-not : {T E : Type 0} (r : Result T E) {P Q : Type 0} → OnOk r P 
 passed-or-not (Ok x) ok err = inr ok
 passed-or-not (Err e) ok err = err
 
-are-latches : (ds : List Delta) (k : CounterKnown) → Latches ds k.own.steps (after_latches ds k).own.steps
+pub are-latches : (ds : List Delta) (k : CounterKnown) → Latches ds k.own.steps (after_latches ds k).own.steps
 are-latches [] k = refl
 are-latches (d ∷ ds) k = are-latches ds (after_step (step_of count.Latch d.id.0 0 d.n) k)
 

@@ -1,2 +1,4 @@
 pub mod Workers
-pub mod Rounds
+pub mod Flushes
+pub mod Readings
+pub mod Gathering

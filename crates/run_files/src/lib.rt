@@ -4,7 +4,10 @@
 //! it tells through the join.
 #![tactic(auto)]
 
+mod flushes;
+mod gathering;
 mod hall;
 mod jobs;
 mod readings;
+mod side_by_side;
 mod workers;

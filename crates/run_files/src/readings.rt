@@ -1,7 +1,7 @@
 //! The readings of a run.
 ghost use Rattle.std.specs.Prelude.{◌≡◌, ◌+◌, ◌++◌, ◌∷◌, [], IfOk, OnOk, length};
 ghost use Rattle.admin_side.specs.Reader.{IsReaderOf};
-ghost use Rattle.run_files.specs.Rounds.{HasRead};
+ghost use Rattle.run_files.specs.Readings.{HasRead, AreReadings};
 
 use crate::hall::Hall;
 use admin_side::Admin;
@@ -65,8 +65,7 @@ pub(crate) fn read_all<R: Wait, G: Gate>(
     rounds: u32,
 ) -> Result<Readings, NoMemory>
     requires { HasRead hall.now.store.now [] admin }
-    ensures read { IfOk result (λ readings. HasRead hall.now.store.now readings.records.items readings.admin) }
-    ensures count { IfOk result (λ readings. length readings.records.items ≡ rounds) }
+    ensures { IfOk result (AreReadings hall.now.store.now rounds) }
 {
     match read_rounds(hall, &mut admin, rounds) {
         Ok(records) => Ok(Readings { records, admin }),

@@ -34,7 +34,7 @@ use Rattle.locked_book.proofs.OfKind.{few_metrics}
 use Rattle.metric_words.specs.declared.counter_view.CountPart.{CountPart}
 use Rattle.metric_words.specs.declared.counter_view.CountStep.{CountStep}
 use Rattle.metric_words.specs.declared.gauge_view.GaugePart.{GaugePart}
-use Rattle.metric_words.specs.Counters.{latches}
+use Rattle.metric_words.specs.Counters.{firsts, latches}
 use Rattle.metric_words.specs.CounterLaws.{IsCounterEnd}
 use Rattle.metric_words.specs.CounterLedger.{worker_part}
 use Rattle.metric_words.specs.GaugeLedger.{gauge_part}
@@ -50,15 +50,19 @@ use Rattle.run_ledger.specs.Told.{WorkerTold, FlushTold, ReadTold, RunTold, all_
 use Rattle.run_ledger.specs.Accounts.{RunAccounts, WorkerAccounts, FlushAccounts, ReadAccounts, CountersAccount, CounterAtEnd, IsLatched, IsLogOf, IsTold, LeftBy, listed}
 use Rattle.run_ledger.proofs.Grows.{run_grows}
 use Rattle.run_ledger.proofs.Ends.{run_ends}
+use Rattle.run_ledger.proofs.Readings.{found_few}
 use Rattle.store_parts.specs.declared.store.Store.{Store}
 use Rattle.recorder.specs.declared.ended.Ended.{Ended}
 use Rattle.recorder.specs.Ending.{told_at_end}
 use Rattle.admin_side.specs.Reader.{ReaderKnown, ReaderAccounts}
 use Rattle.admin_side.proofs.Listed.{listed-is}
+use Rattle.flusher.proofs.Accounts.{are-latches}
+use Rattle.flusher.proofs.Rising.{rises-more}
 use Rattle.flusher.specs.Flusher.{FlusherKnown, FlusherAccounts, at_of, sweeps_of}
 use Rattle.store_closing.specs.Closes.{HaveEnded, Closes, IsEmptied, told_of, plan_told, events_told, report_told}
 use Rattle.store_closing.specs.Pieces.{EndsCounters, seats_at_end, counts_at_end, gauges_at_end}
-use Rattle.store_closing.proofs.Reports.{apart_own, flushes_on, reads_on, each_and_last, rising_and_last, latches_are}
+use Rattle.store_closing.proofs.Reports.{apart_own, flushes_on, reads_on, each_and_last}
+use Rattle.store_closing.proofs.NeverMade.{never_added, never_pending}
 use Rattle.store_closing.proofs.Parties.{workers_account}
 
 -- the sweep that the book logged last
@@ -202,17 +206,16 @@ module _ (store : Store) (ended : List Ended) (flusher : FlusherKnown) (reader :
         (subst (λ (rules : NameRules). AllByRecursion (ReadAccounts rules reader.seat.workers reader.seat.known) reader.reads) (ap rules_of by_reader.made_with) ra.each))
 
     -- the places of flushes rise
-    below_last : AllByRecursion (λ n. n < shown.at) (map shown_at flusher.flushes)
+    below_last : AllByRecursion (λ f. shown_at f < shown.at) flusher.flushes
     below_last =
-        all_mapped shown_at (λ n. n < shown.at) flusher.flushes
-        (all_as (FlushAccounts R W flusher.seat.known false) (λ f. shown_at f < shown.at) flusher.flushes (λ f is.
-            let place = is.at in
-            let whole = ap (λ (l : List Entry). length l) is.whole in
-            let parts = length-append f.found (f.sweep ∷ is.behind) in
-            let known = ap (λ (l : List Entry). length l) by_flusher.known.1 in
-            let more = length-append flusher.seat.known by_flusher.known.0 in
-            let here = at ∙ sweeps.lists.at in
-            omega (arith, place, whole, parts, known, more, here)) flushes_known)
+        all_as (FlushAccounts R W flusher.seat.known false) (λ f. shown_at f < shown.at) flusher.flushes (λ f is.
+        let place = is.at in
+        let whole = ap (λ (l : List Entry). length l) is.whole in
+        let parts = length-append f.found (f.sweep ∷ is.behind) in
+        let known = ap (λ (l : List Entry). length l) by_flusher.known.1 in
+        let more = length-append flusher.seat.known by_flusher.known.0 in
+        let here = at ∙ sweeps.lists.at in
+        omega (arith, place, whole, parts, known, more, here)) flushes_known
 
     flush_places : map (λ (f : FlushRecord). f.at) (map (λ (f : FlushTold). f.shown) (all_flushes told)) ≡ map shown_at flusher.flushes ++ shown.at ∷ []
     flush_places = map-map (λ (f : FlushRecord). f.at) (λ (f : FlushTold). f.shown) (all_flushes told) ∙ map-append shown_at flusher.flushes (flush ∷ [])
@@ -268,7 +271,7 @@ module _ (store : Store) (ended : List Ended) (flusher : FlusherKnown) (reader :
 
     latched_is : (id : ℕ) → latches id told.flusher ≡ flushed id (map (λ (f : FlushTold). f.shown) (all_flushes told))
     latched_is id =
-        run_grows.latches id (map (λ (f : FlushTold). f.shown) flusher.flushes) shown flusher.counters.own.steps told.flusher (fa.latched id) (latches_are shown.deltas flusher.counters)
+        run_grows.latches id (map (λ (f : FlushTold). f.shown) flusher.flushes) shown flusher.counters.own.steps told.flusher (fa.latched id) (are-latches shown.deltas flusher.counters)
         ∙ ap (λ (l : List FlushRecord). flushed id l) (sym flushes_shown)
 
     counters_account : CountersAccount (plan_told first.config told) told (report_told told log)
@@ -287,7 +290,7 @@ module _ (store : Store) (ended : List Ended) (flusher : FlusherKnown) (reader :
       legal = subst (λ (n : ℕ). Legal R first.config.scopes n log) (sym count) legal_log;
       last_sweep = refl;
       sweeps = store_entries;
-      flushes_rise = subst IsStrictlyIncreasing (sym flush_places) (rising_and_last (map shown_at flusher.flushes) shown.at fa.rise below_last);
+      flushes_rise = subst IsStrictlyIncreasing (sym flush_places) (rises-more shown_at flusher.flushes shown.at below_last fa.rise);
       reads_rise = subst IsNonDecreasing (sym (map-map (λ (r : ReadRecord). r.at) (λ (r : ReadTold). r.shown) reader.reads)) ra.rise;
     }
 
@@ -310,20 +313,30 @@ module _ (store : Store) (ended : List Ended) (flusher : FlusherKnown) (reader :
     emptied =
         all_as (λ id. IsLatched counts told.flusher id × (id.0 < MAX_METRICS)) (IsEmptied told) (ids_made Counter (replay R W log))
         (λ id both.
-            let is = at_end id.0 both.1 in
-            record {
-              value = is.value;
-              end = record {
-                firsts = is.end.firsts;
-                seconds = is.end.seconds;
-                latched = (let all = both.0 in let sum = is.end.seconds in omega (arith, all, sum));
-                loads = is.end.loads;
-              };
-            })
+        let is = at_end id.0 both.1 in
+        record {
+          value = is.value;
+          end = record {
+            firsts = is.end.firsts;
+            seconds = is.end.seconds;
+            latched = (let all = both.0 in let sum = is.end.seconds in omega (arith, all, sum));
+            loads = is.end.loads;
+          };
+        })
         (all_both (IsLatched counts told.flusher) (λ id. id.0 < MAX_METRICS) (ids_made Counter (replay R W log)) all_latched
         (subst (λ (s : State). AllByRecursion (λ (id : MetricId). id.0 < MAX_METRICS) (ids_made Counter s)) last_state within))
+
+    -- no counter was added to that the log did not make
+    never : (id : ℕ) → length (replay R W log).metrics ≤ id → id < MAX_METRICS → IsEmptied told (record { 0 = id })
+    never id above low =
+        let is = at_end id low in
+        let fewer = found_few R W found.log (sweep_entry found ∷ []) log refl in
+        let none = never_added store found.log id 1 ended (omega (arith, fewer, above)) have.each by_workers in
+        let same = ap (λ (l : List CountPart). total (λ (p : CountPart). firsts id p.steps) l) counts_are in
+        let empty = never_pending id counts told.flusher told.reader is.value is.pending (omega (arith, none, same)) is.end in
+        record { value = is.value; end = subst (λ (n : ℕ). IsCounterEnd id counts told.flusher told.reader is.value n) empty is.end }
 
     pub closes : (lastflush : LastFlush) → lastflush ≡ record { last = shown; log = last.log } → Closes store ended flusher reader lastflush
     closes lastflush is =
         subst (λ (l : LastFlush). Closes store ended flusher reader l) (sym (is ∙ (λ i. record { last = shown; log = (last_is i).log })))
-        (record { flush = flush; shown = refl; accounts = accounts; emptied = emptied })
+        (record { flush = flush; shown = refl; accounts = accounts; emptied = emptied; never = never })

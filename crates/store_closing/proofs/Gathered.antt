@@ -122,6 +122,7 @@ all_ends store n front (c ∷ cells) (t ∷ tokens) (e ∷ ended) whole at same 
         first_or_it : TableId → List TableId → TableId
         first_or_it d [] = d
         first_or_it d (x ∷ xs) = x
+
     rest_same : ◌≡◌ {A = List TableId} (cell_of t ∷ map cell_of tokens) (cell_id c ∷ map cell_id cells) → map cell_of tokens ≡ map cell_id cells
     rest_same e = ap (λ (l : List TableId). tail_of l) e
       where

@@ -1,24 +1,15 @@
 -- What the parties of a store tell, put together: plain facts of lists.
 use Rattle.std.proofs.Common.{◌≡◌, ◌==◌, ◌+◌, ◌-◌, ◌<◌, ◌≤◌, ℕ, zero, suc, Bool, true, false, List, [], ◌∷◌, ◌++◌, map, length, get_or, refl, ap, sym, ◌∙◌, subst, arith, eqb, eq-eqb, ne_eqb, append_assoc}
-use Rattle.std.specs.Prelude.{slice_index}
 use Rattle.std.specs.List.{AllByRecursion, zip}
-use Rattle.std.specs.List.Sorted.{IsStrictlyIncreasing}
-use Rattle.std.proofs.lemmas.List.{map-append, length-append}
 use Rattle.stat_defs.specs.declared.events.Event.{Event}
 use Rattle.stat_defs.specs.declared.history.Entry.{Entry}
 use Rattle.stat_defs.specs.declared.history.Verdict.{Verdict}
-use Rattle.stat_defs.specs.declared.reports.Delta.{Delta}
-use Rattle.metric_words.specs.declared.counter_view.CountKind.TheVariants as count
-use Rattle.metric_words.specs.Counters.{step_of}
-use Rattle.metric_words.specs.CounterLedger.{CounterKnown, after_step}
-use Rattle.flush_words.specs.Words.{after_latches}
 use Rattle.book_state.specs.State.{NameRules}
 use Rattle.ledger.specs.Lists.{EachNumbered}
 use Rattle.ledger.specs.Work.{Work, events_in, verdicts_in, apart}
 use Rattle.ledger.proofs.Members.{all_as}
 use Rattle.run_ledger.specs.Told.{WorkerTold, FlushTold, ReadTold}
 use Rattle.run_ledger.specs.Accounts.{FlushAccounts, ReadAccounts}
-use Rattle.run_ledger.specs.Grows.{Latches}
 use Rattle.run_ledger.proofs.Grows.{run_grows}
 
 cons_both : {X : Type 0} (x y : X) (xs ys : List X) → x ≡ y → xs ≡ ys → ◌≡◌ {A = List X} (x ∷ xs) (y ∷ ys)
@@ -55,37 +46,3 @@ each_and_last P n (x ∷ xs) last count e all at_end = (
   subst (λ (b : Bool). P b x) (sym (ne_eqb (suc n) count (λ (same : suc n ≡ count). omega (arith, e, same)))) all.0,
   each_and_last P (suc n) xs last count (omega (arith, e)) all.1 at_end,
 )
-
--- numbers that rise, each told by its place
-abbrev RisesAt : List ℕ → Type 0
-RisesAt xs = (k : ℕ) → suc k < length xs → slice_index xs k < slice_index xs (suc k)
-
-next_is : (k : ℕ) → k + 1 ≡ suc k
-next_is k = omega arith
-
-rising_at : (xs : List ℕ) → IsStrictlyIncreasing xs → RisesAt xs
-rising_at xs rise = λ k within. subst (λ (m : ℕ). slice_index xs k < slice_index xs m) (next_is k) (rise k (omega (arith, within)))
-
-at_rising : (xs : List ℕ) → RisesAt xs → IsStrictlyIncreasing xs
-at_rising xs rise = λ k within. subst (λ (m : ℕ). slice_index xs k < slice_index xs m) (sym (next_is k)) (rise k (omega (arith, within)))
-
-two_rise : (x y : ℕ) (xs : List ℕ) → x < y → RisesAt (y ∷ xs) → (k : ℕ) → suc k < length (x ∷ (y ∷ xs)) → slice_index (x ∷ (y ∷ xs)) k < slice_index (x ∷ (y ∷ xs)) (suc k)
-two_rise x y xs below rise zero within = below
-two_rise x y xs below rise (suc k) within = rise k (omega (arith, within))
-
-behind_first : (x : ℕ) (xs : List ℕ) → RisesAt (x ∷ xs) → RisesAt xs
-behind_first x xs rise = λ k within. rise (suc k) (omega (arith, within))
-
-push_rising : (xs : List ℕ) (n : ℕ) → RisesAt xs → AllByRecursion (λ x. x < n) xs → RisesAt (xs ++ n ∷ [])
-push_rising [] n rise below = λ k within. absurd (omega (arith, within))
-push_rising (x ∷ []) n rise below = two_rise x n [] below.0 (λ k within. absurd (omega (arith, within)))
-push_rising (x ∷ (y ∷ xs)) n rise below = two_rise x y (xs ++ n ∷ []) (rise zero (omega arith)) (push_rising (y ∷ xs) n (behind_first x (y ∷ xs) rise) below.1)
-
--- numbers that rise, and one above them all
-pub rising_and_last : (xs : List ℕ) (n : ℕ) → IsStrictlyIncreasing xs → AllByRecursion (λ x. x < n) xs → IsStrictlyIncreasing (xs ++ n ∷ [])
-rising_and_last xs n rise below = at_rising (xs ++ n ∷ []) (push_rising xs n (rising_at xs rise) below)
-
--- what the flusher's seat did for these deltas
-pub latches_are : (deltas : List Delta) (k : CounterKnown) → Latches deltas k.own.steps (after_latches deltas k).own.steps
-latches_are [] k = refl
-latches_are (d ∷ deltas) k = latches_are deltas (after_step (step_of count.Latch d.id.0 0 d.n) k)

@@ -35,9 +35,9 @@ pub left_words : (k k0 : GaugeKnown) (parts workers : List GaugePart) (reader : 
 left_words k k0 parts workers reader list is none are idle idle' all =
     recursion_from_All (λ (r : Reading). LeftBy r.id.0 workers r.word) list
     (All-weaker (IsLastWord k) (λ (r : Reading). LeftBy r.id.0 workers r.word) (λ r last.
-        run_ends.word r.id.0 r.word last.own reader workers
-        (last.idle r.id.0 ∙ (ap (λ (z : GaugeKnown). written r.id.0 z.own.steps) is ∙ idle r.id.0)) (idle' r.id.0)
-        (subst (λ (l : List GaugePart). IsGaugeWord r.id.0 (last.own ∷ l) r.word) taken last.word)) list all)
+    run_ends.word r.id.0 r.word last.own reader workers
+    (last.idle r.id.0 ∙ (ap (λ (z : GaugeKnown). written r.id.0 z.own.steps) is ∙ idle r.id.0)) (idle' r.id.0)
+    (subst (λ (l : List GaugePart). IsGaugeWord r.id.0 (last.own ∷ l) r.word) taken last.word)) list all)
   where
     taken : k.taken ≡ workers ++ reader ∷ []
     taken = ap (λ (z : GaugeKnown). z.taken) is ∙ ((λ i. none i ++ parts) ∙ are)

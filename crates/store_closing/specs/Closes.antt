@@ -1,5 +1,5 @@
 -- The end of a store: the last flush, and the report that its parties make together (this project's own).
-use Rattle.std.specs.Prelude.{◌≡◌, ℕ, [], List, length, map}
+use Rattle.std.specs.Prelude.{◌≡◌, ℕ, ◌<◌, ◌≤◌, [], List, length, map}
 use Rattle.std.specs.List.{AllByRecursion}
 use Rattle.stat_defs.specs.declared.configs.Config.{Config}
 use Rattle.stat_defs.specs.declared.events.Event.{Event}
@@ -8,6 +8,7 @@ use Rattle.stat_defs.specs.declared.ids.Kind.TheVariants.{Counter}
 use Rattle.stat_defs.specs.declared.ids.MetricId.{MetricId}
 use Rattle.stat_defs.specs.declared.reports.LastFlush.{LastFlush}
 use Rattle.stat_defs.specs.declared.reports.Report.{Report}
+use Rattle.book_state.specs.declared.limits.TheConstants.{MAX_METRICS}
 use Rattle.book_state.specs.Log.{replay}
 use Rattle.locked_book.specs.Sharing.{first_of}
 use Rattle.metric_words.specs.CounterLaws.{IsCounterEnd}
@@ -64,7 +65,7 @@ pub record IsEmptied (told : RunTold) (id : MetricId) : Type 0 where
   pub end : IsCounterEnd id.0 (map (λ worker. worker.counts) told.workers) told.flusher told.reader value 0
 
 -- The store came to its end with this last flush and this log. All its parties account for what they did, and nothing is
--- pending of any counter that was ever made.
+-- pending of any counter that was ever made, nor in a word that was never a metric's.
 pub record Closes (store : Store) (ended : List Ended) (flusher : FlusherKnown) (reader : ReaderKnown)
     (last : LastFlush) : Type 0 where
   pub flush : FlushTold
@@ -74,3 +75,6 @@ pub record Closes (store : Store) (ended : List Ended) (flusher : FlusherKnown) 
       (report_told (told_of ended flusher reader flush) last.log)
   pub emptied : AllByRecursion (IsEmptied (told_of ended flusher reader flush))
       (ids_made Counter (replay (plan_of (first_of store.book).config).rules (first_of store.book).workers last.log))
+  pub never : (id : ℕ)
+      → length (replay (plan_of (first_of store.book).config).rules (first_of store.book).workers last.log).metrics ≤ id
+      → id < MAX_METRICS → IsEmptied (told_of ended flusher reader flush) (record { 0 = id })

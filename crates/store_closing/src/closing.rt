@@ -50,7 +50,13 @@ pub fn close_store(
         reader: reader.counters,
     };
     let deltas = last_deltas(alloc, counters, seats, end.made.items())?;
-    let words = last_readings(alloc, gauges, own.gauges, sorted.gauges, end.listing.gauges.items())?;
+    let words = last_readings(
+        alloc,
+        gauges,
+        own.gauges,
+        sorted.gauges,
+        end.listing.gauges.items(),
+    )?;
     let parts = end_cells(alloc, own.cells, sorted.ends)?;
     Ok(LastFlush {
         last: FlushRecord {

@@ -1,5 +1,5 @@
 use Rattle.std.proofs.Common.{◌≡◌, length}
-use Rattle.run_files.specs.Rounds.{HasRead}
+use Rattle.run_files.specs.Readings.{HasRead}
 use Rattle.run_files.proofs.readings.read_rounds.Given as goal
 
 abbrev pub invariant-loop-round : goal.invariant-loop-round

@@ -110,8 +110,8 @@ returns c =
     let none = ap (λ (k : GaugeKnown). k.taken) reader.ensures.words.1 ∙ reader.ensures.accounts.alone in
     let others = ap (λ (l : List GaugeSeat). flat_map gauge_all l) sorted.gauges ∙ others_are store ended reader.result.1.gauges have none in
     let left = rw c.in_ok-words.was at (c.last_readings.ensures.words (gauges_at_end ended) (gauge_part reader.result.1.gauges) others
-        (λ id. ap (λ (k : GaugeKnown). written id k.own.steps) own_told.words.1 ∙ own_told.accounts.idle id)
-        (λ id. ap (λ (k : GaugeKnown). written id k.own.steps) reader.ensures.words.1 ∙ reader.ensures.accounts.idle id)) in
+    (λ id. ap (λ (k : GaugeKnown). written id k.own.steps) own_told.words.1 ∙ own_told.accounts.idle id)
+    (λ id. ap (λ (k : GaugeKnown). written id k.own.steps) reader.ensures.words.1 ∙ reader.ensures.accounts.idle id)) in
     closes store ended c.args.flusher c.args.admin book.found end.listing (record { at = end.listing.at; deltas = deltas; gauges = words; parts = parts }) c.in_ok-sorted.sorted.ends.items
     have c.requires.flusher.1 c.requires.flusher.0.number own_told.accounts reader.ensures.accounts (ap (λ (h : BookHistory). h.log) store.whole.new)
     (subst (λ (l : List LogKnown). IsOneHistory (first_of store.book) (seat_count store.book) l book.found) seats book.one)

@@ -42,7 +42,7 @@ returns-clause-sorts c = let i = c.loop-worker.invariant in let cells = c.args.c
     let all : ended ≡ done = i.whole ∙ (ap (λ (l : List Ended). done ++ l) empty ∙ append-nil done) in
     let waiting = into_iter_items c.loop-worker.waiting in
     let none : waiting ≡ [] = nil_from_length waiting
-        (let a = ap (λ (l : List (TurnCell HalfState)). length l) i.all in let b = length-append i.taken waiting in let d = ap (λ (l : List Ended). length l) all in let e = i.at in let f = c.requires.cells in omega (arith, a, b, d, e, f)) in
+    (let a = ap (λ (l : List (TurnCell HalfState)). length l) i.all in let b = length-append i.taken waiting in let d = ap (λ (l : List Ended). length l) all in let e = i.at in let f = c.requires.cells in omega (arith, a, b, d, e, f)) in
     let taken : cells ≡ i.taken = i.all ∙ (ap (λ (l : List (TurnCell HalfState)). i.taken ++ l) none ∙ append-nil i.taken) in
     subst (λ (l : List (TurnCell HalfState)). Sorts l ended c.args.sorted.now c.loop-worker.sorted) (sym taken)
     (subst (λ (l : List Ended). Sorts i.taken l c.args.sorted.now c.loop-worker.sorted) (sym all) i.sorts)
