@@ -67,7 +67,8 @@ module _ {F S : Type 0} (shelf : F → ShelfState) (source : S → SourceState) 
   as_many_files (n ∷ ns) before after [] are = absurd are
   as_many_files (n ∷ ns) before after (f ∷ fs) are = ap suc (as_many_files ns are.0 after fs are.1.1)
 
-  runs_of : (names : List (List ℕ)) (before after : F) (files : List FileRead)
+  -- each file was read, so its events are those of what its name holds
+  pub runs_of : (names : List (List ℕ)) (before after : F) (files : List FileRead)
       → AreFiles shelf source holds names before after files
       → AllZip (λ content file. IsRun content file.0.end file.0.taken file.1) (map holds names)
       (zip (ends_of files) (events_of files))
@@ -76,7 +77,8 @@ module _ {F S : Type 0} (shelf : F → ShelfState) (source : S → SourceState) 
   runs_of (n ∷ ns) before after [] are = absurd are
   runs_of (n ∷ ns) before after (f ∷ fs) are = (are.1.0.run, runs_of ns are.0 after fs are.1.1)
 
-  counted_of : (names : List (List ℕ)) (before after : F) (files : List FileRead)
+  -- no file but one that ended by a read fault has its bytes counted
+  pub counted_of : (names : List (List ℕ)) (before after : F) (files : List FileRead)
       → AreFiles shelf source holds names before after files
       → AllByRecursion (λ end. TakenAtFault end.end end.taken) (ends_of files)
   counted_of [] before after [] are = tt
