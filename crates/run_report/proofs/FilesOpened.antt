@@ -1,6 +1,6 @@
 -- Files that were opened one after another.
 use Rattle.std.proofs.Common.{◌≡◌, ℕ, suc, Option, List, [], ◌∷◌, ◌++◌, length, refl, sym, ap, ◌∙◌, subst}
-use Rattle.std.proofs.lemmas.List.{map-append}
+use Rattle.std.proofs.lemmas.List.{map-append, length-map}
 use Rattle.stat_defs.specs.declared.reports.WorkerEnd.{WorkerEnd}
 use Rattle.stats_io.specs.States.{SourceState, ShelfState}
 use Rattle.worker_run.specs.declared.given.Given.{Given}
@@ -43,10 +43,16 @@ module _ {F S : Type 0} (shelf : F → ShelfState) (source : S → SourceState) 
         ∙ sym (map-append (λ (o : Opening S). o.end) so.all (opening ∷ []));
   }
 
-  -- there is an opening for each name
-  pub an_opening_each : (names : List (List ℕ)) (before after : F) (all : List (Opening S))
+  an_opening_each : (names : List (List ℕ)) (before after : F) (all : List (Opening S))
       → AreOpenings shelf source holds names before after all → length all ≡ length names
   an_opening_each [] before after [] are = refl
   an_opening_each [] before after (o ∷ all) are = absurd are
   an_opening_each (n ∷ ns) before after [] are = absurd are
   an_opening_each (n ∷ ns) before after (o ∷ all) are = ap suc (an_opening_each ns are.0 after all are.1.1)
+
+  -- each name has a file
+  pub a_file_each : (names : List (List ℕ)) (before after : F) (openings : Openings S)
+      → AreOpened shelf source holds names before after openings → length openings.files.items ≡ length names
+  a_file_each names before after openings so =
+      ap (λ (files : List (Given S)). length files) so.files ∙ length-map so.all (λ (o : Opening S). o.file)
+      ∙ an_opening_each names before after so.all so.are_openings

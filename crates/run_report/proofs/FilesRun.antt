@@ -11,22 +11,21 @@ use Rattle.stats_io.specs.States.{SourceState, ShelfState}
 use Rattle.ledger.specs.Ledger.{RunPlan, RunLedger, plan_of}
 use Rattle.file_reading.specs.FileRead.{FileRead, IsFile, AreFiles}
 use Rattle.file_reading.proofs.FileOpened.{file_read, file_unopened}
-use Rattle.replay_report.proofs.FilesReported.{runs_of, counted_of}
+use Rattle.replay_report.proofs.FilesReported.{events_of, ends_of, runs_of, counted_of}
 use Rattle.worker_run.specs.declared.given.Given.{Given}
 use Rattle.worker_run.specs.declared.given.Given.TheVariants.{Opened, Missing}
+use Rattle.run_files.specs.Run.{content_of, IsRunOf as IsRunOver}
 use Rattle.worker_run.specs.Working.{IsFileRead}
 use Rattle.run_report.specs.Opened.{told_or, with_told, IsOpening, AreOpenings, AreOpened}
 use Rattle.run_report.specs.RunReport.{IsRunOf}
 use Rattle.run_report.specs.declared.openings.Opening.{Opening}
 use Rattle.run_report.specs.declared.openings.Openings.{Openings}
-use Rattle.run_report.proofs.FilesOpened.{an_opening_each}
+use Rattle.run_report.proofs.FilesOpened.{a_file_each}
 use Rattle.run_report.proofs.ToldEnds.{as_many_told}
 
-abbrev events_of : List FileRead → List (List Event)
-events_of files = map (λ file. file.events) files
-
-abbrev ends_of : List FileRead → List WorkerEnd
-ends_of files = map (λ file. file.end) files
+-- each of the files was read, with the events and the end at its place
+abbrev AreRead : {S : Type 0} → (S → SourceState) → List (Given S) → List WorkerEnd → List (List Event) → Type 0
+AreRead source files ends events = AllZip (λ file told. IsFileRead source file told.1 told.0) files (zip ends events)
 
 -- files of these ends and events
 files_of : List WorkerEnd → List (List Event) → List FileRead
@@ -65,7 +64,7 @@ module _ {F S : Type 0} (shelf : F → ShelfState) (source : S → SourceState) 
 
   files_run : (names : List (List ℕ)) (before after : F) (all : List (Opening S)) (ends : List WorkerEnd)
       (events : List (List Event)) → AreOpenings shelf source holds names before after all
-      → AllZip (λ file told. IsFileRead source file told.1 told.0) (map (λ (o : Opening S). o.file) all) (zip ends events)
+      → AreRead source (map (λ (o : Opening S). o.file) all) ends events
       → AreFiles shelf source holds names before after
       (files_of (with_told (map (λ (o : Opening S). o.end) all) ends) events)
   unfolding files_of
@@ -122,7 +121,7 @@ module _ {F S : Type 0} (shelf : F → ShelfState) (source : S → SourceState) 
       → AreOpened shelf source holds names before after openings
       → (events : List (List Event)) (contents : List (Option (List ℕ))) (report : Report)
       → length contents ≡ length openings.files.items
-      → AllZip (λ file told. IsFileRead source file told.1 told.0) openings.files.items (zip report.ends events)
+      → AreRead source openings.files.items report.ends events
       → RunLedger contents events (plan_of config) report
       → IsRunOf shelf source holds config names before after
       (record report { ends = with_told openings.ends.items report.ends })
@@ -131,8 +130,7 @@ module _ {F S : Type 0} (shelf : F → ShelfState) (source : S → SourceState) 
       let ends : List WorkerEnd = with_told told report.ends in
       let files : List FileRead = files_of ends events in
       let opened : length openings.files.items ≡ length names =
-      ap (λ (l : List (Given S)). length l) so.files ∙ length-map so.all (λ (o : Opening S). o.file)
-      ∙ an_opening_each shelf source holds names before after so.all so.are_openings in
+      a_file_each shelf source holds names before after openings so in
       let events_each : length events ≡ length contents =
       sym (length-map events (λ (es : List Event). length es))
       ∙ sym (ap (λ (l : List ℕ). length l) of.read.a_verdict_each)
@@ -143,7 +141,7 @@ module _ {F S : Type 0} (shelf : F → ShelfState) (source : S → SourceState) 
       let events_are : events_of files ≡ events = events_back ends events same in
       let are : AreFiles shelf source holds names before after files =
       files_run names before after so.all report.ends events so.are_openings
-      (subst (λ (l : List (Given S)). AllZip (λ file told. IsFileRead source file told.1 told.0) l (zip report.ends events))
+      (subst (λ (l : List (Given S)). AreRead source l report.ends events)
       so.files read) in
       let a_file_each : length files ≡ length names =
       sym (length-map files (λ (file : FileRead). file.events)) ∙ ap (λ (l : List (List Event)). length l) events_are
@@ -159,3 +157,14 @@ module _ {F S : Type 0} (shelf : F → ShelfState) (source : S → SourceState) 
         ends = refl;
         ledger = of_files;
       })
+
+  -- so the report has it that a run of these files gave, with these ends in place of others
+  pub reported : (config : Config) (names : List (List ℕ)) (before after : F) (openings : Openings S)
+      → AreOpened shelf source holds names before after openings → (given : Report)
+      → IsRunOver source config openings.files.items given → (report : Report)
+      → report ≡ record given { ends = with_told openings.ends.items given.ends }
+      → IsRunOf shelf source holds config names before after report
+  reported config names before after openings so given run report is =
+      subst (λ (r : Report). IsRunOf shelf source holds config names before after r) (sym is)
+      (is_run config names before after openings so run.events (map (content_of source) openings.files.items) given
+      (length-map openings.files.items (content_of source)) run.read run.ledger)
