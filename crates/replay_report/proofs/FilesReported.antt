@@ -26,10 +26,12 @@ use Rattle.replay_report.specs.ReplayReport.{IsReplayOf}
 use Rattle.replay_report.specs.declared.reading.Runs.{Runs}
 use Rattle.replay_report.proofs.OneThread.{history, swept, account, shown}
 
-abbrev events_of : List FileRead → List (List Event)
+-- the events of each file
+abbrev pub events_of : List FileRead → List (List Event)
 events_of files = map (λ file. file.events) files
 
-abbrev ends_of : List FileRead → List WorkerEnd
+-- how each file ended
+abbrev pub ends_of : List FileRead → List WorkerEnd
 ends_of files = map (λ file. file.end) files
 
 -- the events of work, and its verdicts, are the work

@@ -11,22 +11,21 @@ use Rattle.stats_io.specs.States.{SourceState, ShelfState}
 use Rattle.ledger.specs.Ledger.{RunPlan, RunLedger, plan_of}
 use Rattle.file_reading.specs.FileRead.{FileRead, IsFile, AreFiles}
 use Rattle.file_reading.proofs.FileOpened.{file_read, file_unopened}
-use Rattle.replay_report.proofs.FilesReported.{runs_of, counted_of}
+use Rattle.replay_report.proofs.FilesReported.{events_of, ends_of, runs_of, counted_of}
 use Rattle.worker_run.specs.declared.given.Given.{Given}
 use Rattle.worker_run.specs.declared.given.Given.TheVariants.{Opened, Missing}
+use Rattle.run_files.specs.Run.{content_of, IsRunOf as IsRunOver}
 use Rattle.worker_run.specs.Working.{IsFileRead}
 use Rattle.run_report.specs.Opened.{told_or, with_told, IsOpening, AreOpenings, AreOpened}
 use Rattle.run_report.specs.RunReport.{IsRunOf}
 use Rattle.run_report.specs.declared.openings.Opening.{Opening}
 use Rattle.run_report.specs.declared.openings.Openings.{Openings}
-use Rattle.run_report.proofs.FilesOpened.{an_opening_each}
+use Rattle.run_report.proofs.FilesOpened.{a_file_each}
 use Rattle.run_report.proofs.ToldEnds.{as_many_told}
 
-abbrev events_of : List FileRead → List (List Event)
-events_of files = map (λ file. file.events) files
-
-abbrev ends_of : List FileRead → List WorkerEnd
-ends_of files = map (λ file. file.end) files
+-- each of the files was read, with the events and the end at its place
+abbrev AllRead : {S : Type 0} → (S → SourceState) → List (Given S) → List WorkerEnd → List (List Event) → Type 0
+AllRead source files ends events = AllZip (λ file told. IsFileRead source file told.1 told.0) files (zip ends events)
 
 -- files of these ends and events
 files_of : List WorkerEnd → List (List Event) → List FileRead
@@ -34,6 +33,7 @@ files_of [] events = []
 files_of (end ∷ ends) [] = []
 files_of (end ∷ ends) (es ∷ events) = record { events = es; end = end } ∷ files_of ends events
 
+-- they have these ends, where there are as many of both
 ends_back : (ends : List WorkerEnd) (events : List (List Event)) → length ends ≡ length events
     → map (λ (file : FileRead). file.end) (files_of ends events) ≡ ends
 unfolding files_of
@@ -41,6 +41,7 @@ ends_back [] events same = refl
 ends_back (e ∷ es) [] same = absurd (omega (arith, same))
 ends_back (e ∷ es) (v ∷ vs) same = ap (λ (l : List WorkerEnd). e ∷ l) (ends_back es vs (omega (arith, same)))
 
+-- and these events
 events_back : (ends : List WorkerEnd) (events : List (List Event)) → length ends ≡ length events
     → map (λ (file : FileRead). file.events) (files_of ends events) ≡ events
 unfolding files_of
@@ -63,9 +64,10 @@ module _ {F S : Type 0} (shelf : F → ShelfState) (source : S → SourceState) 
       subst (λ (es : List Event). IsFile shelf source holds name before after (record { events = es; end = told }))
       (sym read.0) (file_unopened source shelf holds name before after told is.0 is.1)
 
+  -- files that were opened, and then read, are the files of their names
   files_run : (names : List (List ℕ)) (before after : F) (all : List (Opening S)) (ends : List WorkerEnd)
       (events : List (List Event)) → AreOpenings shelf source holds names before after all
-      → AllZip (λ file told. IsFileRead source file told.1 told.0) (map (λ (o : Opening S). o.file) all) (zip ends events)
+      → AllRead source (map (λ (o : Opening S). o.file) all) ends events
       → AreFiles shelf source holds names before after
       (files_of (with_told (map (λ (o : Opening S). o.end) all) ends) events)
   unfolding files_of
@@ -81,7 +83,7 @@ module _ {F S : Type 0} (shelf : F → ShelfState) (source : S → SourceState) 
     (file_run n before are.0 o.file o.end e v are.1.0 read.0, files_run ns are.0 after all es vs are.1.1 read.1),
   )
 
-  -- A ledger says of a file's content and of its end only what these files have.
+  -- A ledger says nothing of contents and ends but what these files have, so it is also the ledger of them.
   ledger_of_files : (names : List (List ℕ)) (before after : F) (files : List FileRead)
       → AreFiles shelf source holds names before after files → length files ≡ length names
       → (contents : List (Option (List ℕ))) → length contents ≡ length names → (plan : RunPlan) (report : Report)
@@ -117,12 +119,12 @@ module _ {F S : Type 0} (shelf : F → ShelfState) (source : S → SourceState) 
         };
       }
 
-  -- The report of files that were opened and then run, once the ends are told of those that could not be opened.
-  pub is_run : (config : Config) (names : List (List ℕ)) (before after : F) (openings : Openings S)
+  -- the report of files that were opened and then run, once the ends are told of those that could not be opened
+  is_run : (config : Config) (names : List (List ℕ)) (before after : F) (openings : Openings S)
       → AreOpened shelf source holds names before after openings
       → (events : List (List Event)) (contents : List (Option (List ℕ))) (report : Report)
       → length contents ≡ length openings.files.items
-      → AllZip (λ file told. IsFileRead source file told.1 told.0) openings.files.items (zip report.ends events)
+      → AllRead source openings.files.items report.ends events
       → RunLedger contents events (plan_of config) report
       → IsRunOf shelf source holds config names before after
       (record report { ends = with_told openings.ends.items report.ends })
@@ -131,8 +133,7 @@ module _ {F S : Type 0} (shelf : F → ShelfState) (source : S → SourceState) 
       let ends : List WorkerEnd = with_told told report.ends in
       let files : List FileRead = files_of ends events in
       let opened : length openings.files.items ≡ length names =
-      ap (λ (l : List (Given S)). length l) so.files ∙ length-map so.all (λ (o : Opening S). o.file)
-      ∙ an_opening_each shelf source holds names before after so.all so.are_openings in
+      a_file_each shelf source holds names before after openings so in
       let events_each : length events ≡ length contents =
       sym (length-map events (λ (es : List Event). length es))
       ∙ sym (ap (λ (l : List ℕ). length l) of.read.a_verdict_each)
@@ -143,12 +144,11 @@ module _ {F S : Type 0} (shelf : F → ShelfState) (source : S → SourceState) 
       let events_are : events_of files ≡ events = events_back ends events same in
       let are : AreFiles shelf source holds names before after files =
       files_run names before after so.all report.ends events so.are_openings
-      (subst (λ (l : List (Given S)). AllZip (λ file told. IsFileRead source file told.1 told.0) l (zip report.ends events))
-      so.files read) in
-      let a_file_each : length files ≡ length names =
+      (subst (λ (l : List (Given S)). AllRead source l report.ends events) so.files read) in
+      let each_read : length files ≡ length names =
       sym (length-map files (λ (file : FileRead). file.events)) ∙ ap (λ (l : List (List Event)). length l) events_are
       ∙ events_each ∙ a_content_each ∙ opened in
-      let of_files = ledger_of_files names before after files are a_file_each contents (a_content_each ∙ opened)
+      let of_files = ledger_of_files names before after files are each_read contents (a_content_each ∙ opened)
       (plan_of config) report
       (subst (λ (es : List (List Event)). RunLedger contents es (plan_of config) report) (sym events_are) of) in
       subst
@@ -159,3 +159,14 @@ module _ {F S : Type 0} (shelf : F → ShelfState) (source : S → SourceState) 
         ends = refl;
         ledger = of_files;
       })
+
+  -- so is any report that is the run's but for these ends
+  pub reported : (config : Config) (names : List (List ℕ)) (before after : F) (openings : Openings S)
+      → AreOpened shelf source holds names before after openings → (given : Report)
+      → IsRunOver source config openings.files.items given → (report : Report)
+      → report ≡ record given { ends = with_told openings.ends.items given.ends }
+      → IsRunOf shelf source holds config names before after report
+  reported config names before after openings so given run report is =
+      subst (λ (r : Report). IsRunOf shelf source holds config names before after r) (sym is)
+      (is_run config names before after openings so run.events (map (content_of source) openings.files.items) given
+      (length-map openings.files.items (content_of source)) run.read run.ledger)
