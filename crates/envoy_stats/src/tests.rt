@@ -493,6 +493,53 @@ fn each_push_failing(rt: HostRuntime) -> Result<(), Fail> {
     Ok(())
 }
 
+// Calls with the status that each comes to.
+const EACH_STATUS: [(&str, &str, u64, u8); 6] = [
+    ("replay - f1", "inc root a 3\ninc root a 4\n", 999, 0),
+    ("replay", "", 999, 1),
+    ("replay f1 f1", "[", 999, 2),
+    ("replay - f1", "inc root a 3\nbogus\n", 999, 3),
+    ("replay - f9", "", 999, 4),
+    ("replay - f1", "inc root a 3\n", 5, 5),
+];
+
+// A call whose push on `err` of that number fails.
+fn play_unheard(
+    alloc: Global,
+    words: &str,
+    file: &str,
+    failing_push: u64,
+    unheard: u64,
+) -> Result<Played, Fail> {
+    let maker = RegexMaker::new(Vec::new(alloc));
+    let out = MemSink::new(alloc, 2000, 1, vec![in alloc; failing_push]?)?;
+    let err = MemSink::new(alloc, 1000, 3, vec![in alloc; unheard]?)?;
+    let shelf = shelf_of(alloc, file.as_bytes(), 9)?;
+    play_with(alloc, words, maker, shelf, out, err)
+}
+
+#[test]
+fn a_failing_err_changes_nothing_else(rt: HostRuntime) -> Result<(), Fail> {
+    let alloc = rt.alloc();
+    for (words, file, failing_push, status) in EACH_STATUS {
+        let heard = play_unheard(alloc, words, file, failing_push, 999)?;
+        assert_eq!(rt; heard.outcome.status, status, "{words}");
+        for unheard in [0, 1] {
+            let played = play_unheard(alloc, words, file, failing_push, unheard)?;
+            assert_eq!(rt; played.outcome.status, status, "{words} {unheard}");
+            assert!(rt;
+                played.out.bytes() == heard.out.bytes(),
+                "{words} {unheard}"
+            );
+            assert!(rt;
+                heard.err.bytes().starts_with(played.err.bytes()),
+                "{words} {unheard}"
+            );
+        }
+    }
+    Ok(())
+}
+
 // The report on a file.
 fn report_on(alloc: Global, file: &[u8]) -> Result<Report, Fail> {
     let played = play_over(alloc, "replay - f1", shelf_of(alloc, file, 9)?, 100, 999)?;
