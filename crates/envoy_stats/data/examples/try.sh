@@ -15,7 +15,7 @@ told() {
 try() {
   local wanted=$1
   shift
-  ./envoy_stats replay "$@" 2>&1 | cmp -s - "examples/$wanted"
+  ./envoy_stats "$@" 2>&1 | cmp -s - "examples/$wanted"
   told $? "$wanted"
 }
 texts() {
@@ -35,8 +35,9 @@ if [ "$1" = texts ]; then
   exit
 fi
 for format in statsd prom admin; do
-  try "edge.$format" --format "$format" examples/edge.json examples/web.events examples/api.events
-  try "tags.$format" --symbols --format "$format" examples/tags.json examples/tags.events
+  try "edge.$format" replay --format "$format" examples/edge.json examples/web.events examples/api.events
+  try "tags.$format" replay --symbols --format "$format" examples/tags.json examples/tags.events
+  try "run.$format" run --format "$format" examples/run.json examples/{east,west}.events
 done
 texts | cmp -s - crates/envoy_stats/src/example_texts.rt
 told $? example_texts.rt
