@@ -1,0 +1,2 @@
+pub mod RunShown
+pub mod RunCalls

@@ -14,6 +14,8 @@ mod example_texts;
 mod program;
 mod run;
 #[cfg(test)]
+mod run_rows;
+#[cfg(test)]
 mod tests;
 
 pub use flush_view::flush_view;

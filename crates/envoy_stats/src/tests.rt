@@ -5,6 +5,7 @@ use crate::example_texts::{
     API_EVENTS, EDGE_ADMIN, EDGE_JSON, EDGE_STATSD, TAGS_ADMIN, TAGS_EVENTS, TAGS_JSON, TAGS_PROM,
     TAGS_STATSD, WEB_EVENTS,
 };
+use name_map::HashKey;
 use stat_defs::{Delta, MetricId, Report, Verdict};
 use stats_io::{MemFile, MemShelf, MemSink, Shelf};
 use std::alloc::Global;
@@ -72,15 +73,15 @@ const THREE_NAMES: &[u8] = b"inc root z 5\ninc web z 1\ninc root a 2\ninc root z
 
 // What a call left.
 #[derive(Drop)]
-struct Played {
-    outcome: Outcome,
-    out: MemSink,
-    err: MemSink,
-    shelf: MemShelf,
+pub(crate) struct Played {
+    pub(crate) outcome: Outcome,
+    pub(crate) out: MemSink,
+    pub(crate) err: MemSink,
+    pub(crate) shelf: MemShelf,
 }
 
 // Words parted by spaces; none where the text is empty.
-fn words_of(alloc: Global, text: &str) -> Result<Vec<String>, Fail> {
+pub(crate) fn words_of(alloc: Global, text: &str) -> Result<Vec<String>, Fail> {
     let mut words = Vec::new(alloc);
     if !text.is_empty() {
         for word in text.split(' ') {
@@ -91,7 +92,12 @@ fn words_of(alloc: Global, text: &str) -> Result<Vec<String>, Fail> {
 }
 
 // A file that is given in pieces of 16 bytes, whose pull of that number fails.
-fn file_of(alloc: Global, name: &str, bytes: &[u8], failing_pull: u64) -> Result<MemFile, Fail>
+pub(crate) fn file_of(
+    alloc: Global,
+    name: &str,
+    bytes: &[u8],
+    failing_pull: u64,
+) -> Result<MemFile, Fail>
     ensures { IfOk result (λ file. 1 ≤ file.piece) }
 {
     Ok(MemFile {
@@ -103,7 +109,7 @@ fn file_of(alloc: Global, name: &str, bytes: &[u8], failing_pull: u64) -> Result
 }
 
 // A shelf with the file `f1`.
-fn shelf_of(alloc: Global, file: &[u8], failing_pull: u64) -> Result<MemShelf, Fail> {
+pub(crate) fn shelf_of(alloc: Global, file: &[u8], failing_pull: u64) -> Result<MemShelf, Fail> {
     let file = file_of(alloc, "f1", file, failing_pull)?;
     Ok(MemShelf::new(vec![in alloc; file]?, Vec::new(alloc)))
 }
@@ -169,15 +175,15 @@ fn play_over(
 
 // What a call is to come to.
 #[derive(Clone, Copy)]
-struct Wanted<'a> {
-    status: u8,
-    reports: bool,
-    out: &'a [u8],
-    err: &'a [u8],
+pub(crate) struct Wanted<'a> {
+    pub(crate) status: u8,
+    pub(crate) reports: bool,
+    pub(crate) out: &'a [u8],
+    pub(crate) err: &'a [u8],
 }
 
 // Of that case.
-fn assert_played(rt: &impl Abort, case: &[u8], played: &Played, wanted: Wanted<'_>) {
+pub(crate) fn assert_played(rt: &impl Abort, case: &[u8], played: &Played, wanted: Wanted<'_>) {
     assert_eq!(rt; played.outcome.status, wanted.status, "{case:?}");
     assert_eq!(rt; played.outcome.report.is_some(), wanted.reports, "{case:?}");
     assert!(rt; played.out.bytes() == wanted.out, "{case:?}");
@@ -220,7 +226,7 @@ fn digit_of(text: &[u8]) -> u8 {
 }
 
 // A shelf with the files `f1`, `f2` and `f3`, which are parted by the byte 3 and empty where there are fewer.
-fn shelf_with(alloc: Global, bytes: &[u8], failing_pull: u64) -> Result<MemShelf, Fail> {
+pub(crate) fn shelf_with(alloc: Global, bytes: &[u8], failing_pull: u64) -> Result<MemShelf, Fail> {
     let mut parts = bytes.split(|b| *b == 3);
     let first = parts.next().unwrap_or(b"");
     let second = parts.next().unwrap_or(b"");
@@ -482,6 +488,53 @@ fn each_push_failing(rt: HostRuntime) -> Result<(), Fail> {
     for (words, output) in WHOLE_OUTPUTS {
         for k in 0..output.len() as u64 + 1 {
             assert_cut(&rt, rt.alloc(), words, output.as_bytes(), k)?;
+        }
+    }
+    Ok(())
+}
+
+// Calls with the status that each comes to.
+const EACH_STATUS: [(&str, &str, u64, u8); 6] = [
+    ("replay - f1", "inc root a 3\ninc root a 4\n", 999, 0),
+    ("replay", "", 999, 1),
+    ("replay f1 f1", "[", 999, 2),
+    ("replay - f1", "inc root a 3\nbogus\n", 999, 3),
+    ("replay - f9", "", 999, 4),
+    ("replay - f1", "inc root a 3\n", 5, 5),
+];
+
+// A call whose push on `err` of that number fails.
+fn play_unheard(
+    alloc: Global,
+    words: &str,
+    file: &str,
+    failing_push: u64,
+    unheard: u64,
+) -> Result<Played, Fail> {
+    let maker = RegexMaker::new(Vec::new(alloc));
+    let out = MemSink::new(alloc, 2000, 1, vec![in alloc; failing_push]?)?;
+    let err = MemSink::new(alloc, 1000, 3, vec![in alloc; unheard]?)?;
+    let shelf = shelf_of(alloc, file.as_bytes(), 9)?;
+    play_with(alloc, words, maker, shelf, out, err)
+}
+
+#[test]
+fn a_failing_err_changes_nothing_else(rt: HostRuntime) -> Result<(), Fail> {
+    let alloc = rt.alloc();
+    for (words, file, failing_push, status) in EACH_STATUS {
+        let heard = play_unheard(alloc, words, file, failing_push, 999)?;
+        assert_eq!(rt; heard.outcome.status, status, "{words}");
+        for unheard in [0, 1] {
+            let played = play_unheard(alloc, words, file, failing_push, unheard)?;
+            assert_eq!(rt; played.outcome.status, status, "{words} {unheard}");
+            assert!(rt;
+                played.out.bytes() == heard.out.bytes(),
+                "{words} {unheard}"
+            );
+            assert!(rt;
+                heard.err.bytes().starts_with(played.err.bytes()),
+                "{words} {unheard}"
+            );
         }
     }
     Ok(())

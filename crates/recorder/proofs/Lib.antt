@@ -4,3 +4,4 @@ pub mod SeatMoves
 pub mod RecorderLemmas
 pub mod PollLemmas
 pub mod WorkLemmas
+pub mod WorkerTied

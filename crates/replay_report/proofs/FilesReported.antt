@@ -26,10 +26,12 @@ use Rattle.replay_report.specs.ReplayReport.{IsReplayOf}
 use Rattle.replay_report.specs.declared.reading.Runs.{Runs}
 use Rattle.replay_report.proofs.OneThread.{history, swept, account, shown}
 
-abbrev events_of : List FileRead → List (List Event)
+-- the events of each file
+abbrev pub events_of : List FileRead → List (List Event)
 events_of files = map (λ file. file.events) files
 
-abbrev ends_of : List FileRead → List WorkerEnd
+-- how each file ended
+abbrev pub ends_of : List FileRead → List WorkerEnd
 ends_of files = map (λ file. file.end) files
 
 -- the events of work, and its verdicts, are the work
@@ -67,7 +69,8 @@ module _ {F S : Type 0} (shelf : F → ShelfState) (source : S → SourceState) 
   as_many_files (n ∷ ns) before after [] are = absurd are
   as_many_files (n ∷ ns) before after (f ∷ fs) are = ap suc (as_many_files ns are.0 after fs are.1.1)
 
-  runs_of : (names : List (List ℕ)) (before after : F) (files : List FileRead)
+  -- each file was read, so its events are those of what its name holds
+  pub runs_of : (names : List (List ℕ)) (before after : F) (files : List FileRead)
       → AreFiles shelf source holds names before after files
       → AllZip (λ content file. IsRun content file.0.end file.0.taken file.1) (map holds names)
       (zip (ends_of files) (events_of files))
@@ -76,7 +79,8 @@ module _ {F S : Type 0} (shelf : F → ShelfState) (source : S → SourceState) 
   runs_of (n ∷ ns) before after [] are = absurd are
   runs_of (n ∷ ns) before after (f ∷ fs) are = (are.1.0.run, runs_of ns are.0 after fs are.1.1)
 
-  counted_of : (names : List (List ℕ)) (before after : F) (files : List FileRead)
+  -- no file but one that ended by a read fault has its bytes counted
+  pub counted_of : (names : List (List ℕ)) (before after : F) (files : List FileRead)
       → AreFiles shelf source holds names before after files
       → AllByRecursion (λ end. TakenAtFault end.end end.taken) (ends_of files)
   counted_of [] before after [] are = tt

@@ -1,1 +1,4 @@
 pub mod HeldAlike
+mod FilesOpened
+mod ToldEnds
+mod FilesRun

@@ -4,7 +4,11 @@ ghost use Rattle.stat_defs.specs.Configs.{IsConfig};
 ghost use Rattle.replay_report.specs.declared.replaying.TheConstants as limits;
 ghost use Rattle.run_report.specs.RunReport.{IsRunOf};
 
+use crate::ends::with_ends;
+use crate::openings::{Openings, open_files};
 use name_map::HashKey;
+use run_files::{Setup, run_files};
+use run_gates::PaceGate;
 use stat_defs::{Config, NoMemory, Report};
 use stats_io::Shelf;
 use std::alloc::Global;
@@ -12,10 +16,10 @@ use std::sync::Wait;
 use std::thread::Threads;
 use tag_rules::{Matcher, TagRules};
 
-/// Opens the files of a shelf in order, and reads them side by side, each by a worker of its own that applies its events
-/// to one store, beside a flusher and a reader that are paced by events. The report has all flushes, the last one behind
-/// the workers' ends, and all readings. A file that cannot be opened has no events. Rules and matcher are those that were
-/// built from the configuration. Tables are hashed under the key, which only speed depends on. May wait.
+/// Opens the files of a shelf in order, and reads them side by side, each by a worker of its own that applies its
+/// events to one store, beside a flusher and a reader that are paced by events. The report has all flushes, the last one
+/// behind the workers' ends, and all readings. A file that cannot be opened has no events. Rules and matcher are those
+/// that were built from the configuration. Tables are hashed under the key, which only speed depends on. May wait.
 pub fn run_names<R: Threads + Wait + Sync, F: Shelf>(
     rt: &R,
     alloc: Global,
@@ -34,5 +38,14 @@ pub fn run_names<R: Threads + Wait + Sync, F: Shelf>(
     ensures { IfOk result (IsRunOf F.state F.S.state (F.holds shelf.old) config.now (map string_bytes names.now)
         shelf.old shelf.new) }
 {
-    Err(NoMemory)
+    let gate = PaceGate::new(alloc, names.len() as u32, config.flush_every)?;
+    let Openings { files, ends } = open_files(alloc, shelf, names)?;
+    let setup = Setup {
+        key,
+        config,
+        rules,
+        matcher,
+    };
+    let report = run_files(rt, alloc, &gate, setup, files)?;
+    Ok(with_ends(report, &ends))
 }

@@ -26,13 +26,9 @@ pub enum Command<'a> {
     /// `replay [--symbols] [--format F] BOOT FILE..`
     Replay(Reporting<'a>),
     /// `check BOOT`
-    Check {
-        boot: &'a str,
-    },
+    Check { boot: &'a str },
     /// `bins V..`, of which each word says a value.
-    Bins {
-        values: &'a [String],
-    },
+    Bins { values: &'a [String] },
 }
 
 /// The options that words in front have said, and the words behind them.

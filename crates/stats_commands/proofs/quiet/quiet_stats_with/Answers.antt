@@ -13,11 +13,11 @@ pub returns-in-Run : goal.returns-in-Run
 returns-in-Run g c =
     let see = sight g.K.PatternMaker.memory g.F.Shelf.holds g.F.Shelf.state g.F.S.Source.state g.O.Sink.state g.E.Sink.state in
     let before = world c.args.maker.now c.args.shelf.now c.args.out.now c.args.err.now in
-    let after = world c.args.maker.now c.args.shelf.now c.args.out.now c.refuse_words.new.err in
+    let after = world c.args.maker.now c.args.shelf.now c.args.out.now c.refuse_words-in-Run.new.err in
     let says : command (map string_bytes c.args.words.now) ≡ Some (running (reporting_as c.in-Run.field-0)) = sym c.in-Some.ensures ∙ ap (λ (x : Command). Some (spoken_as x)) c.in-Run.is in
     let none : quiet_command (map string_bytes c.args.words.now) ≡ None = ap (λ (o : Option Told). option_and_then without_threads o) says in
-    subst (λ (o : Outcome). IsCall see before after (quiet_command (map string_bytes c.args.words.now)) o.status o.report) (sym c.refuse_words.ensures.outcome)
-    (call_refused see before after (quiet_command (map string_bytes c.args.words.now)) none (record { maker = refl; shelf = refl; out = refl; said = c.refuse_words.ensures.said }))
+    subst (λ (o : Outcome). IsCall see before after (quiet_command (map string_bytes c.args.words.now)) o.status o.report) (sym c.refuse_words-in-Run.ensures.outcome)
+    (call_refused see before after (quiet_command (map string_bytes c.args.words.now)) none (record { maker = refl; shelf = refl; out = refl; said = c.refuse_words-in-Run.ensures.said }))
 
 pub returns-in-Replay : goal.returns-in-Replay
 returns-in-Replay g c =

@@ -1,0 +1,211 @@
+//! Rows of the command `run`. What depends on the schedule is not compared: sums, counts and what is written once a run
+//! is over do not.
+use crate::envoy_stats_with;
+use crate::tests::{Played, Wanted, assert_played, file_of, shelf_of, shelf_with, words_of};
+use name_map::HashKey;
+use stat_defs::{FlushRecord, MetricId, Report};
+use stats_io::{MemShelf, MemSink};
+use std::alloc::Global;
+use std::process::Abort;
+use std::test::Fail;
+use tag_rules::RegexMaker;
+
+// What a call of the program over that shelf comes to, with an output sink whose push of that number fails.
+fn run_over(
+    rt: &HostRuntime,
+    words: &str,
+    mut shelf: MemShelf,
+    failing_push: u64,
+) -> Result<Played, Fail> {
+    let alloc = rt.alloc();
+    let mut maker = RegexMaker::new(Vec::new(alloc));
+    let mut out = MemSink::new(alloc, 4000, 1, vec![in alloc; failing_push]?)?;
+    let mut err = MemSink::new(alloc, 1000, 100, Vec::new(alloc))?;
+    let words = words_of(alloc, words)?;
+    let key = HashKey::of(7);
+    let outcome = envoy_stats_with(
+        rt, alloc, key, &words, &mut maker, &mut shelf, &mut out, &mut err,
+    );
+    Ok(Played {
+        outcome,
+        out,
+        err,
+        shelf,
+    })
+}
+
+// A call with its files, parted by `|`, the number of the first file's pull that fails, and what it comes to.
+struct Row {
+    words: &'static str,
+    files: &'static str,
+    failing_pull: u64,
+    status: u8,
+    out: &'static str,
+    err: &'static str,
+}
+
+const ROWS: [Row; 6] = [
+    Row {
+        words: "run - f1 f2",
+        files: "inc root a 1\ninc root a 2\n|inc root a 4\n",
+        failing_pull: 99,
+        status: 0,
+        out: "# last\nenvoy.a:7|c\n# worker 1: 2 accepted, 0 dropped\n# worker 2: 1 accepted, 0 dropped\n",
+        err: "",
+    },
+    Row {
+        words: "run --format admin - f1",
+        files: "text root t x y\nadd root g acc 5\nsub root g acc 7\ninc web n 1\n",
+        failing_pull: 99,
+        status: 0,
+        out: "# last\nt: \"x y\"\ng: -2\n# worker 1: 3 accepted, 1 dropped\n",
+        err: "",
+    },
+    Row {
+        words: "run - f1 f9 f2",
+        files: "inc root a 1\n|inc root a 4\n",
+        failing_pull: 99,
+        status: 4,
+        out: "# last\nenvoy.a:5|c\n# worker 1: 1 accepted, 0 dropped\n# worker 2: 0 accepted, 0 dropped\n# worker 3: 1 accepted, 0 dropped\n",
+        err: "file 2: not opened\n",
+    },
+    Row {
+        words: "run - f1 f2",
+        files: "inc root a 1\ninc root b 2\n|inc root c 4\n",
+        failing_pull: 1,
+        status: 4,
+        out: "# last\nenvoy.a:1|c\nenvoy.c:4|c\n# worker 1: 1 accepted, 0 dropped\n# worker 2: 1 accepted, 0 dropped\n",
+        err: "file 1: read failed\n",
+    },
+    Row {
+        words: "run - f1 f2",
+        files: "inc root a 1\nbogus\n|inc root c 4\n",
+        failing_pull: 99,
+        status: 3,
+        out: "# last\nenvoy.a:1|c\nenvoy.c:4|c\n# worker 1: 1 accepted, 0 dropped\n# worker 2: 1 accepted, 0 dropped\n",
+        err: "file 1 line 2: no event\n",
+    },
+    Row {
+        words: "run f1 f2",
+        files: "[|inc root c 4\n",
+        failing_pull: 99,
+        status: 2,
+        out: "",
+        err: "boot: not json\n",
+    },
+];
+
+// The files of a text, parted by `|`, as `shelf_with` takes them.
+fn parted(alloc: Global, files: &str) -> Result<Vec<u8>, Fail> {
+    let mut bytes = Vec::new(alloc);
+    for b in files.as_bytes() {
+        bytes.push(if *b == b'|' { 3 } else { *b })?;
+    }
+    Ok(bytes)
+}
+
+#[test]
+fn workers_side_by_side(rt: HostRuntime) -> Result<(), Fail> {
+    for row in ROWS {
+        let files = parted(rt.alloc(), row.files)?;
+        let shelf = shelf_with(rt.alloc(), &files, row.failing_pull)?;
+        let played = run_over(&rt, row.words, shelf, 9_999)?;
+        let wanted = Wanted {
+            status: row.status,
+            reports: row.status != 2,
+            out: row.out.as_bytes(),
+            err: row.err.as_bytes(),
+        };
+        assert_played(&rt, row.words.as_bytes(), &played, wanted);
+    }
+    Ok(())
+}
+
+#[test]
+fn each_push_of_a_run_failing(rt: HostRuntime) -> Result<(), Fail> {
+    let output = b"# last\nenvoy.a:7|c\n# worker 1: 2 accepted, 0 dropped\n";
+    for k in 0..output.len() as u64 {
+        let shelf = shelf_of(rt.alloc(), b"inc root a 3\ninc root a 4\n", 9)?;
+        let played = run_over(&rt, "run - f1", shelf, k)?;
+        assert_eq!(rt; played.outcome.status, 5, "{k}");
+        assert!(rt; played.outcome.report.is_some(), "{k}");
+        assert_eq!(rt; played.out.bytes().len() as u64, k);
+        assert!(rt; output.starts_with(played.out.bytes()), "{k}");
+        assert!(rt; played.err.bytes() == b"write failed\n", "{k}");
+    }
+    Ok(())
+}
+
+// Two flushes before the last one, and a reading.
+const PACED: &[u8] = b"{\"stats_run\":{\"flushes\":2,\"flush_every\":3,\"reads\":1}}";
+
+// A bootstrap, and a file of ten times that line.
+fn ten_lines(alloc: Global, boot: &[u8], line: &[u8]) -> Result<MemShelf, Fail> {
+    let mut bytes = Vec::new(alloc);
+    for _ in 0..10u64 {
+        bytes.extend_from_slice(line)?;
+    }
+    let boot = file_of(alloc, "b", boot, 999)?;
+    let file = file_of(alloc, "f", &bytes, 999)?;
+    Ok(MemShelf::new(vec![in alloc; boot, file]?, Vec::new(alloc)))
+}
+
+// The report of a run of such a file.
+fn paced_report(rt: &HostRuntime, line: &[u8]) -> Result<Report, Fail> {
+    let shelf = ten_lines(rt.alloc(), PACED, line)?;
+    let played = run_over(rt, "run b f", shelf, 9_999)?;
+    assert_eq!(rt; played.outcome.status, 0);
+    Ok(played.outcome.report.ok_or("no report")?)
+}
+
+// The units of the first metric in a flush.
+fn first_units(flush: &FlushRecord) -> u64 {
+    let mut units = 0u64;
+    for delta in flush.deltas.items() {
+        if delta.id == MetricId(0) {
+            units = units.saturating_add(delta.n);
+        }
+    }
+    units
+}
+
+// The values in all parts of a flush.
+fn values_in(flush: &FlushRecord) -> u64 {
+    let mut values = 0u64;
+    for part in flush.parts.items() {
+        for bin in part.bins.items() {
+            values = values.saturating_add(bin.count);
+        }
+    }
+    values
+}
+
+#[test]
+fn flushes_and_reads(rt: HostRuntime) -> Result<(), Fail> {
+    let report = paced_report(&rt, b"inc root a 1\n")?;
+    let flushes = report.flushes.items();
+    assert_eq!(rt; flushes.len(), 3);
+    let mut units = 0u64;
+    for flush in flushes {
+        units = units.saturating_add(first_units(flush));
+    }
+    assert_eq!(rt; units, 10);
+    assert_eq!(rt; report.reads.items().len(), 1);
+    for reading in report.reads.items() {
+        for counter in reading.counters.items() {
+            assert!(rt; counter.word <= 10);
+        }
+    }
+    Ok(())
+}
+
+#[test]
+fn flushes_of_values(rt: HostRuntime) -> Result<(), Fail> {
+    let report = paced_report(&rt, b"rec root h 7\n")?;
+    let mut values = 0u64;
+    for flush in report.flushes.items() {
+        values = values.saturating_add(values_in(flush));
+    }
+    assert_eq!(rt; values, 10);
+    Ok(())
+}

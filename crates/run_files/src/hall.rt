@@ -1,0 +1,49 @@
+//! What the threads of a run share.
+
+use run_gates::Gate;
+use std::alloc::Global;
+use std::sync::Wait;
+use std::sync::atomic::{AtomicBool, Ordering};
+use store_parts::Store;
+
+/// The runtime, the gate and the store; whether a thread wants memory, so that the others need not go on; and for each
+/// worker, in order, whether the gate was told that it is done.
+#[derive(Drop)]
+pub(crate) struct Hall<'a, R: Wait, G: Gate> {
+    pub(crate) rt: &'a R,
+    pub(crate) alloc: Global,
+    pub(crate) gate: &'a G,
+    pub(crate) store: &'a Store,
+    pub(crate) stop: &'a AtomicBool,
+    pub(crate) told: &'a [AtomicBool],
+}
+
+impl<R: Wait, G: Gate> Hall<'_, R, G> {
+    // A thread wants memory.
+    pub(crate) fn stop_all(&self) {
+        self.stop.store(true, Ordering::SeqCst);
+    }
+
+    pub(crate) fn is_stopped(&self) -> bool {
+        self.stop.load(Ordering::SeqCst)
+    }
+
+    // Tells the gate that this worker is done.
+    pub(crate) fn tell_done(&self, worker: u32) {
+        if let Some(flag) = self.told.get(worker.wrapping_sub(1) as usize) {
+            flag.store(true, Ordering::SeqCst);
+        }
+        self.gate.worker_done(self.rt, worker);
+    }
+
+    // Tells the gate of each worker that is done without having told it.
+    pub(crate) fn tell_rest(&self) {
+        let mut worker = 0u32;
+        for flag in self.told {
+            worker = worker.wrapping_add(1);
+            if !flag.load(Ordering::SeqCst) {
+                self.gate.worker_done(self.rt, worker);
+            }
+        }
+    }
+}

@@ -1,0 +1,10 @@
+//! One worker of a run: it reads its file, and applies its events to a store that threads share.
+//!
+//! What it did is what its recorder tells, whatever the other threads do meanwhile.
+#![tactic(auto)]
+
+mod given;
+mod working;
+
+pub use given::{Given, Job, Worked};
+pub use working::work;
