@@ -4,7 +4,6 @@ use Rattle.std.specs.List.{AllZip, zip}
 use Rattle.std.proofs.lemmas.List.{map-append}
 use Rattle.stat_defs.specs.declared.configs.Config.{Config}
 use Rattle.stat_defs.specs.declared.events.Event.{Event}
-use Rattle.stat_defs.specs.declared.history.Verdict.{Verdict}
 use Rattle.stat_defs.specs.declared.reports.FlushRecord.{FlushRecord}
 use Rattle.stat_defs.specs.declared.reports.LastFlush.{LastFlush}
 use Rattle.stat_defs.specs.declared.reports.ReadRecord.{ReadRecord}
@@ -14,7 +13,7 @@ use Rattle.stats_io.specs.States.{SourceState}
 use Rattle.locked_book.specs.Sharing.{first_of}
 use Rattle.ledger.specs.Ledger.{RunPlan, plan_of}
 use Rattle.ledger.specs.Work.{events_in, verdicts_in}
-use Rattle.run_ledger.specs.Told.{RunTold, FlushTold, ReadTold, WorkerTold}
+use Rattle.run_ledger.specs.Told.{RunTold, FlushTold, ReadTold}
 use Rattle.run_ledger.specs.Accounts.{RunAccounts}
 use Rattle.run_ledger.proofs.Accounts.{run_accounts}
 use Rattle.store_parts.specs.declared.store.Store.{Store}
@@ -122,11 +121,11 @@ module _ {S : Type 0} (state : S → SourceState) (config : Config) (store : Sto
   accounted =
       subst (λ (r : Report). RunAccounts (plan_of config) (map events_by workers) told r) (sym reported)
       (subst (λ (es : List (List Event)). RunAccounts (plan_of config) es told
-          (record (report_told told last.log) { ends = map (λ x. x.end) workers })) (told_events workers)
+      (record (report_told told last.log) { ends = map (λ x. x.end) workers })) (told_events workers)
       (subst (λ (p : RunPlan). RunAccounts p (events_told told) told
-          (record (report_told told last.log) { ends = map (λ x. x.end) workers })) planned
+      (record (report_told told last.log) { ends = map (λ x. x.end) workers })) planned
       (with_ends (plan_told (first_of store.book).config told) (events_told told) told (report_told told last.log)
-          (map (λ x. x.end) workers) closes.accounts)))
+      (map (λ x. x.end) workers) closes.accounts)))
 
   -- the run of these files
   pub run_made : IsRunOf state config files report

@@ -1,5 +1,5 @@
 -- What the workers of a run did with their files.
-use Rattle.std.proofs.Common.{◌≡◌, ℕ, suc, Ok, IfOk, List, [], ◌∷◌, map, length, refl, sym, ap, ◌∙◌, subst, arith}
+use Rattle.std.proofs.Common.{◌≡◌, ℕ, suc, None, List, [], ◌∷◌, map, length, refl, sym, ap, ◌∙◌, subst}
 use Rattle.std.specs.List.{AllZip, AllByRecursion, zip}
 use Rattle.stat_defs.specs.declared.events.Event.{Event}
 use Rattle.stat_defs.specs.declared.history.Verdict.{Verdict}
@@ -14,7 +14,6 @@ use Rattle.ledger.specs.Ledger.{AreRead, TakenAtFault}
 use Rattle.ledger.specs.Lists.{EachNumbered}
 use Rattle.ledger.specs.Work.{Work, events_in, verdicts_in}
 use Rattle.store_parts.specs.declared.store.Store.{Store}
-use Rattle.recorder.specs.declared.ended.Ended.{Ended}
 use Rattle.recorder.specs.Tied.{HasEnded}
 use Rattle.worker_run.specs.declared.given.Given.{Given}
 use Rattle.worker_run.specs.declared.given.Given.TheVariants.{Opened, Missing}
@@ -50,7 +49,7 @@ module _ {S : Type 0} (state : S → SourceState) where
       → IsRun (content_of state file) end.end end.taken events
   file_run (Opened source) events end read = read.is_run
   file_run Missing events end read =
-      subst (λ (e : WorkerEnd). IsRun (content_of state (Missing {S})) e.end e.taken events) (sym read.1) read.0
+      subst (λ (e : WorkerEnd). IsRun None e.end e.taken events) (sym read.1) read.0
 
   file_counted : (file : Given S) (events : List Event) (end : WorkerEnd) → IsFileRead state file events end
       → TakenAtFault end.end end.taken
@@ -68,7 +67,7 @@ module _ {S : Type 0} (state : S → SourceState) where
     -- the workers of jobs that came to an end
     pub jobs_worked : (w : ℕ) (jobs : List (Job S)) (workers : List Worked)
         → EachNumbered (λ number job. job.number ≡ number) w jobs
-        → AllZip (λ job done. IfOk done (IsWorked state store job.number job.given)) jobs (map Ok workers)
+        → AllZip (λ job done. IsWorked state store job.number job.given done) jobs workers
         → AreWorked w (map (λ job. job.given) jobs) workers
     jobs_worked w [] [] numbers done = tt
     jobs_worked w [] (x ∷ xs) numbers done = absurd done
@@ -98,7 +97,7 @@ module _ {S : Type 0} (state : S → SourceState) where
 
     pub files_read : (w : ℕ) (files : List (Given S)) (workers : List Worked) → AreWorked w files workers
         → AllZip (λ file told. IsFileRead state file told.1 told.0) files
-            (zip (map (λ x. x.end) workers) (map events_by workers))
+        (zip (map (λ x. x.end) workers) (map events_by workers))
     files_read w [] [] are = tt
     files_read w [] (x ∷ xs) are = absurd are
     files_read w (file ∷ files) [] are = absurd are
@@ -106,7 +105,7 @@ module _ {S : Type 0} (state : S → SourceState) where
 
     files_run : (w : ℕ) (files : List (Given S)) (workers : List Worked) → AreWorked w files workers
         → AllZip (λ content told. IsRun content told.0.end told.0.taken told.1) (map (content_of state) files)
-            (zip (map (λ x. x.end) workers) (map events_by workers))
+        (zip (map (λ x. x.end) workers) (map events_by workers))
     files_run w [] [] are = tt
     files_run w [] (x ∷ xs) are = absurd are
     files_run w (file ∷ files) [] are = absurd are
@@ -127,8 +126,8 @@ module _ {S : Type 0} (state : S → SourceState) where
     verdicts_told w [] [] are = refl
     verdicts_told w [] (x ∷ xs) are = absurd are
     verdicts_told w (file ∷ files) [] are = absurd are
-    verdicts_told w (file ∷ files) (x ∷ xs) are = λ i.
-    (sym are.0.decided i ∷ verdicts_told (suc w) files xs are.1 i)
+    verdicts_told w (file ∷ files) (x ∷ xs) are =
+        λ i. (sym are.0.decided i ∷ verdicts_told (suc w) files xs are.1 i)
 
     verdict_counts : (workers : List Worked)
         → map length (map verdicts_by workers) ≡ map length (map events_by workers)
@@ -153,7 +152,7 @@ module _ {S : Type 0} (state : S → SourceState) where
           a_verdict_each = ap (map length) verdicts ∙ verdict_counts workers;
           read = subst (λ (es : List WorkerEnd).
               AllZip (λ content told. IsRun content told.0.end told.0.taken told.1) (map (content_of state) files)
-                  (zip es (map events_by workers))) (sym ends) (files_run w files workers are);
+              (zip es (map events_by workers))) (sym ends) (files_run w files workers are);
           counted = subst (AllByRecursion (λ (end : WorkerEnd). TakenAtFault end.end end.taken)) (sym ends)
               (files_counted w files workers are);
         }

@@ -1,5 +1,4 @@
 -- The workers of a run (this project's own).
-use Rattle.std.specs.Prelude.{ℕ}
 use Rattle.store_parts.specs.declared.store.Store.{Store}
 use Rattle.recorder.specs.Tied.{IsNewWorker}
 use Rattle.worker_run.specs.declared.given.Job.{Job}

@@ -1,0 +1,42 @@
+//! A run of files.
+ghost use Rattle.std.specs.Prelude.{◌≡◌, ◌≤◌, IfOk, length};
+ghost use Rattle.stat_defs.specs.Configs.{IsConfig};
+ghost use Rattle.book_state.specs.declared.limits.TheConstants.{MAX_WORKERS};
+ghost use Rattle.run_files.specs.Run.{IsRunOf};
+
+use crate::reporting::report_of;
+use crate::returning::run_parties;
+use crate::starting::{Setup, Started, start};
+use run_gates::Gate;
+use stat_defs::{NoMemory, Report};
+use stats_io::Source;
+use std::alloc::Global;
+use std::sync::Wait;
+use std::thread::Threads;
+use worker_run::Given;
+
+/// Runs the files side by side, each with a worker of its own, beside a flusher and a reader that make as many flushes
+/// and readings as the configuration asks for, and gives the report. Each event, flush and reading waits for the gate.
+///
+/// All threads have ended when it returns. Where a thread wants memory, the flusher and the reader make no further round,
+/// and the gate is told of each worker that is done.
+pub fn run_files<R: Threads + Wait + Sync, G: Gate + Sync, S: Source + Drop + Send>(
+    rt: &R,
+    alloc: Global,
+    gate: &G,
+    setup: Setup<'_>,
+    files: Vec<Given<S>>,
+) -> Result<Report, NoMemory>
+    requires config { IsConfig setup.config.now }
+    requires built { (setup.rules ≡ setup.config.now.tags) × (setup.matcher ≡ setup.config.now.matcher) }
+    requires files { (1 ≤ length files.items) × (length files.items ≤ MAX_WORKERS) }
+    ensures { IfOk result (IsRunOf S.state setup.entry.config.now files.items) }
+{
+    let started = start(alloc, setup, files)?;
+    let Started { store, sides, jobs } = started;
+    let Ok(done) = run_parties(rt, alloc, gate, &store, sides, jobs) else {
+        drop(store);
+        return Err(NoMemory);
+    };
+    report_of(alloc, store, done)
+}
