@@ -113,7 +113,8 @@ module _ {S : Type 0} (state : S → SourceState) (config : Config) (store : Sto
 
   planned : plan_told (first_of store.book).config told ≡ plan_of config
   planned = ap (λ (c : Config). plan_told c told) configured ∙ (λ i. record (plan_of config) {
-    flushes = shown_count (λ (flush : FlushTold). flush.shown) flusher.flushes flushes config.flushes flushed flush_count i;
+    flushes =
+        shown_count (λ (flush : FlushTold). flush.shown) flusher.flushes flushes config.flushes flushed flush_count i;
     reads = shown_count (λ (reading : ReadTold). reading.shown) reader.reads reads config.reads read read_count i;
   })
 
