@@ -7,17 +7,19 @@ use stat_defs::{FlushRecord, MetricId, Report};
 use stats_io::{MemShelf, MemSink};
 use std::alloc::Global;
 use std::process::Abort;
+use std::sync::Wait;
 use std::test::Fail;
+use std::thread::Threads;
 use tag_rules::RegexMaker;
 
 // What a call of the program over that shelf comes to, with an output sink whose push of that number fails.
-fn run_over(
-    rt: &HostRuntime,
+fn run_over<R: Threads + Wait + Sync>(
+    rt: &R,
+    alloc: Global,
     words: &str,
     mut shelf: MemShelf,
     failing_push: u64,
 ) -> Result<Played, Fail> {
-    let alloc = rt.alloc();
     let mut maker = RegexMaker::new(Vec::new(alloc));
     let mut out = MemSink::new(alloc, 4000, 1, vec![in alloc; failing_push]?)?;
     let mut err = MemSink::new(alloc, 1000, 100, Vec::new(alloc))?;
@@ -34,7 +36,8 @@ fn run_over(
     })
 }
 
-// A call with its files, parted by `|`, the number of the first file's pull that fails, and what it comes to.
+// A call with its files, parted by `|`, the number of the pull that fails of each file, and what it comes to.
+#[derive(Clone, Copy)]
 struct Row {
     words: &'static str,
     files: &'static str,
@@ -75,7 +78,7 @@ const ROWS: [Row; 6] = [
         failing_pull: 1,
         status: 4,
         out: "# last\nenvoy.a:1|c\nenvoy.c:4|c\n# worker 1: 1 accepted, 0 dropped\n# worker 2: 1 accepted, 0 dropped\n",
-        err: "file 1: read failed\n",
+        err: "file 1: read failed\nfile 2: read failed\n",
     },
     Row {
         words: "run - f1 f2",
@@ -109,7 +112,7 @@ fn workers_side_by_side(rt: HostRuntime) -> Result<(), Fail> {
     for row in ROWS {
         let files = parted(rt.alloc(), row.files)?;
         let shelf = shelf_with(rt.alloc(), &files, row.failing_pull)?;
-        let played = run_over(&rt, row.words, shelf, 9_999)?;
+        let played = run_over(&rt, rt.alloc(), row.words, shelf, 9_999)?;
         let wanted = Wanted {
             status: row.status,
             reports: row.status != 2,
@@ -126,12 +129,12 @@ fn each_push_of_a_run_failing(rt: HostRuntime) -> Result<(), Fail> {
     let output = b"# last\nenvoy.a:7|c\n# worker 1: 2 accepted, 0 dropped\n";
     for k in 0..output.len() as u64 {
         let shelf = shelf_of(rt.alloc(), b"inc root a 3\ninc root a 4\n", 9)?;
-        let played = run_over(&rt, "run - f1", shelf, k)?;
+        let played = run_over(&rt, rt.alloc(), "run - f1", shelf, k)?;
         assert_eq!(rt; played.outcome.status, 5, "{k}");
         assert!(rt; played.outcome.report.is_some(), "{k}");
         assert_eq!(rt; played.out.bytes().len() as u64, k);
         assert!(rt; output.starts_with(played.out.bytes()), "{k}");
-        assert!(rt; played.err.bytes() == b"write failed\n", "{k}");
+        assert!(rt; played.err.bytes() == b"write failed\n".as_slice(), "{k}");
     }
     Ok(())
 }
@@ -151,10 +154,13 @@ fn ten_lines(alloc: Global, boot: &[u8], line: &[u8]) -> Result<MemShelf, Fail> 
 }
 
 // The report of a run of such a file.
-fn paced_report(rt: &HostRuntime, line: &[u8]) -> Result<Report, Fail> {
-    let shelf = ten_lines(rt.alloc(), PACED, line)?;
-    let played = run_over(rt, "run b f", shelf, 9_999)?;
-    assert_eq!(rt; played.outcome.status, 0);
+fn paced_report<R: Threads + Wait + Sync>(
+    rt: &R,
+    alloc: Global,
+    line: &[u8],
+) -> Result<Report, Fail> {
+    let shelf = ten_lines(alloc, PACED, line)?;
+    let played = run_over(rt, alloc, "run b f", shelf, 9_999)?;
     Ok(played.outcome.report.ok_or("no report")?)
 }
 
@@ -182,7 +188,7 @@ fn values_in(flush: &FlushRecord) -> u64 {
 
 #[test]
 fn flushes_and_reads(rt: HostRuntime) -> Result<(), Fail> {
-    let report = paced_report(&rt, b"inc root a 1\n")?;
+    let report = paced_report(&rt, rt.alloc(), b"inc root a 1\n")?;
     let flushes = report.flushes.items();
     assert_eq!(rt; flushes.len(), 3);
     let mut units = 0u64;
@@ -201,7 +207,7 @@ fn flushes_and_reads(rt: HostRuntime) -> Result<(), Fail> {
 
 #[test]
 fn flushes_of_values(rt: HostRuntime) -> Result<(), Fail> {
-    let report = paced_report(&rt, b"rec root h 7\n")?;
+    let report = paced_report(&rt, rt.alloc(), b"rec root h 7\n")?;
     let mut values = 0u64;
     for flush in report.flushes.items() {
         values = values.saturating_add(values_in(flush));
