@@ -100,10 +100,12 @@ def is_right(kind, status, out, err):
     if status not in STATUSES[kind] or not err:
         return False
     if kind in ("open", "read") and out:
-        # Files that could not be opened or read have no events.
+        # A file that could not be opened has no events; one that could not be read on has those that were read, all in
+        # the first read or none.
         missing = {int(number) for number in re.findall(r"file (\d+): (?:not opened|read failed)", err)}
         scripts = [[] if worker in missing else script for worker, script in enumerate(USUAL, 1)]
-        return not check(Model(BOOT, scripts), ASKED, out)
+        read = kind == "read" and not check(model, ASKED, out)
+        return read or not check(Model(BOOT, scripts), ASKED, out)
     return out == "" or out.startswith("# ")
 
 

@@ -34,7 +34,8 @@ def write(place, name, text):
 def prepare(rng, place):
     """Writes a bootstrap and its files, and gives what they come to."""
     goes, quarrels = rng.random() < 0.6, rng.random() < 0.4
-    scripts = [Script(rng, worker, goes, quarrels).lines(rng.randrange(200, 3000)) for worker in range(1, FILES + 1)]
+    most = rng.choice([3000, 3000, 3000, 15000])
+    scripts = [Script(rng, worker, goes, quarrels).lines(rng.randrange(200, most)) for worker in range(1, FILES + 1)]
     boot = boot_of(rng, FLUSHES, READS, sum(map(len, scripts)))
     write(place, "boot", json.dumps(boot))
     for worker, script in enumerate(scripts, 1):
