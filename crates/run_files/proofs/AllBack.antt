@@ -42,7 +42,8 @@ module _ {S V : Type 0} (items : V → List (Result Worked NoMemory)) (state : S
       → IfOk result (AreBack state store sides jobs)
   all_back (Err e) a b c = tt
   all_back (Ok done) a b c =
-      let both = both_ok (λ list. AllZip (λ job done. IfOk done (IsWorked state store job.number job.given)) jobs (items list))
+      let both = both_ok
+      (λ list. AllZip (λ job done. IfOk done (IsWorked state store job.number job.given)) jobs (items list))
       (λ list. AreGathered (items list) done.gathered) results worked c in
       let all = both.1.1 in record {
         flushings = subst (λ (r : Result Flushings NoMemory). IfOk r (AreFlushings store sides.flushes)) a flushed;

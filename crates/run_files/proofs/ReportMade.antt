@@ -24,7 +24,7 @@ use Rattle.store_closing.specs.Closes.{Closes, told_of, plan_told, events_told, 
 use Rattle.worker_run.specs.declared.given.Given.{Given}
 use Rattle.worker_run.specs.declared.given.Worked.{Worked}
 use Rattle.worker_run.specs.Working.{IsFileRead}
-use Rattle.run_files.specs.Run.{IsRunOf}
+use Rattle.run_files.specs.Run.{IsRunOver}
 use Rattle.run_files.proofs.WorkersDone.{events_by, verdicts_by, AreWorked, are_read, files_read, verdicts_told}
 
 -- the accounts of a run say nothing of the files' ends
@@ -113,7 +113,8 @@ module _ {S : Type 0} (state : S → SourceState) (config : Config) (store : Sto
 
   planned : plan_told (first_of store.book).config told ≡ plan_of config
   planned = ap (λ (c : Config). plan_told c told) configured ∙ (λ i. record (plan_of config) {
-    flushes = shown_count (λ (flush : FlushTold). flush.shown) flusher.flushes flushes config.flushes flushed flush_count i;
+    flushes =
+        shown_count (λ (flush : FlushTold). flush.shown) flusher.flushes flushes config.flushes flushed flush_count i;
     reads = shown_count (λ (reading : ReadTold). reading.shown) reader.reads reads config.reads read read_count i;
   })
 
@@ -128,7 +129,7 @@ module _ {S : Type 0} (state : S → SourceState) (config : Config) (store : Sto
       (map (λ x. x.end) workers) closes.accounts)))
 
   -- the run of these files
-  pub run_made : IsRunOf state config files report
+  pub run_made : IsRunOver state config files report
   run_made =
       let verdicts = ap (λ (r : Report). r.verdicts) is ∙ verdicts_told state store 1 files workers worked in
       let ends = ap (λ (r : Report). r.ends) is in

@@ -30,7 +30,8 @@ module _ {S : Type 0} (store : Store) where
       → All (IsReady store) jobs
   all_ready recorders jobs new are numbers =
       All-from_recursion (IsReady store) jobs
-      (ready_by 1 jobs (subst (λ (rs : List RecorderKnown). EachNumbered (IsNewWorker store) 1 rs) (sym are) new) numbers)
+      (ready_by 1 jobs
+      (subst (λ (rs : List RecorderKnown). EachNumbered (IsNewWorker store) 1 rs) (sym are) new) numbers)
 
 -- a new flusher and a new reader have done nothing yet
 pub none_flushed : (store : Store) (k : FlusherKnown) → IsNewFlusher store k → HasFlushed store [] k

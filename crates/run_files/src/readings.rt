@@ -1,6 +1,5 @@
 //! The readings of a run.
-ghost use Rattle.std.specs.Prelude.{◌≡◌, ◌+◌, ◌++◌, ◌∷◌, [], IfOk, OnOk, length};
-ghost use Rattle.admin_side.specs.Reader.{IsReaderOf};
+ghost use Rattle.std.specs.Prelude.{◌≡◌, ◌+◌, [], IfOk, OnOk, length};
 ghost use Rattle.run_files.specs.Readings.{HasRead, AreReadings};
 
 use crate::hall::Hall;

@@ -2,7 +2,7 @@
 ghost use Rattle.std.specs.Prelude.{◌≡◌, ◌≤◌, IfOk, length};
 ghost use Rattle.stat_defs.specs.Configs.{IsConfig};
 ghost use Rattle.book_state.specs.declared.limits.TheConstants.{MAX_WORKERS};
-ghost use Rattle.run_files.specs.Run.{IsRunOf};
+ghost use Rattle.run_files.specs.Run.{IsRunOver};
 
 use crate::reporting::report_of;
 use crate::returning::run_parties;
@@ -18,8 +18,8 @@ use worker_run::Given;
 /// Runs the files side by side, each with a worker of its own, beside a flusher and a reader that make as many flushes
 /// and readings as the configuration asks for, and gives the report. Each event, flush and reading waits for the gate.
 ///
-/// All threads have ended when it returns. Where a thread wants memory, the flusher and the reader make no further round,
-/// and the gate is told of each worker that is done.
+/// All threads have ended when it returns. Where a worker wants memory, the flusher and the reader make no further round,
+/// and whatever comes the gate is told once of each worker that is done.
 pub fn run_files<R: Threads + Wait + Sync, G: Gate + Sync, S: Source + Drop + Send>(
     rt: &R,
     alloc: Global,
@@ -30,7 +30,7 @@ pub fn run_files<R: Threads + Wait + Sync, G: Gate + Sync, S: Source + Drop + Se
     requires config { IsConfig setup.config.now }
     requires built { (setup.rules ≡ setup.config.now.tags) × (setup.matcher ≡ setup.config.now.matcher) }
     requires files { (1 ≤ length files.items) × (length files.items ≤ MAX_WORKERS) }
-    ensures { IfOk result (IsRunOf S.state setup.entry.config.now files.items) }
+    ensures { IfOk result (IsRunOver S.state setup.entry.config.now files.items) }
 {
     let started = start(alloc, setup, files)?;
     let Started { store, sides, jobs } = started;

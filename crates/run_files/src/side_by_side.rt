@@ -124,7 +124,8 @@ pub(crate) fn run_all<R: Threads + Wait + Sync, G: Gate + Sync, S: Source + Drop
     ensures flusher { IfOk result.0.0 (AreFlushings hall.now.store.now sides.flushes) }
     ensures reader { IfOk result.0.1 (AreReadings hall.now.store.now sides.reads) }
     ensures workers { IfOk result.1 (λ results.
-        AllZip (λ job done. IfOk done (IsWorked S.state hall.now.store.now job.number job.given)) jobs.items results.items) }
+        AllZip (λ job done. IfOk done (IsWorked S.state hall.now.store.now job.number job.given))
+        jobs.items results.items) }
 {
     let Hall {
         rt,

@@ -14,8 +14,9 @@ use store_parts::Store;
 use tag_rules::{Matcher, TagRules};
 use worker_run::{Given, Job};
 
-/// What a run is set up with: the key of its tables of names, its configuration, and the rules and the matcher that were
-/// built from it.
+/// What a run is set up with: the key of its tables of names, its configuration, and the rules and the matcher that
+/// were built from it.
+#[derive(Drop)]
 pub struct Setup<'a> {
     pub key: HashKey,
     pub config: &'a Config,

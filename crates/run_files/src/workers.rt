@@ -1,7 +1,6 @@
 //! The workers of a run.
 ghost use Rattle.std.specs.Prelude.{All, IfOk};
 ghost use Rattle.std.specs.List.{AllZip};
-ghost use Rattle.recorder.specs.Tied.{IsNewWorker};
 ghost use Rattle.worker_run.specs.Working.{IsWorked};
 ghost use Rattle.run_files.specs.Workers.{IsReady};
 
@@ -38,7 +37,8 @@ pub(crate) fn work_all<R: Threads + Wait + Sync, G: Gate + Sync, S: Source + Dro
 ) -> Result<Vec<Result<Worked, NoMemory>>, NoMemory>
     requires { All (IsReady hall.now.store.now) jobs.items }
     ensures { IfOk result (λ results.
-        AllZip (λ job done. IfOk done (IsWorked S.state hall.now.store.now job.number job.given)) jobs.items results.items) }
+        AllZip (λ job done. IfOk done (IsWorked S.state hall.now.store.now job.number job.given))
+        jobs.items results.items) }
 {
     let run = |job: Job<S>| -> Result<Worked, NoMemory>
         requires { IsReady hall.now.store.now job }

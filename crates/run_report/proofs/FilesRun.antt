@@ -14,7 +14,7 @@ use Rattle.file_reading.proofs.FileOpened.{file_read, file_unopened}
 use Rattle.replay_report.proofs.FilesReported.{events_of, ends_of, runs_of, counted_of}
 use Rattle.worker_run.specs.declared.given.Given.{Given}
 use Rattle.worker_run.specs.declared.given.Given.TheVariants.{Opened, Missing}
-use Rattle.run_files.specs.Run.{content_of, IsRunOf as IsRunOver}
+use Rattle.run_files.specs.Run.{content_of, IsRunOver}
 use Rattle.worker_run.specs.Working.{IsFileRead}
 use Rattle.run_report.specs.Opened.{told_or, with_told, IsOpening, AreOpenings, AreOpened}
 use Rattle.run_report.specs.RunReport.{IsRunOf}

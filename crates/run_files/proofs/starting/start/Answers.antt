@@ -12,7 +12,8 @@ returns g c =
       flusher = none_flushed opened.store opened.flusher opens.flusher;
       reader = none_read opened.store _ opened.admin opens.reader;
       rounds = (refl, refl);
-      ready = all_ready opened.store opened.recorders.items c.in-Ok.jobs.items opens.recorders made.recorders made.numbers;
+      ready = all_ready opened.store opened.recorders.items c.in-Ok.jobs.items opens.recorders made.recorders
+          made.numbers;
       given = made.files;
       numbers = made.numbers;
     }
