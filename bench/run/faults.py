@@ -1,11 +1,12 @@
 #!/usr/bin/env python3
-"""Runs the program over files with faults, and with one call of the system failing at every place.
+"""Runs the program over files with faults, with few threads or none, and with one call of the system failing at every
+place.
 
 usage: faults.py PROGRAM
 
 Each run has three workers, two flushes and two readings. It looks at the status, at standard error and at standard
-output, and that each run ends. For the second part it needs a C compiler, and Linux for LD_PRELOAD, as `bench/faults`
-does.
+output, and that each run ends. But for the first part it needs a C compiler, and Linux for LD_PRELOAD, as
+`bench/faults` does.
 """
 import collections
 import json
@@ -19,7 +20,7 @@ from pathlib import Path
 from checks import check
 from model import Model
 
-SHIM = Path(__file__).resolve().parents[1] / "faults" / "fail.c"
+HERE = Path(__file__).resolve().parent
 BOOT = {"stats_run": {"scopes": [{"label": "web", "prefix": "http.web."}], "flushes": 2, "flush_every": 2, "reads": 2}}
 EVENTS = ["inc web c.n 1", "open mine%d cluster.c", "inc mine%d c.n 2", "rec web h.v 12", "add web g.sum acc 3",
           "release mine%d", "inc web c.n 4"]
@@ -100,19 +101,42 @@ def is_right(kind, status, out, err):
     if status not in STATUSES[kind] or not err:
         return False
     if kind in ("open", "read") and out:
-        # Files that could not be opened or read have no events.
+        # A file that could not be opened has no events; one that could not be read on has those that were read, all in
+        # the first read or none.
         missing = {int(number) for number in re.findall(r"file (\d+): (?:not opened|read failed)", err)}
         scripts = [[] if worker in missing else script for worker, script in enumerate(USUAL, 1)]
-        return not check(Model(BOOT, scripts), ASKED, out)
+        read = kind == "read" and not check(model, ASKED, out)
+        return read or not check(Model(BOOT, scripts), ASKED, out)
     return out == "" or out.startswith("# ")
+
+
+def compile_shim(place, source):
+    """A library that is loaded before the program."""
+    shim = os.path.join(place, source.stem + ".so")
+    subprocess.run(["cc", "-shared", "-fPIC", "-O1", "-o", shim, str(source), "-ldl"], check=True)
+    return shim
+
+
+def few_threads(program):
+    """So many threads can be made, from none on: the output is that of some order."""
+    wrong = 0
+    with tempfile.TemporaryDirectory() as place:
+        shim = compile_shim(place, HERE / "threads.c")
+        prepare(place, USUAL)
+        for most in range(6):
+            got = run(program, place, 3, LD_PRELOAD=shim, THREADS_AT_MOST=str(most))
+            faults = check(Model(BOOT, USUAL), ASKED, got[1]) if got[0] == 0 else ["status %d, %r" % (got[0], got[2])]
+            told = "".join("; " + what for what in faults[:3])
+            print("%s: at most %d threads%s" % ("wrong" if faults else "ok", most, told))
+            wrong += bool(faults)
+    return wrong
 
 
 def every_place(program):
     """Each allocation, opening, read and write failing in turn, until three runs in a row have no fault."""
     wrong = 0
     with tempfile.TemporaryDirectory() as place:
-        shim = os.path.join(place, "fail.so")
-        subprocess.run(["cc", "-shared", "-fPIC", "-O1", "-o", shim, str(SHIM), "-ldl"], check=True)
+        shim = compile_shim(place, HERE.parent / "faults" / "fail.c")
         prepare(place, USUAL)
         for kind in STATUSES:
             seen, at, unfailed = collections.Counter(), 0, 0
@@ -130,7 +154,7 @@ def every_place(program):
 
 def main():
     program = os.path.abspath(sys.argv[1])
-    wrong = cases(program) + every_place(program)
+    wrong = cases(program) + few_threads(program) + every_place(program)
     sys.exit(min(wrong, 100))
 
 

@@ -12,6 +12,7 @@ import collections
 import json
 import os
 import random
+import re
 import subprocess
 import sys
 import tempfile
@@ -34,7 +35,8 @@ def write(place, name, text):
 def prepare(rng, place):
     """Writes a bootstrap and its files, and gives what they come to."""
     goes, quarrels = rng.random() < 0.6, rng.random() < 0.4
-    scripts = [Script(rng, worker, goes, quarrels).lines(rng.randrange(200, 3000)) for worker in range(1, FILES + 1)]
+    most = rng.choice([3000, 3000, 3000, 15000])
+    scripts = [Script(rng, worker, goes, quarrels).lines(rng.randrange(200, most)) for worker in range(1, FILES + 1)]
     boot = boot_of(rng, FLUSHES, READS, sum(map(len, scripts)))
     write(place, "boot", json.dumps(boot))
     for worker, script in enumerate(scripts, 1):
@@ -66,10 +68,11 @@ def faults_of(program, place, model, command, fmt, symbols, tally):
 
 
 def count(text, tally):
-    """Counts how many flushes and readings came while workers were at work: those that differ from the one before."""
+    """Counts the flushes and readings behind which one has more, since workers were at work when they came."""
     out = Output(text)
     for before, now in zip(out.flushes, out.flushes[1:-1]):
-        tally["flushes at work"] += before != now
+        news = [line for line in set(now) - set(before) if not re.search(r":0\|c$", line)]
+        tally["flushes at work"] += bool(news)
     for before, now in zip(out.reads, out.reads[1:]):
         tally["readings at work"] += before != now
 
