@@ -1,0 +1,194 @@
+//! Gates that hold the threads of a run up until another thread has come to some place.
+
+use run_gates::Gate;
+use std::sync::Wait;
+use std::sync::atomic::{AtomicBool, Ordering};
+use std::thread::yield_now;
+
+/// So many turns a gate waits for a thread.
+const TURNS: u32 = 1_000_000;
+
+/// So many turns an event waits for a flush that may be waiting for that event.
+const FEW_TURNS: u32 = 1_000;
+
+/// Whether a gate has waited in vain. Then it holds no more, so that the run ends and its test says so.
+#[derive(Drop)]
+pub(crate) struct Patience {
+    lost: AtomicBool,
+}
+
+impl Patience {
+    fn new() -> Patience {
+        Patience {
+            lost: AtomicBool::new(false),
+        }
+    }
+
+    pub(crate) fn is_lost(&self) -> bool {
+        self.lost.load(Ordering::SeqCst)
+    }
+
+    // Waits until the flag is set.
+    fn wait_for(&self, flag: &AtomicBool) {
+        for _ in 0..TURNS {
+            if flag.load(Ordering::SeqCst) || self.is_lost() {
+                return;
+            }
+            yield_now();
+        }
+        self.lost.store(true, Ordering::SeqCst);
+    }
+}
+
+/// Holds worker 1 until worker 2 is done.
+#[derive(Drop)]
+pub(crate) struct SecondFirst {
+    pub(crate) patience: Patience,
+    second_done: AtomicBool,
+}
+
+impl SecondFirst {
+    pub(crate) fn new() -> SecondFirst {
+        SecondFirst {
+            patience: Patience::new(),
+            second_done: AtomicBool::new(false),
+        }
+    }
+}
+
+impl Gate for SecondFirst {
+    fn worker_at<R: Wait>(&self, _rt: &R, worker: u32, _event: u64) {
+        if worker == 1 {
+            self.patience.wait_for(&self.second_done);
+        }
+    }
+
+    fn worker_done<R: Wait>(&self, _rt: &R, worker: u32) {
+        if worker == 2 {
+            self.second_done.store(true, Ordering::SeqCst);
+        }
+    }
+
+    fn flusher_at<R: Wait>(&self, _rt: &R, _round: u32) {}
+
+    fn reader_at<R: Wait>(&self, _rt: &R, _round: u32) {}
+}
+
+/// Holds each flush and each reading until the one worker is done.
+#[derive(Drop)]
+pub(crate) struct WorkerFirst {
+    pub(crate) patience: Patience,
+    done: AtomicBool,
+}
+
+impl WorkerFirst {
+    pub(crate) fn new() -> WorkerFirst {
+        WorkerFirst {
+            patience: Patience::new(),
+            done: AtomicBool::new(false),
+        }
+    }
+}
+
+impl Gate for WorkerFirst {
+    fn worker_at<R: Wait>(&self, _rt: &R, _worker: u32, _event: u64) {}
+
+    fn worker_done<R: Wait>(&self, _rt: &R, _worker: u32) {
+        self.done.store(true, Ordering::SeqCst);
+    }
+
+    fn flusher_at<R: Wait>(&self, _rt: &R, _round: u32) {
+        self.patience.wait_for(&self.done);
+    }
+
+    fn reader_at<R: Wait>(&self, _rt: &R, _round: u32) {
+        self.patience.wait_for(&self.done);
+    }
+}
+
+/// Makes reading 1 between the first and the second event of the one worker. A thread that waits for its next step has
+/// done the one before.
+#[derive(Drop)]
+pub(crate) struct ReadingBetween {
+    pub(crate) patience: Patience,
+    second_event: AtomicBool,
+    second_reading: AtomicBool,
+}
+
+impl ReadingBetween {
+    pub(crate) fn new() -> ReadingBetween {
+        ReadingBetween {
+            patience: Patience::new(),
+            second_event: AtomicBool::new(false),
+            second_reading: AtomicBool::new(false),
+        }
+    }
+}
+
+impl Gate for ReadingBetween {
+    fn worker_at<R: Wait>(&self, _rt: &R, _worker: u32, event: u64) {
+        if event == 2 {
+            self.second_event.store(true, Ordering::SeqCst);
+            self.patience.wait_for(&self.second_reading);
+        }
+    }
+
+    fn worker_done<R: Wait>(&self, _rt: &R, _worker: u32) {}
+
+    fn flusher_at<R: Wait>(&self, _rt: &R, _round: u32) {}
+
+    fn reader_at<R: Wait>(&self, _rt: &R, round: u32) {
+        match round {
+            1 => self.patience.wait_for(&self.second_event),
+            _ => self.second_reading.store(true, Ordering::SeqCst),
+        }
+    }
+}
+
+/// Makes flush 1 behind the fifth event of the one worker and before its last ones. The flush needs events to go on,
+/// since a worker turns its half with an event. So each event waits for the end of the flush, but only a few turns.
+#[derive(Drop)]
+pub(crate) struct FlushAmong {
+    pub(crate) patience: Patience,
+    sixth_event: AtomicBool,
+    second_flush: AtomicBool,
+}
+
+impl FlushAmong {
+    pub(crate) fn new() -> FlushAmong {
+        FlushAmong {
+            patience: Patience::new(),
+            sixth_event: AtomicBool::new(false),
+            second_flush: AtomicBool::new(false),
+        }
+    }
+
+    fn wait_a_little(&self) {
+        for _ in 0..FEW_TURNS {
+            if self.second_flush.load(Ordering::SeqCst) {
+                return;
+            }
+            yield_now();
+        }
+    }
+}
+
+impl Gate for FlushAmong {
+    fn worker_at<R: Wait>(&self, _rt: &R, _worker: u32, event: u64) {
+        if event >= 6 {
+            self.sixth_event.store(true, Ordering::SeqCst);
+            self.wait_a_little();
+        }
+    }
+
+    fn worker_done<R: Wait>(&self, _rt: &R, _worker: u32) {}
+
+    fn flusher_at<R: Wait>(&self, _rt: &R, round: u32) {
+        match round {
+            1 => self.patience.wait_for(&self.sixth_event),
+            _ => self.second_flush.store(true, Ordering::SeqCst),
+        }
+    }
+
+    fn reader_at<R: Wait>(&self, _rt: &R, _round: u32) {}
+}

@@ -1,0 +1,169 @@
+//! Runs under gates. Each test asserts only what every schedule gives.
+
+use crate::gates::{FlushAmong, ReadingBetween, SecondFirst, WorkerFirst};
+use crate::runs::{
+    all_values, delta_of, file_of, never_falls, repeated, run, units_of, values_in, word_of,
+};
+use run_gates::PaceGate;
+use stat_defs::{FileEnd, MetricId, Report, Verdict};
+use stats_io::SureSource;
+use std::alloc::Global;
+use std::test::Fail;
+use worker_run::Given;
+
+// The first metric that is made.
+const FIRST: MetricId = MetricId(0);
+
+// No flush but the last one, and no reading.
+const NO_ROUNDS: &str = r#"{"stats_config":{"use_all_default_tags":false}}"#;
+
+const TWO_FLUSHES_AND_A_READING: &str = r#"{"stats_run":{"flushes":2,"flush_every":3,"reads":1}}"#;
+
+const TWO_READINGS: &str =
+    r#"{"stats_config":{"use_all_default_tags":false},"stats_run":{"reads":2}}"#;
+
+const TWO_FLUSHES: &str =
+    r#"{"stats_config":{"use_all_default_tags":false},"stats_run":{"flushes":2}}"#;
+
+const TWENTY_ROUNDS: &str = r#"{"stats_config":{"use_all_default_tags":false},
+    "stats_run":{"flushes":20,"flush_every":200,"reads":20}}"#;
+
+#[test]
+fn workers_run_side_by_side(rt: HostRuntime) -> Result<(), Fail> {
+    let alloc = rt.alloc();
+    let gate = SecondFirst::new();
+    let first = file_of(alloc, "inc root a 3\n")?;
+    let second = file_of(alloc, "inc root a 4\n")?;
+    let files = vec![in alloc; first, second]?;
+    let report = run(&rt, alloc, &gate, NO_ROUNDS, files)?;
+    assert!(rt;
+        !gate.patience.is_lost(),
+        "worker 1 waited for worker 2 in vain"
+    );
+    assert!(rt; units_of(report.flushes.items(), FIRST) == 7);
+    drop(report);
+    Ok(())
+}
+
+#[test]
+fn rounds_behind_the_worker(rt: HostRuntime) -> Result<(), Fail> {
+    let alloc = rt.alloc();
+    let gate = WorkerFirst::new();
+    let lines = repeated(alloc, "inc root a 1\n", 10)?;
+    let files = vec![in alloc; file_of(alloc, lines.as_str())?]?;
+    let report = run(&rt, alloc, &gate, TWO_FLUSHES_AND_A_READING, files)?;
+    assert!(rt;
+        !gate.patience.is_lost(),
+        "a round waited for the worker in vain"
+    );
+    let flushes = report.flushes.items();
+    let readings = report.reads.items();
+    assert!(rt; flushes.len() == 3 && readings.len() == 1);
+    assert!(rt; delta_of(&flushes[0], FIRST) == 10 && units_of(&flushes[1..], FIRST) == 0);
+    assert!(rt; word_of(&readings[0], FIRST) == 10);
+    drop(report);
+    Ok(())
+}
+
+#[test]
+fn a_reading_between_two_events(rt: HostRuntime) -> Result<(), Fail> {
+    let alloc = rt.alloc();
+    let gate = ReadingBetween::new();
+    let files = vec![in alloc; file_of(alloc, "inc root a 1\ninc root a 2\n")?]?;
+    let report = run(&rt, alloc, &gate, TWO_READINGS, files)?;
+    assert!(rt;
+        !gate.patience.is_lost(),
+        "an event and a reading waited in vain"
+    );
+    let readings = report.reads.items();
+    assert!(rt; readings.len() == 2 && word_of(&readings[0], FIRST) == 1);
+    assert!(rt; units_of(report.flushes.items(), FIRST) == 3);
+    drop(report);
+    Ok(())
+}
+
+// Flush 1 has the five values before it, and no delta of the counter that the last event makes.
+#[test]
+fn halves_turn_during_the_run(rt: HostRuntime) -> Result<(), Fail> {
+    let alloc = rt.alloc();
+    let gate = FlushAmong::new();
+    let mut lines = repeated(alloc, "rec root h 7\n", 1_004)?;
+    lines.push_str("inc root z 1\n")?;
+    let files = vec![in alloc; file_of(alloc, lines.as_str())?]?;
+    let report = run(&rt, alloc, &gate, TWO_FLUSHES, files)?;
+    assert!(rt;
+        !gate.patience.is_lost(),
+        "flush 1 waited for the sixth event in vain"
+    );
+    let flushes = report.flushes.items();
+    let last = MetricId(1);
+    assert!(rt; flushes.len() == 3);
+    assert!(rt; values_in(&flushes[0]) >= 5 && delta_of(&flushes[0], last) == 0);
+    assert!(rt; units_of(&flushes[1..], last) == 1 && all_values(flushes) == 1_004);
+    drop(report);
+    Ok(())
+}
+
+// Each of eight workers counts in turn in one counter, which all of them find, and in one of its own.
+fn crowd(alloc: Global) -> Result<Vec<Given<SureSource>>, Fail> {
+    let mut files = Vec::new(alloc);
+    for worker in 1..=8u32 {
+        let pair = format!(in alloc; "inc root a 1\ninc root w{worker} 1\n")?;
+        let lines = repeated(alloc, pair.as_str(), 1_000)?;
+        files.push(file_of(alloc, lines.as_str())?)?;
+    }
+    Ok(files)
+}
+
+// The metric that the event at this place, from 0, was counted in.
+fn accepted_at(verdicts: &[Verdict], place: usize) -> Option<MetricId> {
+    match verdicts.get(place) {
+        Some(Verdict::Accepted(id)) => Some(*id),
+        _ => None,
+    }
+}
+
+// Whether the events were counted in these two in turn.
+fn alternate(verdicts: &[Verdict], first: MetricId, second: MetricId) -> bool {
+    let mut next = first;
+    for verdict in verdicts {
+        if *verdict != Verdict::Accepted(next) {
+            return false;
+        }
+        next = if next == first { second } else { first };
+    }
+    true
+}
+
+// Whether a worker's events were counted in the shared counter and in its own, which has no others' units.
+fn is_counted(report: &Report, verdicts: &[Verdict], shared: MetricId) -> bool {
+    let Some(own) = accepted_at(verdicts, 1) else {
+        return false;
+    };
+    verdicts.len() == 2_000
+        && alternate(verdicts, shared, own)
+        && units_of(report.flushes.items(), own) == 1_000
+        && never_falls(report.reads.items(), own)
+}
+
+#[test]
+fn a_crowd_loses_no_unit(rt: HostRuntime) -> Result<(), Fail> {
+    let alloc = rt.alloc();
+    let gate = PaceGate::new(alloc, 8, 200)?;
+    let report = run(&rt, alloc, &gate, TWENTY_ROUNDS, crowd(alloc)?)?;
+    let verdicts = report.verdicts.items();
+    let flushes = report.flushes.items();
+    let readings = report.reads.items();
+    assert!(rt; verdicts.len() == 8 && flushes.len() == 21 && readings.len() == 20);
+    // Whichever worker was first to find it, the shared counter has one number for all.
+    let shared = accepted_at(verdicts[0].items(), 0).unwrap_or(FIRST);
+    assert!(rt; units_of(flushes, shared) == 8_000 && never_falls(readings, shared));
+    for told in verdicts {
+        assert!(rt; is_counted(&report, told.items(), shared));
+    }
+    for end in report.ends.items() {
+        assert!(rt; end.end == FileEnd::Whole);
+    }
+    drop(report);
+    Ok(())
+}
