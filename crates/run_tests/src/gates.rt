@@ -8,8 +8,8 @@ use std::thread::yield_now;
 /// So many turns a gate waits for a thread.
 const TURNS: u32 = 1_000_000;
 
-/// So many turns an event waits for a flush that may be waiting for that event.
-const FEW_TURNS: u32 = 1_000;
+/// The turns that an event waits for a flush, which may itself be waiting for that event.
+const FEW_TURNS: u32 = 20;
 
 /// Whether a gate has waited in vain. Then it holds no more, so that the run ends and its test says so.
 #[derive(Drop)]
@@ -145,22 +145,32 @@ impl Gate for ReadingBetween {
     }
 }
 
-/// Makes flush 1 behind the fifth event of the one worker and before its last ones. The flush needs events to go on,
-/// since a worker turns its half with an event. So each event waits for the end of the flush, but only a few turns.
+/// Makes flush 1 behind the fifth event of the one worker and, where it can, before its last one. The flush needs events
+/// to go on, since a worker turns its half with an event. So each event waits for the end of the flush, but only a few
+/// turns. Where the flusher gets no processor meanwhile, the flush comes too late, and the gate says so.
 #[derive(Drop)]
 pub(crate) struct FlushAmong {
     pub(crate) patience: Patience,
+    last_event: u64,
     sixth_event: AtomicBool,
     second_flush: AtomicBool,
+    among: AtomicBool,
 }
 
 impl FlushAmong {
-    pub(crate) fn new() -> FlushAmong {
+    pub(crate) fn new(last_event: u64) -> FlushAmong {
         FlushAmong {
             patience: Patience::new(),
+            last_event,
             sixth_event: AtomicBool::new(false),
             second_flush: AtomicBool::new(false),
+            among: AtomicBool::new(false),
         }
+    }
+
+    /// Whether flush 1 was made before the last event.
+    pub(crate) fn was_among(&self) -> bool {
+        self.among.load(Ordering::SeqCst)
     }
 
     fn wait_a_little(&self) {
@@ -178,6 +188,10 @@ impl Gate for FlushAmong {
         if event >= 6 {
             self.sixth_event.store(true, Ordering::SeqCst);
             self.wait_a_little();
+        }
+        if event == self.last_event {
+            let made = self.second_flush.load(Ordering::SeqCst);
+            self.among.store(made, Ordering::SeqCst);
         }
     }
 
