@@ -139,17 +139,19 @@ fn each_push_of_a_run_failing(rt: HostRuntime) -> Result<(), Fail> {
     Ok(())
 }
 
-// Two flushes before the last one, and a reading.
-const PACED: &[u8] = b"{\"stats_run\":{\"flushes\":2,\"flush_every\":3,\"reads\":1}}";
+// Two flushes before the last one, and a reading, each behind as many events as the file has.
+const PACED: &[u8] = b"{\"stats_run\":{\"flushes\":2,\"flush_every\":2000,\"reads\":1}}";
 
-// A bootstrap, and a file of ten times that line.
-fn ten_lines(alloc: Global, boot: &[u8], line: &[u8]) -> Result<MemShelf, Fail> {
+const LINES: u64 = 2000;
+
+// A bootstrap, and a file of so many times that line.
+fn many_lines(alloc: Global, boot: &[u8], line: &[u8]) -> Result<MemShelf, Fail> {
     let mut bytes = Vec::new(alloc);
-    for _ in 0..10u64 {
+    for _ in 0..LINES {
         bytes.extend_from_slice(line)?;
     }
-    let boot = file_of(alloc, "b", boot, 999)?;
-    let file = file_of(alloc, "f", &bytes, 999)?;
+    let boot = file_of(alloc, "b", boot, 9_999)?;
+    let file = file_of(alloc, "f", &bytes, 9_999)?;
     Ok(MemShelf::new(vec![in alloc; boot, file]?, Vec::new(alloc)))
 }
 
@@ -159,7 +161,7 @@ fn paced_report<R: Threads + Wait + Sync>(
     alloc: Global,
     line: &[u8],
 ) -> Result<Report, Fail> {
-    let shelf = ten_lines(alloc, PACED, line)?;
+    let shelf = many_lines(alloc, PACED, line)?;
     let played = run_over(rt, alloc, "run b f", shelf, 9_999)?;
     Ok(played.outcome.report.ok_or("no report")?)
 }
@@ -186,20 +188,22 @@ fn values_in(flush: &FlushRecord) -> u64 {
     values
 }
 
+// No round begins early.
 #[test]
 fn flushes_and_reads(rt: HostRuntime) -> Result<(), Fail> {
     let report = paced_report(&rt, rt.alloc(), b"inc root a 1\n")?;
     let flushes = report.flushes.items();
     assert_eq!(rt; flushes.len(), 3);
+    assert_eq!(rt; first_units(&flushes[0]), LINES);
     let mut units = 0u64;
     for flush in flushes {
         units = units.saturating_add(first_units(flush));
     }
-    assert_eq!(rt; units, 10);
+    assert_eq!(rt; units, LINES);
     assert_eq!(rt; report.reads.items().len(), 1);
     for reading in report.reads.items() {
         for counter in reading.counters.items() {
-            assert!(rt; counter.word <= 10);
+            assert_eq!(rt; counter.word, LINES);
         }
     }
     Ok(())
@@ -212,6 +216,6 @@ fn flushes_of_values(rt: HostRuntime) -> Result<(), Fail> {
     for flush in report.flushes.items() {
         values = values.saturating_add(values_in(flush));
     }
-    assert_eq!(rt; values, 10);
+    assert_eq!(rt; values, LINES);
     Ok(())
 }
