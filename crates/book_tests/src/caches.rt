@@ -2,6 +2,7 @@
 use name_map::HashKey;
 use stat_defs::{Kind, MetricId, Mode, NoMemory, ScopeId, Verdict};
 use std::alloc::Global;
+use std::hash::{BuildHasher, Hasher};
 use std::process::Abort;
 use thread_cache::{Cache, Query};
 
@@ -95,4 +96,47 @@ fn half_of_the_scopes_dropped(rt: HostRuntime) -> Result<(), NoMemory> {
     let dropped = drop_half(&rt, rt.alloc(), &mut cache);
     drop(cache);
     dropped
+}
+
+// Holds a counter of this scope, and drops the scope. Gives how many entries the table has then.
+fn hold_and_drop(alloc: Global, cache: &mut Cache, scope: u32) -> Result<u64, NoMemory> {
+    let name = scope.to_le_bytes();
+    hold(alloc, cache, &ask(Kind::Counter, &name), scope, scope)?;
+    cache.drop_released(&[ScopeId(scope)]);
+    Ok(cache.table_len())
+}
+
+fn drop_each(rt: &impl Abort, alloc: Global, cache: &mut Cache) -> Result<(), NoMemory> {
+    hold(alloc, cache, &ask(Kind::Counter, b"stays"), 0, 0)?;
+    for scope in 1..10_001_u32 {
+        assert!(rt; hold_and_drop(alloc, cache, scope)? <= 3);
+    }
+    assert_eq!(rt; cache.entries(), 1);
+    Ok(())
+}
+
+// Entries of dropped scopes leave the table, and not only what is held.
+#[test]
+fn entries_of_10_000_scopes_go(rt: HostRuntime) -> Result<(), NoMemory> {
+    let mut cache = Cache::new(rt.alloc());
+    let dropped = drop_each(&rt, rt.alloc(), &mut cache);
+    drop(cache);
+    dropped
+}
+
+// The hash of one text under a key.
+fn hash_under(key: HashKey) -> u64 {
+    let mut hasher = key.build_hasher();
+    hasher.write(b"http.requests");
+    hasher.finish()
+}
+
+#[test]
+fn the_key_of_the_hash_is_used(rt: HostRuntime) {
+    let one = Cache::with_key(rt.alloc(), HashKey::of(7));
+    let other = Cache::with_key(rt.alloc(), HashKey::of(8));
+    assert_eq!(rt; hash_under(one.hash_key()), hash_under(HashKey::of(7)));
+    assert!(rt; hash_under(one.hash_key()) != hash_under(other.hash_key()));
+    drop(one);
+    drop(other);
 }

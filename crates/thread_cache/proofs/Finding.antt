@@ -5,14 +5,14 @@ use Rattle.std.specs.List.{AllByRecursion, IsDistinct}
 use Rattle.std.specs.Map.{keys_of}
 use Rattle.stat_defs.specs.declared.events.Key.{Key}
 use Rattle.stat_defs.specs.declared.ids.ScopeId.{ScopeId}
-use Rattle.stat_defs.specs.Keys.{Held, held_under, same_key}
+use Rattle.stat_defs.specs.Keys.{Held, held_under, same_key, HoldsOnce}
 use Rattle.thread_cache.specs.declared.key.CacheKey.{CacheKey}
 use Rattle.thread_cache.specs.declared.scopes.ScopeEntries.{ScopeEntries}
 use Rattle.thread_cache.specs.declared.table.Slot.{Slot}
 use Rattle.thread_cache.specs.Keys.{key_of}
 use Rattle.thread_cache.specs.Scopes.{is_live}
 use Rattle.thread_cache.specs.Held.{held_of, shown, is_at, slot_under}
-use Rattle.stat_defs.proofs.KeyLemmas.{same_key-is}
+use Rattle.stat_defs.proofs.KeyLemmas.{same_key-is, same_key-refl}
 use Rattle.thread_cache.specs.KeyLaws.{eq, finds_as}
 
 -- what is held under a key whose slot in the table is this one
@@ -96,3 +96,34 @@ verdict_held scopes key slot = by (is_live scopes slot.scope)
     by : (b : Bool) → option_map (λ (held : Held). held.verdict) (cond b (Some (record { key = key; scope = slot.scope.0; verdict = slot.verdict })) None) ≡ cond b (Some slot.verdict) None
     by true = refl
     by false = refl
+
+module _ (scopes : List (ScopeId × ScopeEntries)) where
+  -- a key that differs from those of the table differs from those that are shown of it
+  apart_shown : (key : CacheKey) (table : List (CacheKey × Slot)) → AllByRecursion (λ k. eq key k ≡ false) (keys_of table)
+      → AllByRecursion (λ (other : Held). same_key (key_of key) other.key ≡ false) (shown scopes table)
+  apart_shown key [] apart = tt
+  apart_shown key (e ∷ es) apart = by (is_live scopes e.1.scope) (apart_shown key es apart.1)
+    where
+      differ : (t : Bool) → same_key (key_of key) (key_of e.0) ≡ t → same_key (key_of key) (key_of e.0) ≡ false
+      differ true is = absurd (true≢false (
+          sym (finds_as key e.0 ∙ (ap (λ k. same_key (key_of e.0) k) (same_key-is (key_of key) (key_of e.0) is) ∙ same_key-refl (key_of e.0)))
+          ∙ apart.0
+          ))
+      differ false is = is
+
+      by : (b : Bool) → AllByRecursion (λ (other : Held). same_key (key_of key) other.key ≡ false) (shown scopes es)
+          → AllByRecursion (λ (other : Held). same_key (key_of key) other.key ≡ false)
+          (map held_of (cond b (e ∷ filter (λ e. is_live scopes e.1.scope) es) (filter (λ e. is_live scopes e.1.scope) es)))
+      by true rest = (differ (same_key (key_of key) (key_of e.0)) refl, rest)
+      by false rest = rest
+
+  -- no key is shown twice
+  pub shown_once : (table : List (CacheKey × Slot)) → IsDistinct eq (keys_of table) → HoldsOnce (shown scopes table)
+  unfolding IsDistinct
+  shown_once [] unique = tt
+  shown_once (e ∷ es) unique = by (is_live scopes e.1.scope) (shown_once es unique.1)
+    where
+      by : (b : Bool) → HoldsOnce (shown scopes es)
+          → HoldsOnce (map held_of (cond b (e ∷ filter (λ e. is_live scopes e.1.scope) es) (filter (λ e. is_live scopes e.1.scope) es)))
+      by true rest = (apart_shown e.0 es unique.0, rest)
+      by false rest = rest

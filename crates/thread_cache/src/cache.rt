@@ -1,12 +1,12 @@
 //! The entries that a seat holds.
-ghost use Rattle.std.specs.Prelude.{◌≡◌, ◌+◌, None, Some, true, false, not, filter, length, option_map, cond, All, []};
+ghost use Rattle.std.specs.Prelude.{◌≡◌, ◌≤◌, ◌+◌, None, Some, true, false, not, filter, length, option_map, cond, All, []};
 ghost use Rattle.std.specs.Prelude.{map};
 ghost use Rattle.std.specs.Prelude.{IsTrue, IfSome, OnOk, OnErr};
 ghost use Rattle.std.specs.List.{list_any};
 ghost use Rattle.indexmap.specs.IndexMap.{spare};
 ghost use Rattle.indexmap.specs.IndexSet.{index_set_len};
 ghost use Rattle.stat_defs.specs.declared.events.Key.{Key};
-ghost use Rattle.stat_defs.specs.Keys.{held_under, same_key, is_through};
+ghost use Rattle.stat_defs.specs.Keys.{held_under, same_key, is_through, HoldsOnce};
 ghost use Rattle.thread_cache.specs.Keys.{asked, key_of};
 ghost use Rattle.thread_cache.specs.Scopes.{is_live, is_dropped, is_listed};
 ghost use Rattle.thread_cache.specs.Held.{shown, has_room, with_room, without_room, held_with, held_without};
@@ -64,8 +64,9 @@ fn verdict_of(scopes: &Scopes, stale: u64, slot: Slot) -> Option<Verdict>
 #[inline(always)]
 fn look_up(table: &Table, scopes: &Scopes, stale: u64, query: &Query<'_>) -> Option<Verdict>
     requires { stale ≡ 0 → All (λ e. is_live scopes.now.entries e.1.scope ≡ true) table.now.entries }
-    ensures { result ≡ option_map (λ held. held.verdict)
+    ensures verdict { result ≡ option_map (λ held. held.verdict)
         (held_under (asked query.now) (shown scopes.now.entries table.now.entries)) }
+    ensures once { HoldsOnce (shown scopes.now.entries table.now.entries) }
 {
     let _all_different = table.len();
     match slot_of(table, query) {
@@ -109,6 +110,7 @@ impl Cache {
     pub fn hit(&self, query: &Query<'_>) -> Option<Verdict>
         ensures verdict { result ≡ option_map (λ held. held.verdict) (held_under (asked query.now) self.now.entries) }
         ensures free { result ≡ None → held_under (asked query.now) self.now.entries ≡ None }
+        ensures once { HoldsOnce self.now.entries }
     {
         look_up(&self.table, &self.scopes, self.stale, query)
     }
@@ -157,10 +159,24 @@ impl Cache {
         self.stale = tidy(&mut self.table, &mut self.scopes, self.stale);
     }
 
-    /// How many entries are held. It looks at each of them.
+    /// How many entries are held, no two of them under one key. It looks at each of them.
     pub fn entries(&self) -> u64
-        ensures { result ≡ length self.now.entries }
+        ensures count { result ≡ length self.now.entries }
+        ensures once { HoldsOnce self.now.entries }
     {
+        let _all_different = self.table.len();
         count_live(&self.table, &self.scopes)
+    }
+
+    /// How many entries the table has: those that are held, and those of dropped scopes that were not taken out yet.
+    pub fn table_len(&self) -> u64
+        ensures { length self.now.entries ≤ result }
+    {
+        self.table.len() as u64
+    }
+
+    /// The key that the table is hashed under.
+    pub fn hash_key(&self) -> HashKey {
+        *self.table.hasher()
     }
 }
