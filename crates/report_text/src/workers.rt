@@ -21,13 +21,21 @@ fn took_effect(verdict: &Verdict) -> bool
 fn accepted(verdicts: &[Verdict]) -> usize
     ensures { result ≡ count_by took_effect verdicts.now }
 {
-    verdicts.iter().filter(|v| took_effect(v)).count()
+    let mut count = 0;
+    for verdict in verdicts {
+        if took_effect(verdict) {
+            count += 1;
+        }
+    }
+    count
 }
 
-fn dropped(verdicts: &[Verdict]) -> usize
+// All but those that were accepted.
+fn dropped(verdicts: &[Verdict], accepted: usize) -> usize
+    requires { accepted ≡ count_by took_effect verdicts.now }
     ensures { result ≡ count_by (λ v. not (took_effect v)) verdicts.now }
 {
-    verdicts.iter().filter(|v| !took_effect(v)).count()
+    verdicts.len() - accepted
 }
 
 /// The line of the file of that number.
@@ -35,7 +43,7 @@ fn line_of(alloc: Global, number: usize, verdicts: &[Verdict]) -> Result<String,
     ensures { IfOk result (λ text. string_bytes text ≡ worker_line (number, verdicts.now)) }
 {
     let accepted = accepted(verdicts);
-    let dropped = dropped(verdicts);
+    let dropped = dropped(verdicts, accepted);
     Ok(format!(in alloc; "# worker {number}: {accepted} accepted, {dropped} dropped\n")?)
 }
 

@@ -36,6 +36,21 @@ module _ (n : ℕ) (a b : List ℕ) (alike : length a ≡ length b) (within : n 
       (λ same. covered first (sym tells_x ∙ (ap tell (eqb-true x y same) ∙ tells_y)))
       (λ same. eq-eqb x y (is_x ∙ (ap (λ zs. from (take n (drop (length a - n) zs))) same ∙ sym is_y)))
 
+  -- where the first n bytes are equal, the others from the last n on decide
+  pub ends_decide : (test : Bool) → pointwise nat_eq (take n a) (take n b) ≡ true
+      → test ≡ pointwise nat_eq (take (length a - (length a - n)) (drop (length a - n) a))
+      (take (length b - (length a - n)) (drop (length a - n) b)) → test ≡ pointwise nat_eq a b
+  ends_decide test first last =
+      let before = length a - n in
+      let end : List ℕ → List ℕ = λ xs. take (length xs - before) (drop before xs) in
+      let whole : (xs : List ℕ) → end xs ≡ drop before xs =
+      λ xs. take_all (length xs - before) (drop before xs) (omega (arith, length-drop before xs)) in
+      let decides = bytes_decides (end a) (end b) in
+      compares a b test
+      (λ same. covered ((bytes_decides (take n a) (take n b)).0 first)
+      (ap (take n) (sym (whole a) ∙ (decides.0 (sym last ∙ same) ∙ whole b))))
+      (λ same. last ∙ decides.1 (ap end same))
+
 -- n bytes of a text are bytes
 pub part_fits : (text : List ℕ) (at n : ℕ) → at + n ≤ length text → ((i : ℕ) → Fits w8 (get_or text i 0))
     → (i : ℕ) → get_or (take n (drop at text)) i 0 < 256

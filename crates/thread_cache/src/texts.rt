@@ -68,6 +68,18 @@ fn eights_equal(a: &[u8], b: &[u8]) -> bool
     eight_at(a, 0) == eight_at(b, 0) && eight_at(a, last) == eight_at(b, last)
 }
 
+// The same of 16 to 32 bytes.
+#[inline(always)]
+fn sixteens_equal(a: &[u8], b: &[u8]) -> bool
+    requires alike { length a.now ≡ length b.now }
+    requires within { 16 ≤ length a.now }
+    requires covered { length a.now ≤ 32 }
+    ensures { result ≡ pointwise nat_eq a.now b.now }
+{
+    let last = a.len() - 16;
+    eights_equal(&a[..16], &b[..16]) && eights_equal(&a[last..], &b[last..])
+}
+
 /// Whether two texts are equal. Short ones are compared by few loads, whatever their length.
 #[inline(always)]
 pub(crate) fn texts_equal(a: &[u8], b: &[u8]) -> bool
@@ -80,6 +92,7 @@ pub(crate) fn texts_equal(a: &[u8], b: &[u8]) -> bool
         0..4 => few_equal(a, b),
         4..=8 => fours_equal(a, b),
         9..=16 => eights_equal(a, b),
+        17..=32 => sixteens_equal(a, b),
         _ => a == b,
     }
 }
