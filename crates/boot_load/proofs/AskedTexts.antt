@@ -1,10 +1,9 @@
 -- The patterns that a configuration asks for, and those of its parts.
-use Rattle.std.proofs.Common.{ℕ, ◌≡◌, ◌<◌, ◌≤◌, ◌+◌, List, [], ◌∷◌, ◌++◌, Some, Ok, Err, map, length, take, slice_get, zero, suc, refl, sym, ap, ◌∙◌, append_assoc, length-append, add-one, arith}
+use Rattle.std.proofs.Common.{ℕ, ◌≡◌, ◌<◌, ◌≤◌, ◌+◌, List, [], ◌∷◌, ◌++◌, Some, Ok, Err, length, take, slice_get, zero, suc, refl, sym, ap, ◌∙◌, append_assoc, length-append, add-one, arith}
 use Rattle.std.specs.List.{flat_map}
 use Rattle.std.proofs.lemmas.Option.{same_Some, none-some, slice_get-get_or}
 use Rattle.tag_rules.specs.Making.{Memory, after_making}
 use Rattle.tag_rules.specs.Building.{IsCutAt, Builds}
-use Rattle.tag_rules.proofs.Made.{refused_member}
 use Rattle.tag_rules.specs.declared.fault.TagFault.{TagFault}
 use Rattle.tag_rules.specs.declared.fault.TagFault.TheVariants as tag
 use Rattle.boot_load.specs.Asked.{Asked, texts_of, told_by, asked_by}

@@ -1,5 +1,6 @@
 -- What the loading of a bootstrap answers, and what it leaves. This project's own.
-use Rattle.std.specs.Prelude.{◌≡◌, ◌≢◌, ◌<◌, ◌≤◌, ◌⊎◌, ℕ, Option, Result, Ok, Err, List, length, codes}
+use Rattle.std.specs.Prelude.{◌≡◌, ◌≢◌, ◌<◌, ◌≤◌, ◌+◌, ◌⊎◌, ℕ, Option, Result, Ok, Err, List, length, codes}
+use Rattle.std.specs.Io.KnownBytes.{Consumes}
 use Rattle.stat_defs.specs.Faults.{Rose}
 use Rattle.stat_defs.specs.declared.configs.Config.{Config}
 use Rattle.boot_values.specs.declared.fault.BootFault.{BootFault}
@@ -9,6 +10,7 @@ use Rattle.tag_rules.specs.Making.{Memory, after_making}
 use Rattle.stats_io.specs.States.{SourceState, ShelfState}
 use Rattle.stats_io.specs.Open.{IsUnopened}
 use Rattle.stats_io.specs.Told.{MayBe}
+use Rattle.stats_io.specs.declared.pulling.TheConstants.{PULL_BYTES}
 use Rattle.boot_load.specs.Asked.{asked, texts_of}
 use Rattle.boot_load.specs.Build.{IsPatternRefused, RefusesNone}
 use Rattle.boot_load.specs.declared.loading.Boot.{Boot}
@@ -20,11 +22,20 @@ use Rattle.boot_load.specs.declared.reading.TheConstants.{MAX_BOOT_BYTES}
 abbrev pub IsBoot : Option (List ℕ) → List ℕ → List ℕ → Type 0
 IsBoot content name bytes = ((name ≡ codes "-") × (bytes ≡ codes "{}")) ⊎ ((name ≢ codes "-") × MayBe content bytes)
 
-module _ (content : Option (List ℕ)) (name : List ℕ) where
-  -- the bytes of the bootstrap, within the limit
+module _ {S : Type 0} (source : S → SourceState) (content : Option (List ℕ)) (name : List ℕ) where
+  -- A source that was opened under that name gave these bytes, in this later state of it: the next ones of what the file
+  -- holds, where that is told, and no more than the limit and one pull.
+  pub record IsRead (bytes : List ℕ) : Type 0 where
+    pub later : S
+    pub origin : (source later).origin ≡ name
+    pub consumed : Consumes content (source later).left bytes
+    pub few : length bytes ≤ MAX_BOOT_BYTES + PULL_BYTES
+
+  -- the bytes of the bootstrap, within the limit: a file was read to its end, and no further
   pub record IsShortBoot (bytes : List ℕ) : Type 0 where
     pub bytes_are : IsBoot content name bytes
     pub short : length bytes ≤ MAX_BOOT_BYTES
+    pub read : name ≢ codes "-" → IsRead bytes
 
   -- the bootstrap says this configuration
   pub record IsConfigured (config : Config) : Type 0 where
@@ -39,27 +50,29 @@ module _ (content : Option (List ℕ)) (name : List ℕ) where
     pub says : boot bytes ≡ Err fault
     pub no_want : fault ≢ wrong.NoMemory
 
+  -- the bootstrap is too long: its file gave more bytes than the limit
   pub record IsTooBig : Type 0 where
-    pub bytes : List ℕ
-    pub bytes_are : IsBoot content name bytes
-    pub long : MAX_BOOT_BYTES < length bytes
+    pub file : name ≢ codes "-"
+    pub given : List ℕ
+    pub read : IsRead given
+    pub long : MAX_BOOT_BYTES < length given
 
--- a source that was opened under that name came to a fault
-pub record IsSourceFault {S : Type 0} (source : S → SourceState) (name : List ℕ) : Type 0 where
-  pub later : S
-  pub origin : (source later).origin ≡ name
-  pub rose : Rose 0 (source later).faults
+  -- a source that was opened under that name came to a fault behind these bytes
+  pub record IsSourceFault : Type 0 where
+    pub given : List ℕ
+    pub read : IsRead given
+    pub rose : Rose 0 (source read.later).faults
 
 module _ {S : Type 0} (source : S → SourceState) (content : Option (List ℕ)) (name : List ℕ)
     (before after : ShelfState) where
   -- the opening of the file failed, or a source of it
   abbrev pub IsUnreadable : Type 0
-  IsUnreadable = (name ≢ codes "-") × (IsUnopened name before after ⊎ (IsSourceFault source name × (after ≡ before)))
+  IsUnreadable = (name ≢ codes "-") × (IsUnopened name before after ⊎ (IsSourceFault source content name × (after ≡ before)))
 
   -- why no configuration was read
   abbrev pub IsUnread : LoadFault → Type 0
-  IsUnread TooBig = IsTooBig content name × (after ≡ before)
-  IsUnread (Faulty fault) = IsFaulty content name fault × (after ≡ before)
+  IsUnread TooBig = IsTooBig source content name × (after ≡ before)
+  IsUnread (Faulty fault) = IsFaulty source content name fault × (after ≡ before)
   IsUnread ReadFailed = IsUnreadable
   IsUnread NoMemory = Unit {0}
   IsUnread (BadPattern path) = ⊥
@@ -67,7 +80,7 @@ module _ {S : Type 0} (source : S → SourceState) (content : Option (List ℕ))
   module _ (old new : Memory) where
     -- the configuration that the bootstrap says, with its patterns, which were all made in their order
     pub record IsLoaded (loaded : Boot) : Type 0 where
-      pub config : IsConfigured content name loaded.config
+      pub config : IsConfigured source content name loaded.config
       pub rules : loaded.rules ≡ loaded.config.tags
       pub matcher : loaded.matcher ≡ loaded.config.matcher
       pub buckets : loaded.buckets ≡ loaded.config.buckets
@@ -78,7 +91,7 @@ module _ {S : Type 0} (source : S → SourceState) (content : Option (List ℕ))
     -- the bootstrap says a configuration, of which the pattern at that path was refused
     pub record HasBadPattern (path : List ℕ) : Type 0 where
       pub config : Config
-      pub configured : IsConfigured content name config
+      pub configured : IsConfigured source content name config
       pub refused : IsPatternRefused (asked config) path old new
       pub shelf : after ≡ before
 

@@ -45,7 +45,8 @@ pub fn load<K: PatternMaker, F: Shelf>(
 // The configuration that the bootstrap of that name says.
 fn config_of<F: Shelf>(alloc: Global, name: &str, shelf: &mut F) -> Result<Config, LoadFault>
     ensures read { MatchResult result
-        (λ config. IsConfigured (F.holds shelf.old name.now) name.now config × (F.state shelf.new ≡ F.state shelf.old))
+        (λ config. IsConfigured F.S.state (F.holds shelf.old name.now) name.now config
+        × (F.state shelf.new ≡ F.state shelf.old))
         (λ fault. IsUnread F.S.state (F.holds shelf.old name.now) name.now (F.state shelf.old)
         (F.state shelf.new) fault) }
     ensures lawful { IfOk result (λ config. IsConfig config) }

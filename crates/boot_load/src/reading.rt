@@ -20,7 +20,7 @@ pub(crate) fn bytes_of<F: Shelf>(
 ) -> Result<Vec<u8>, LoadFault>
     requires { name.now ≢ codes "-" }
     ensures read { MatchResult result
-        (λ bytes. IsShortBoot (F.holds shelf.old name.now) name.now bytes.items
+        (λ bytes. IsShortBoot F.S.state (F.holds shelf.old name.now) name.now bytes.items
         × (F.state shelf.new ≡ F.state shelf.old))
         (λ fault. IsUnread F.S.state (F.holds shelf.old name.now) name.now (F.state shelf.old)
         (F.state shelf.new) fault) }

@@ -8,7 +8,7 @@ use Rattle.stat_defs.specs.declared.memory.NoMemory.{NoMemory}
 use Rattle.stat_defs.specs.declared.reports.FileEnd.{FileEnd}
 use Rattle.stats_io.specs.States.{SourceState}
 use Rattle.event_script.specs.declared.step.Step.{Step}
-use Rattle.event_script.specs.Answer.{IsAnswer, HasEnded, TellsEnd}
+use Rattle.event_script.specs.Answer.{IsAnswer, HasEnded, TellsEnd, Explains}
 use Rattle.event_script.specs.Grammar.{IsLawful}
 use Rattle.event_script.specs.Reader.{Reading, Moves, unread}
 use Rattle.event_script.specs.Run.{IsRun}
@@ -49,4 +49,7 @@ module _ {S : Type 0} (state : S → SourceState) where
         applied = so.are_applied;
         lawful = run_lawful (state source).left end new.taken so.events run;
         few = so.read.few;
+        last = new.source;
+        origin = from_start.later.origin;
+        explained = subst (λ (n : ℕ). Explains (state new.source) n end) from_start.first has.explained;
       }

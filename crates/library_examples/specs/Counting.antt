@@ -1,5 +1,5 @@
 -- What the examples count. This project's own.
-use Rattle.std.specs.Prelude.{◌≡◌, ◌≤◌, ℕ, List, [], ◌∷◌, length, All}
+use Rattle.std.specs.Prelude.{◌≡◌, ◌≤◌, ℕ, zero, suc, List, [], ◌∷◌, length, All}
 use Rattle.stat_defs.specs.declared.configs.Config.{Config}
 use Rattle.stat_defs.specs.declared.events.Event.{Event}
 use Rattle.stat_defs.specs.declared.history.Verdict.{Verdict}
@@ -7,6 +7,7 @@ use Rattle.stat_defs.specs.declared.reports.FileEnd.{FileEnd}
 use Rattle.stat_defs.specs.declared.reports.FlushRecord.{FlushRecord}
 use Rattle.stat_defs.specs.declared.reports.Report.{Report}
 use Rattle.stats_io.specs.States.{SourceState}
+use Rattle.event_script.specs.Answer.{Explains}
 use Rattle.event_script.specs.Grammar.{IsLawful}
 use Rattle.event_script.specs.Run.{IsRun}
 use Rattle.event_script.specs.declared.limits.TheConstants as file
@@ -25,7 +26,8 @@ pub record CountsTwice (old : StoreHistory) (e : Event) (flush : FlushRecord) : 
   pub again : Applied once e second twice
   pub flushed : Flushes twice flush last
 
--- a source was read to its end, and its events were applied with these verdicts
+-- a source was read to its end, for a cause that a later state of it shows, and its events were applied with these
+-- verdicts
 pub record AreLinesApplied {S : Type 0} (state : S → SourceState) (source : S) (old new : StoreHistory)
     (verdicts : List Verdict) (end : FileEnd) : Type 0 where
   pub events : List Event
@@ -34,6 +36,9 @@ pub record AreLinesApplied {S : Type 0} (state : S → SourceState) (source : S)
   pub applied : AreApplied old events verdicts new
   pub lawful : All IsLawful events
   pub few : length events ≤ file.MAX_EVENTS
+  pub last : S
+  pub origin : (state last).origin ≡ (state source).origin
+  pub explained : Explains (state last) (state source).faults end
 
 -- so it was, and then a flush came
 pub record AreLinesFlushed {S : Type 0} (state : S → SourceState) (source : S) (old new : StoreHistory)
@@ -46,6 +51,21 @@ pub record AreLinesFlushed {S : Type 0} (state : S → SourceState) (source : S)
 -- a store of a configuration stays one
 abbrev pub Stays : StoreHistory → StoreHistory → Type 0
 Stays old new = (config : Config) → IsStoreOf config old → IsStoreOf config new
+
+-- so many flushes came, with nothing new in between
+abbrev pub AreFlushes : ℕ → StoreHistory → StoreHistory → Type 0
+AreFlushes zero old new = new ≡ old
+AreFlushes (suc n) old new =
+    (between : StoreHistory) × (flush : FlushRecord) × (AreFlushes n old between × Flushes between flush new)
+
+-- the lines of a source were applied, and then so many flushes came
+pub record AreFlushedOften {S : Type 0} (state : S → SourceState) (source : S) (flushes : ℕ) (old new : StoreHistory)
+    : Type 0 where
+  pub verdicts : List Verdict
+  pub end : FileEnd
+  pub between : StoreHistory
+  pub lines : AreLinesApplied state source old between verdicts end
+  pub flushed : AreFlushes flushes between new
 
 -- the lines of each of these sources were applied in turn, and behind each came a flush
 abbrev pub AreFlushedInTurn : {S : Type 0} → (S → SourceState) → List S → StoreHistory → StoreHistory → Type 0
@@ -68,4 +88,11 @@ pub record CountsInTurn {S : Type 0} (state : S → SourceState) (sources : List
     : Type 0 where
   pub store : StoreHistory
   pub in_turn : AreFlushedInTurn state sources (new_store config) store
+  pub reported : IsReportOfStore store report
+
+-- the report of a new store to which the lines of a source were applied, and which was then flushed so many times
+pub record CountsOften {S : Type 0} (state : S → SourceState) (source : S) (flushes : ℕ) (config : Config)
+    (report : Report) : Type 0 where
+  pub store : StoreHistory
+  pub often : AreFlushedOften state source flushes (new_store config) store
   pub reported : IsReportOfStore store report

@@ -1,2 +1,3 @@
 pub mod StoreOf
 pub mod Counting
+pub mod Unbuilt

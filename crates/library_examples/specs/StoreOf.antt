@@ -26,12 +26,15 @@ pub record IsStoreOf (config : Config) (store : StoreHistory) : Type 0 where
   pub rising : IsNonDecreasing (map (λ flush. flush.at) store.flushes)
   pub logged : All (λ flush. flush.at < length store.worker.book.log) store.flushes
 
--- the store was finished: the report has its flushes, the last one behind them, and the log
+-- the store was finished: the report has its flushes, the last one behind them, and the log, and nothing else
 pub record IsReportOfStore (store : StoreHistory) (report : Report) : Type 0 where
   pub given : LastFlush
   pub finished : Finishes store given
   pub flushes : report.flushes ≡ store.flushes ++ given.last ∷ []
   pub log : report.log ≡ given.log
+  pub no_verdicts : report.verdicts ≡ []
+  pub no_reads : report.reads ≡ []
+  pub no_ends : report.ends ≡ []
 
 -- A new store is one of its configuration, and its calls keep that. When it is finished, the report of its flushes can
 -- be shown.

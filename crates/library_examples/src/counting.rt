@@ -1,12 +1,14 @@
 //! Stores that count.
-ghost use Rattle.std.specs.Prelude.{◌≡◌, ◌≤◌, ◌<◌, ◌+◌, ◌*◌, IfOk, OnOk, length};
+ghost use Rattle.std.specs.Prelude.{◌≡◌, ◌≤◌, ◌<◌, ◌+◌, ◌*◌, IfOk, IfErr, OnOk, length};
 ghost use Rattle.stat_defs.specs.Configs.{IsConfig};
 ghost use Rattle.stat_defs.specs.Events.{IsLawfulEvent};
 ghost use Rattle.event_script.specs.declared.limits.TheConstants as file;
 ghost use Rattle.flush_view.specs.Showing.{IsShowable};
 ghost use Rattle.lone_worker.specs.declared.worker.TheConstants as worker;
 ghost use Rattle.plain_store.specs.Store.{new_store};
-ghost use Rattle.library_examples.specs.Counting.{CountsTwice, CountsLines, CountsInTurn, Stays};
+ghost use Rattle.library_examples.specs.Counting.{CountsTwice, CountsLines, CountsInTurn, CountsOften};
+ghost use Rattle.library_examples.specs.Counting.{AreFlushedOften, Stays};
+ghost use Rattle.library_examples.specs.Unbuilt.{IsUnbuilt};
 
 use crate::flushing::flush_often;
 use crate::reading::{apply_lines, flush_in_turn};
@@ -21,7 +23,8 @@ use tag_rules::{Matcher, RegexMaker, TagFault, TagRules, config_law};
 /// or of the matcher.
 pub fn store_of(alloc: Global, config: &Config) -> Result<PlainStore, TagFault>
     requires { IsConfig config.now }
-    ensures { IfOk result (λ store. store ≡ new_store config.now) }
+    ensures made { IfOk result (λ store. store ≡ new_store config.now) }
+    ensures refused { IfErr result (λ fault. IsUnbuilt config.now fault) }
 {
     config_law();
     let mut maker = RegexMaker::new(Vec::new(alloc));
@@ -50,7 +53,8 @@ fn apply_twice(
 pub fn count_twice(alloc: Global, config: &Config, event: &Event) -> Result<FlushRecord, TagFault>
     requires config { IsConfig config.now }
     requires event { IsLawfulEvent event.now }
-    ensures { IfOk result (λ flush. CountsTwice (new_store config.now) event.now flush) }
+    ensures counted { IfOk result (λ flush. CountsTwice (new_store config.now) event.now flush) }
+    ensures refused { IfErr result (λ fault. IsUnbuilt config.now fault) }
 {
     let mut store = store_of(alloc, config)?;
     let flush = apply_twice(alloc, &mut store, event);
@@ -68,6 +72,7 @@ pub fn count_lines<S: Source + Drop>(
     requires { IsConfig config.now }
     ensures counted { IfOk result (λ report. CountsLines S.state source config.now report) }
     ensures showable { IfOk result (λ report. IsShowable config.now report) }
+    ensures refused { IfErr result (λ fault. IsUnbuilt config.now fault) }
 {
     let mut store = store_of(alloc, config)?;
     match apply_lines(alloc, source, &mut store) {
@@ -91,6 +96,7 @@ pub fn count_in_turn<S: Source + Drop>(
     ensures counted { IfOk result (λ report. CountsInTurn S.state sources.items config.now report) }
     ensures showable { IfOk result (λ report. IsShowable config.now report) }
     ensures flushes { IfOk result (λ report. length report.flushes ≡ length sources.items + 1) }
+    ensures refused { IfErr result (λ fault. IsUnbuilt config.now fault) }
 {
     let mut store = store_of(alloc, config)?;
     let mut flushes = Vec::new(alloc);
@@ -114,6 +120,7 @@ fn flush_after_lines<S: Source + Drop>(
     requires room { length store.old.worker.events + file.MAX_EVENTS ≤ worker.MAX_EVENTS }
     requires flushes { records.old.items ≡ store.old.flushes }
     ensures flushes { OnOk result (records.new.items ≡ store.new.flushes) }
+    ensures counted { OnOk result (AreFlushedOften S.state source flushes store.old store.new) }
     ensures kept { OnOk result (Stays store.old store.new) }
     ensures more { OnOk result (length records.new.items ≡ length records.old.items + flushes) }
 {
@@ -131,8 +138,10 @@ pub fn count_often<S: Source + Drop>(
     flushes: u32,
 ) -> Result<Report, TagFault>
     requires { IsConfig config.now }
+    ensures counted { IfOk result (λ report. CountsOften S.state source flushes config.now report) }
     ensures showable { IfOk result (λ report. IsShowable config.now report) }
     ensures flushes { IfOk result (λ report. length report.flushes ≡ flushes + 1) }
+    ensures refused { IfErr result (λ fault. IsUnbuilt config.now fault) }
 {
     let mut store = store_of(alloc, config)?;
     let mut records = Vec::new(alloc);

@@ -1,6 +1,8 @@
 //! Flushes with no events in between.
 ghost use Rattle.std.specs.Prelude.{◌≡◌, ◌+◌, OnOk, length};
-ghost use Rattle.library_examples.specs.Counting.{Stays};
+ghost use Rattle.stat_defs.specs.declared.reports.FlushRecord.{FlushRecord as FlushOf};
+ghost use Rattle.plain_store.specs.Store.{Flushes};
+ghost use Rattle.library_examples.specs.Counting.{AreFlushes, Stays};
 
 use plain_store::PlainStore;
 use stat_defs::{FlushRecord, NoMemory};
@@ -14,6 +16,7 @@ fn flush_once(
 ) -> Result<(), NoMemory>
     requires { flushes.old.items ≡ store.old.flushes }
     ensures flushes { OnOk result (flushes.new.items ≡ store.new.flushes) }
+    ensures flushed { OnOk result ((flush : FlushOf) × Flushes store.old flush store.new) }
     ensures kept { OnOk result (Stays store.old store.new) }
     ensures one_more { OnOk result (length flushes.new.items ≡ length flushes.old.items + 1) }
 {
@@ -31,6 +34,7 @@ pub fn flush_often(
 ) -> Result<(), NoMemory>
     requires { flushes.old.items ≡ store.old.flushes }
     ensures flushes { OnOk result (flushes.new.items ≡ store.new.flushes) }
+    ensures often { OnOk result (AreFlushes times store.old store.new) }
     ensures kept { OnOk result (Stays store.old store.new) }
     ensures more { OnOk result (length flushes.new.items ≡ length flushes.old.items + times) }
 {

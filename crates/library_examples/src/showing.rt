@@ -1,9 +1,10 @@
 //! What a store's flushes show.
-ghost use Rattle.std.specs.Prelude.{◌≡◌, ◌<◌, IfOk, length};
+ghost use Rattle.std.specs.Prelude.{◌≡◌, ◌<◌, IfOk, IfErr, length};
 ghost use Rattle.stat_defs.specs.Configs.{IsConfig};
 ghost use Rattle.flush_view.specs.Showing.{IsShowable};
 ghost use Rattle.flush_view.specs.Views.{IsView};
 ghost use Rattle.library_examples.specs.StoreOf.{IsReportOfStore};
+ghost use Rattle.library_examples.specs.Unbuilt.{HasNoViews};
 
 use flush_view::flush_view;
 use plain_store::PlainStore;
@@ -38,6 +39,7 @@ pub fn rules_and_buckets(alloc: Global, config: &Config) -> Result<(TagRules, Bu
     requires { IsConfig config.now }
     ensures rules { IfOk result (λ made. made.0 ≡ config.now.tags) }
     ensures buckets { IfOk result (λ made. made.1 ≡ config.now.buckets) }
+    ensures refused { IfErr result (λ fault. HasNoViews config.now fault) }
 {
     config_law();
     let mut maker = RegexMaker::new(Vec::new(alloc));
@@ -56,7 +58,8 @@ pub fn shown_of(
     requires config { IsConfig config.now }
     requires showable { IsShowable config.now report.now }
     requires within { k < length report.now.flushes }
-    ensures { IfOk result (λ shown. IsView config.now report.now k shown) }
+    ensures shown { IfOk result (λ shown. IsView config.now report.now k shown) }
+    ensures refused { IfErr result (λ fault. HasNoViews config.now fault) }
 {
     let (rules, buckets) = rules_and_buckets(alloc, config)?;
     Ok(flush_view(alloc, config, rules, &buckets, report, k)?)

@@ -2,7 +2,7 @@
 ghost use Rattle.std.specs.Prelude.{◌≤◌};
 
 use boot_file::BootFault;
-use boot_load::{LoadFault, MAX_BOOT_BYTES, boot_line, load};
+use boot_load::{LoadFault, boot_line, load};
 use stats_io::{MemFile, MemShelf, Shelf};
 use std::alloc::Global;
 use std::test::Fail;
@@ -102,12 +102,12 @@ fn limits(rt: HostRuntime) -> Result<(), Fail> {
         assert!(rt; told.as_slice() == line.as_bytes(), "{deep}");
     }
     let start = br#"{"stats_config":{"use_all_default_tags":false}}"#;
-    for (over, line) in [(0, ""), (1, "boot: too big\n")] {
+    for (len, line) in [(1_048_576, ""), (1_048_577, "boot: too big\n")] {
         let mut text = start.to_vec(alloc)?;
-        text.resize(MAX_BOOT_BYTES + over, b' ')?;
+        text.resize(len, b' ')?;
         let mut shelf = shelf_of(alloc, text, 65_536, Vec::new(alloc))?;
         let told = said(alloc, "f", Vec::new(alloc), &mut shelf)?;
-        assert!(rt; told.as_slice() == line.as_bytes(), "{over}");
+        assert!(rt; told.as_slice() == line.as_bytes(), "{len}");
     }
     Ok(())
 }

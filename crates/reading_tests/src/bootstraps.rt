@@ -229,6 +229,48 @@ fn configurations(rt: HostRuntime) -> Result<(), NoMemory> {
     Ok(())
 }
 
+// A bootstrap with a list of so many members, each of which is its number between two texts.
+fn with_list(
+    alloc: Global,
+    start: &str,
+    count: u32,
+    member: (&str, &str),
+    end: &str,
+) -> Result<Vec<u8>, NoMemory> {
+    let mut bytes = start.as_bytes().to_vec(alloc)?;
+    for i in 0..count {
+        let comma = if i == 0 { "" } else { "," };
+        let (before, after) = member;
+        bytes.extend_from_slice(format!(in alloc; "{comma}{before}{i}{after}")?.as_bytes())?;
+    }
+    bytes.extend_from_slice(end.as_bytes())?;
+    Ok(bytes)
+}
+
+// Lists whose members must differ.
+#[test]
+fn longest_lists(rt: HostRuntime) -> Result<(), NoMemory> {
+    let alloc = rt.alloc();
+    let start =
+        r#"{"stats_config":{"histogram_bucket_settings":[{"match":{"exact":"a"},"buckets":["#;
+    let refused = "bad bucket stats_config.histogram_bucket_settings[0].buckets";
+    for (count, want) in [(64, "ok 4 0 1 1 envoy 0 1000 0"), (65, refused)] {
+        let bounds = with_list(alloc, start, count, ("1", ""), "]}]}}")?;
+        let told = told(alloc, &bounds)?;
+        assert!(rt; told.as_slice() == want.as_bytes(), "{count}");
+    }
+    let start = r#"{"stats_run":{"scopes":["#;
+    for (count, want) in [
+        (64, "ok 4 0 0 65 envoy 0 1000 0"),
+        (65, "out of range stats_run.scopes"),
+    ] {
+        let scopes = with_list(alloc, start, count, (r#"{"label":"s"#, r#""}"#), "]}}")?;
+        let told = told(alloc, &scopes)?;
+        assert!(rt; told.as_slice() == want.as_bytes(), "{count}");
+    }
+    Ok(())
+}
+
 fn text_of(rule: &Rule) -> &Txt {
     match rule {
         Rule::Regex(regex) => regex,

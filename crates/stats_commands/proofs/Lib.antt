@@ -7,3 +7,4 @@ pub mod Checked
 pub mod CommandWords
 pub mod ValueWords
 pub mod Calls
+pub mod Table

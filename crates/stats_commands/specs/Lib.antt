@@ -5,3 +5,4 @@ pub mod LoadedLine
 pub mod Command
 pub mod Outcome
 pub mod Replay
+pub mod Statuses

@@ -5,6 +5,7 @@
 mod bins;
 mod check;
 mod command;
+mod laws;
 mod outcome;
 mod quiet;
 mod replay;
@@ -13,6 +14,7 @@ mod status;
 mod telling;
 
 pub use command::{Command, MAX_VALUES, command_of};
+pub use laws::calls_keep_the_table;
 pub use outcome::{Outcome, give_up, refuse_boot};
 pub use quiet::{quiet_stats, quiet_stats_with};
 pub use replay::{Recorded, tell};

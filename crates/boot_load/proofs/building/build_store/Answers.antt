@@ -1,4 +1,3 @@
-use Rattle.std.proofs.Common.{rules}
 use Rattle.std.proofs.lemmas.Result.{err_from_is_err_and}
 use Rattle.boot_load.specs.Asked.{of_tags, of_matcher}
 use Rattle.boot_load.proofs.AskedTexts.{later_failed}

@@ -1,4 +1,4 @@
-use Rattle.std.proofs.Common.{rules, refl}
+use Rattle.std.proofs.Common.{refl}
 use Rattle.std.proofs.lemmas.Result.{err_from_is_err_and}
 use Rattle.boot_load.proofs.LoadAnswers.{not_read, loaded}
 use Rattle.boot_load.proofs.loading.load.Goals as goal

@@ -1,9 +1,10 @@
-use Rattle.std.proofs.Common.{arith}
+use Rattle.std.proofs.Common.{refl, add-one, arith}
 use Rattle.library_examples.proofs.flushing.flush_often.Goals as goal
 
 pub loop-done-init : goal.loop-done-init
 loop-done-init c = record {
   told = c.requires;
+  often = refl;
   kept = λ config was. was;
   more = omega arith;
 }
@@ -14,6 +15,7 @@ loop-done-preserved c =
     let so = c.loop-done.invariant in
     record {
       told = once.flushes;
+      often = rw add-one (c.loop-done.store, once.flushed.0, (so.often, once.flushed.1));
       kept = λ config was. once.kept config (so.kept config was);
       more = (let before = so.more in let now = once.one_more in omega (arith, before, now));
     }

@@ -10,6 +10,7 @@ returns c =
     let pushed = c.in_ok-push.ensures.items in
     record {
       flushes = records_told old old new c.in_ok-flush.flush _ _ c.requires refl flushes pushed;
+      flushed = (c.in_ok-flush.flush, flushes);
       kept = flush_stays old new c.in_ok-flush.flush flushes;
       one_more = one_more_record old old new c.in_ok-flush.flush _ _ c.requires refl flushes pushed;
     }
