@@ -53,6 +53,7 @@ impl Half {
     }
 
     /// Counts one value of the histogram, which is warm then. Where it was, this takes no memory.
+    #[inline(always)]
     pub fn record(&mut self, alloc: Global, id: MetricId, v: u64) -> Result<(), NoMemory>
         requires { length self.old.values < MAX_HALF_COUNT }
         ensures ok { OnOk result (self.new ≡ recorded id.0 v self.old) }
