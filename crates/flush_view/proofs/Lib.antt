@@ -1,8 +1,8 @@
 pub mod EachView
 mod Ordered
 mod Totals
-mod Intervals
-mod Cumulative
+pub mod Intervals
+pub mod Cumulative
 pub mod Ends
 mod Shown
 mod Made
@@ -18,8 +18,8 @@ pub mod FileEvents
 pub mod Recorded
 mod Countings
 mod CountersMade
-mod LawfulParts
-mod BinsShown
+pub mod LawfulParts
+pub mod BinsShown
 pub mod CallsLawful
 pub mod Showable
 pub mod RowsBins

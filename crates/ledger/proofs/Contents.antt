@@ -19,7 +19,7 @@ use Rattle.ledger.proofs.OneFlush.{one_report}
 of_file : (bytes : List ℕ) (events : List Event) (end : FileEnd) → (b : List ℕ) × (bytes ≡ b) × File b events end → File bytes events end
 of_file bytes events end run = subst (λ (b : List ℕ). File b events end) (sym run.1) run.2
 
-as_file : (bytes : List ℕ) (end : FileEnd) (taken : ℕ) (events : List Event) → NoFault end → IsRun (Some bytes) end taken events → File bytes events end
+pub as_file : (bytes : List ℕ) (end : FileEnd) (taken : ℕ) (events : List Event) → NoFault end → IsRun (Some bytes) end taken events → File bytes events end
 as_file bytes file.Whole taken events none run = of_file bytes events file.Whole run
 as_file bytes (file.BadLine n) taken events none run = of_file bytes events (file.BadLine n) run
 as_file bytes (file.LineTooLong n) taken events none run = of_file bytes events (file.LineTooLong n) run
@@ -37,10 +37,10 @@ end_same : (x y : FileEnd) (m n : ℕ) → x ≡ y → m ≡ n
     → ◌≡◌ {A = WorkerEnd} (record { end = x; taken = m; faults_before = 0; faults_after = 0 }) (record { end = y; taken = n; faults_before = 0; faults_after = 0 })
 end_same x y m n e f = cc
 
-abbrev Given : Option (List ℕ) → WorkerEnd × List Event → Type 0
+abbrev pub Given : Option (List ℕ) → WorkerEnd × List Event → Type 0
 Given content read = IsRun content read.0.end read.0.taken read.1
 
-ends_once : (contents : List (List ℕ)) (xs ys : List WorkerEnd) (es fs : List (List Event)) → length xs ≡ length contents → length ys ≡ length contents → length es ≡ length contents → length fs ≡ length contents
+pub ends_once : (contents : List (List ℕ)) (xs ys : List WorkerEnd) (es fs : List (List Event)) → length xs ≡ length contents → length ys ≡ length contents → length es ≡ length contents → length fs ≡ length contents
     → AllZip Given (map Some contents) (zip xs es) → AllZip Given (map Some contents) (zip ys fs)
     → AllByRecursion (λ end. NoFault end.end) xs → AllByRecursion (λ end. NoFault end.end) ys
     → AllByRecursion (λ end. TakenAtFault end.end end.taken) xs → AllByRecursion (λ end. TakenAtFault end.end end.taken) ys

@@ -1,0 +1,15 @@
+mod Sorting
+mod Rows
+mod Tags
+mod Units
+mod Shown
+mod Same
+mod Moves
+mod Readings
+mod Values
+mod Texts
+mod TextWork
+mod TextShown
+mod Written
+mod OfContents
+mod WorkedParts
