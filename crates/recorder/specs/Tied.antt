@@ -26,9 +26,10 @@ pub record IsWorkerOf (store : Store) (w : ℕ) (r : RecorderKnown) : Type 0 whe
   pub place : suc r.place ≡ w
   pub cell : HasItsCell store r
 
--- it was given no event yet
+-- it was given no event yet; its seat of the gauges has its number too
 pub record IsNewWorker (store : Store) (w : ℕ) (r : RecorderKnown) : Type 0 where
   pub worker : IsWorkerOf store w r
+  pub gauges : r.gauges.seat ≡ w
   pub work : r.work ≡ []
   pub given : r.given ≡ 0
   pub followed : HasFollowedAll r

@@ -1,14 +1,6 @@
 -- Lists that grow at their end.
-use Rattle.std.proofs.Common.{◌≡◌, ℕ, suc, ◌+◌, List, [], ◌∷◌, ◌++◌, map, length, ap, sym, ◌∙◌, subst, append_assoc, arith}
+use Rattle.std.proofs.Common.{◌≡◌, ℕ, ◌+◌, List, [], ◌∷◌, ◌++◌, map, length, ap, sym, ◌∙◌, append_assoc, arith}
 use Rattle.std.proofs.lemmas.List.{map-append}
-use Rattle.ledger.specs.Lists.{EachNumbered}
-
--- one member more, with the number behind the last one
-pub each_more : {X : Type 0} (P : ℕ → X → Type 0) (n k : ℕ) (xs : List X) (x : X) → EachNumbered P n xs
-    → k ≡ n + length xs → P k x → EachNumbered P n (xs ++ x ∷ [])
-each_more P n k [] x each at holds = (subst (λ (m : ℕ). P m x) (omega (arith, at)) holds, tt)
-each_more P n k (y ∷ ys) x each at holds =
-    (each.0, each_more P (suc n) k ys x each.1 (omega (arith, at)) holds)
 
 -- what is seen of a member more
 pub map_more : {X Y : Type 0} (f : X → Y) (xs new : List X) (x : X) (ys : List Y) → new ≡ xs ++ x ∷ [] → map f xs ≡ ys

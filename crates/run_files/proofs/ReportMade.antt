@@ -11,7 +11,8 @@ use Rattle.stat_defs.specs.declared.reports.Report.{Report}
 use Rattle.stat_defs.specs.declared.reports.WorkerEnd.{WorkerEnd}
 use Rattle.stats_io.specs.States.{SourceState}
 use Rattle.locked_book.specs.Sharing.{first_of}
-use Rattle.ledger.specs.Ledger.{RunPlan, plan_of}
+use Rattle.ledger.specs.Ledger.{RunPlan, RunLedger, plan_of}
+use Rattle.ledger.proofs.ScopeEntries.{scopes_once}
 use Rattle.ledger.specs.Work.{events_in, verdicts_in}
 use Rattle.run_ledger.specs.Told.{RunTold, FlushTold, ReadTold}
 use Rattle.run_ledger.specs.Accounts.{RunAccounts}
@@ -24,7 +25,7 @@ use Rattle.store_closing.specs.Closes.{Closes, told_of, plan_told, events_told, 
 use Rattle.worker_run.specs.declared.given.Given.{Given}
 use Rattle.worker_run.specs.declared.given.Worked.{Worked}
 use Rattle.worker_run.specs.Working.{IsFileRead}
-use Rattle.run_files.specs.Run.{IsRunOver}
+use Rattle.run_files.specs.Run.{IsRunOver, content_of}
 use Rattle.run_files.proofs.WorkersDone.{events_by, verdicts_by, AreWorked, are_read, files_read, verdicts_told}
 
 -- the accounts of a run say nothing of the files' ends
@@ -133,11 +134,15 @@ module _ {S : Type 0} (state : S → SourceState) (config : Config) (store : Sto
   run_made =
       let verdicts = ap (λ (r : Report). r.verdicts) is ∙ verdicts_told state store 1 files workers worked in
       let ends = ap (λ (r : Report). r.ends) is in
+      let contents = map (content_of state) files in
+      let ledger : RunLedger contents (map events_by workers) (plan_of config) report =
+      run_accounts contents (map events_by workers) (plan_of config) told report
+      (are_read state store 1 files workers report worked verdicts ends) accounted in
       record {
         events = map events_by workers;
         read = subst (λ (es : List WorkerEnd).
             AllZip (λ file told. IsFileRead state file told.1 told.0) files (zip es (map events_by workers))) (sym ends)
             (files_read state store 1 files workers worked);
-        ledger = run_accounts _ (map events_by workers) (plan_of config) told report
-            (are_read state store 1 files workers report worked verdicts ends) accounted;
+        ledger = ledger;
+        scopes = scopes_once contents (map events_by workers) (plan_of config) report ledger;
       }

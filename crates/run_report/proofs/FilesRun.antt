@@ -9,6 +9,7 @@ use Rattle.stat_defs.specs.declared.reports.Report.{Report}
 use Rattle.stat_defs.specs.declared.reports.WorkerEnd.{WorkerEnd}
 use Rattle.stats_io.specs.States.{SourceState, ShelfState}
 use Rattle.ledger.specs.Ledger.{RunPlan, RunLedger, plan_of}
+use Rattle.ledger.proofs.ScopeEntries.{scopes_once}
 use Rattle.file_reading.specs.FileRead.{FileRead, IsFile, AreFiles}
 use Rattle.file_reading.proofs.FileOpened.{file_read, file_unopened}
 use Rattle.replay_report.proofs.FilesReported.{events_of, ends_of, runs_of, counted_of}
@@ -158,6 +159,7 @@ module _ {F S : Type 0} (shelf : F → ShelfState) (source : S → SourceState) 
         are_files = are;
         ends = refl;
         ledger = of_files;
+        scopes = scopes_once (map holds names) (events_of files) (plan_of config) (record report { ends = ends_of files }) of_files;
       })
 
   -- so is any report that is the run's but for these ends

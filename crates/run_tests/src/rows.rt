@@ -2,11 +2,12 @@
 
 use crate::gates::{FlushAmong, ReadingBetween, SecondFirst, WorkerFirst};
 use crate::runs::{
-    all_values, delta_of, file_of, never_falls, repeated, run, units_of, values_in, word_of,
+    PIECE, all_values, delta_of, file_of, file_with_faults, never_falls, repeated, run, units_of,
+    values_in, word_of,
 };
 use run_gates::PaceGate;
 use stat_defs::{FileEnd, MetricId, Report, Verdict};
-use stats_io::SureSource;
+use stats_io::MemSource;
 use std::alloc::Global;
 use std::test::Fail;
 use worker_run::Given;
@@ -25,8 +26,8 @@ const TWO_READINGS: &str =
 const TWO_FLUSHES: &str =
     r#"{"stats_config":{"use_all_default_tags":false},"stats_run":{"flushes":2}}"#;
 
-const TWENTY_ROUNDS: &str = r#"{"stats_config":{"use_all_default_tags":false},
-    "stats_run":{"flushes":20,"flush_every":200,"reads":20}}"#;
+const FORTY_ROUNDS: &str = r#"{"stats_config":{"use_all_default_tags":false},
+    "stats_run":{"flushes":40,"flush_every":800,"reads":40}}"#;
 
 #[test]
 fn workers_run_side_by_side(rt: HostRuntime) -> Result<(), Fail> {
@@ -110,11 +111,11 @@ fn halves_turn_during_the_run(rt: HostRuntime) -> Result<(), Fail> {
 }
 
 // Each of eight workers counts in turn in one counter, which all of them find, and in one of its own.
-fn crowd(alloc: Global) -> Result<Vec<Given<SureSource>>, Fail> {
+fn crowd(alloc: Global) -> Result<Vec<Given<MemSource>>, Fail> {
     let mut files = Vec::new(alloc);
     for worker in 1..=8u32 {
         let pair = format!(in alloc; "inc root a 1\ninc root w{worker} 1\n")?;
-        let lines = repeated(alloc, pair.as_str(), 1_000)?;
+        let lines = repeated(alloc, pair.as_str(), 2_000)?;
         files.push(file_of(alloc, lines.as_str())?)?;
     }
     Ok(files)
@@ -145,30 +146,70 @@ fn is_counted(report: &Report, verdicts: &[Verdict], shared: MetricId) -> bool {
     let Some(own) = accepted_at(verdicts, 1) else {
         return false;
     };
-    verdicts.len() == 2_000
+    verdicts.len() == 4_000
         && alternate(verdicts, shared, own)
-        && units_of(report.flushes.items(), own) == 1_000
+        && units_of(report.flushes.items(), own) == 2_000
         && never_falls(report.reads.items(), own)
 }
 
 #[test]
 fn a_crowd_loses_no_unit(rt: HostRuntime) -> Result<(), Fail> {
     let alloc = rt.alloc();
-    let gate = PaceGate::new(alloc, 8, 200)?;
-    let report = run(&rt, alloc, &gate, TWENTY_ROUNDS, crowd(alloc)?)?;
+    let gate = PaceGate::new(alloc, 8, 800)?;
+    let report = run(&rt, alloc, &gate, FORTY_ROUNDS, crowd(alloc)?)?;
     let verdicts = report.verdicts.items();
     let flushes = report.flushes.items();
     let readings = report.reads.items();
-    assert!(rt; verdicts.len() == 8 && flushes.len() == 21 && readings.len() == 20);
+    assert!(rt; verdicts.len() == 8 && flushes.len() == 41 && readings.len() == 40);
     // Whichever worker was first to find it, the shared counter has one number for all.
     let shared = accepted_at(verdicts[0].items(), 0).unwrap_or(FIRST);
-    assert!(rt; units_of(flushes, shared) == 8_000 && never_falls(readings, shared));
+    assert!(rt; units_of(flushes, shared) == 16_000 && never_falls(readings, shared));
     for told in verdicts {
         assert!(rt; is_counted(&report, told.items(), shared));
     }
     for end in report.ends.items() {
         assert!(rt; end.end == FileEnd::Whole);
     }
+    drop(report);
+    Ok(())
+}
+
+// As many workers as a run may have, with an event each.
+#[test]
+fn each_worker_has_one_event(rt: HostRuntime) -> Result<(), Fail> {
+    let alloc = rt.alloc();
+    let gate = PaceGate::new(alloc, 32, 3)?;
+    let mut files = Vec::new(alloc);
+    for _ in 0..32 {
+        files.push(file_of(alloc, "inc root a 1\n")?)?;
+    }
+    let report = run(&rt, alloc, &gate, TWO_FLUSHES_AND_A_READING, files)?;
+    assert!(rt; report.verdicts.items().len() == 32);
+    for told in report.verdicts.items() {
+        assert!(rt; told.items() == [Verdict::Accepted(FIRST)]);
+    }
+    assert!(rt; units_of(report.flushes.items(), FIRST) == 32);
+    drop(report);
+    Ok(())
+}
+
+// A worker whose second pull fails counts the whole lines of the first, and the worker beside it goes on to its end.
+#[test]
+fn a_fault_ends_one_file_alone(rt: HostRuntime) -> Result<(), Fail> {
+    let alloc = rt.alloc();
+    let gate = PaceGate::new(alloc, 2, 3)?;
+    let line = "inc root a 1\n";
+    let lines = repeated(alloc, line, 1_000)?;
+    let cut = file_with_faults(alloc, lines.as_str(), vec![in alloc; 1]?)?;
+    let files = vec![in alloc; cut, file_of(alloc, lines.as_str())?]?;
+    let report = run(&rt, alloc, &gate, TWO_FLUSHES_AND_A_READING, files)?;
+    let (verdicts, ends) = (report.verdicts.items(), report.ends.items());
+    let counted = PIECE / line.len();
+    assert!(rt;
+        ends.len() == 2 && ends[0].end == FileEnd::ReadFault && ends[1].end == FileEnd::Whole
+    );
+    assert!(rt; verdicts[0].len() == counted && verdicts[1].len() == 1_000);
+    assert!(rt; units_of(report.flushes.items(), FIRST) == counted as u64 + 1_000);
     drop(report);
     Ok(())
 }

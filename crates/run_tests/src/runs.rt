@@ -6,7 +6,7 @@ use name_map::HashKey;
 use run_files::{Setup, run_files};
 use run_gates::Gate;
 use stat_defs::{Config, FlushRecord, MetricId, Part, ReadRecord, Report};
-use stats_io::SureSource;
+use stats_io::MemSource;
 use std::alloc::Global;
 use std::process::Abort;
 use std::sync::Wait;
@@ -15,10 +15,23 @@ use std::thread::Threads;
 use tag_rules::{Matcher, RegexMaker, TagRules, config_law};
 use worker_run::Given;
 
-/// The lines of a file.
-pub(crate) fn file_of(alloc: Global, lines: &str) -> Result<Given<SureSource>, Fail> {
+/// The bytes that a source gives at a pull.
+pub(crate) const PIECE: usize = 4096;
+
+/// A file of these lines, of whose pulls those with these numbers, from 0, fail.
+pub(crate) fn file_with_faults(
+    alloc: Global,
+    lines: &str,
+    fails: Vec<u64>,
+) -> Result<Given<MemSource>, Fail> {
     let bytes = lines.as_bytes().to_vec(alloc)?;
-    Ok(Given::Opened(SureSource::new(String::new(alloc), bytes, 4096)))
+    let source = MemSource::new(String::new(alloc), bytes, PIECE, fails);
+    Ok(Given::Opened(source))
+}
+
+/// A file of these lines.
+pub(crate) fn file_of(alloc: Global, lines: &str) -> Result<Given<MemSource>, Fail> {
+    file_with_faults(alloc, lines, Vec::new(alloc))
 }
 
 /// A line so many times.
@@ -36,7 +49,7 @@ pub(crate) fn run<R: Threads + Wait + Abort + Sync, G: Gate + Sync>(
     alloc: Global,
     gate: &G,
     bootstrap: &str,
-    files: Vec<Given<SureSource>>,
+    files: Vec<Given<MemSource>>,
 ) -> Result<Report, Fail> {
     let config = read(alloc, bootstrap.as_bytes())?;
     let report = run_with(rt, alloc, gate, &config, files);
@@ -49,7 +62,7 @@ fn run_with<R: Threads + Wait + Abort + Sync, G: Gate + Sync>(
     alloc: Global,
     gate: &G,
     config: &Config,
-    files: Vec<Given<SureSource>>,
+    files: Vec<Given<MemSource>>,
 ) -> Result<Report, Fail>
     requires { IsConfig config.now }
 {

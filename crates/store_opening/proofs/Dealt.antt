@@ -44,7 +44,8 @@ module _ (made : Made) (is : IsMade made) (first : LockedBook) (left : Dealing)
   all_left = record {
     seats = first_and_rest.1;
     counts = subst (λ (l : List WorkerSeat). EachNumbered (λ w. IsCountSeat made.store) 0 l) (sym queued.counts_left) (counts_new made.store 0 (length made.store.cells.items) made.counts.workers.items is.counts.workers_new);
-    gauges = subst (λ (l : List GaugeSeat). EachNumbered (λ w. IsGaugeSeat made.store) 0 l) (sym queued.gauges_left) (levels_new made.store 0 (length made.store.cells.items) made.levels.workers.items is.levels.workers_new);
+    gauges = subst (λ (l : List GaugeSeat). EachNumbered (IsGaugeSeat made.store) 1 l) (sym queued.gauges_left)
+        (levels_new made.store 1 (length made.store.cells.items) (length made.store.cells.items) made.levels.workers.items is.levels.workers_new is.levels.workers_numbers);
     sides = subst (λ (l : List HalfKnown). EachNumbered (IsSideFor made.store) 0 l) (sym queued.sides_left) (sides_placed made.store made.sides.items is.cells.each_side);
   }
 
@@ -81,6 +82,7 @@ module _ (made : Made) (is : IsMade made) (first : LockedBook) (left : Dealing)
       number = ap (λ (s : LogKnown). s.number) first_seat.new;
       cells = is.cells.same_cells;
     };
+    gauges = ap (λ (g : GaugeKnown). g.own.seat) is.levels.flusher;
     flushes = refl;
     round = refl;
   })
@@ -100,6 +102,7 @@ is_new_reader made is last left rest k are taken made_so =
         sizes = (omega (arith, a), omega (arith, b));
       };
       number = ap (λ (s : LogKnown). s.number) seat.new ∙ (let all = made.store.whole.cells in omega (arith, all));
+      gauges = ap (λ (g : GaugeKnown). g.own.seat) is.levels.reader ∙ (let all = made.store.whole.cells in omega (arith, all));
       reads = refl;
     })
 

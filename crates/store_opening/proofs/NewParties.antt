@@ -2,6 +2,7 @@
 use Rattle.std.proofs.Common.{◌≡◌, ◌+◌, ℕ, zero, suc, List, [], ◌∷◌, length, map, All, slice_get, Some, refl, ap, sym, subst, arith}
 use Rattle.std.specs.Option.{IsSomeAnd}
 use Rattle.std.specs.Prelude.{Option}
+use Rattle.std.specs.List.{range_with_len}
 use Rattle.std.proofs.lemmas.List.{length-map}
 use Rattle.std.proofs.lemmas.List.Elements.{All-head, All-tail}
 use Rattle.stat_defs.specs.Books.{BookHistory}
@@ -12,7 +13,7 @@ use Rattle.turn_cell.specs.Tokens.{cell_id}
 use Rattle.metric_words.specs.declared.counter_seats.WorkerSeat.{WorkerSeat}
 use Rattle.metric_words.specs.declared.gauge_seats.GaugeSeat.{GaugeSeat}
 use Rattle.metric_words.specs.CounterLedger.{CounterKnown, bank_id, IsNewWorker}
-use Rattle.metric_words.specs.GaugeLedger.{GaugeKnown, gauges_id, IsNewGauge}
+use Rattle.metric_words.specs.GaugeLedger.{GaugeKnown, gauges_id, gauge_part, IsNewGauge}
 use Rattle.locked_book.specs.declared.shared.LockedBook.{LockedBook}
 use Rattle.locked_book.specs.Sharing.{first_of, known_by, new_seats, IsSeatOf, AreNewSeats}
 use Rattle.half_side.specs.Halves.{HalfKnown}
@@ -43,12 +44,21 @@ module _ (store : Store) where
         counts_new (suc n) workers seats (All-tail (IsNewWorker (bank_id store.counters) workers) seat seats all),
       )
 
-  pub levels_new : (n workers : ℕ) (seats : List GaugeSeat) → All (IsNewGauge (gauges_id store.gauges) workers) seats → EachNumbered (λ w. IsGaugeSeat store) n seats
-  levels_new n workers [] all = tt
-  levels_new n workers (seat ∷ seats) all =
-      let new = All-head (IsNewGauge (gauges_id store.gauges) workers) seat seats all in (
-        record { own = ap (λ (k : GaugeKnown). k.bank) new; new = ap (λ (k : GaugeKnown). k.own.steps) new; alone = ap (λ (k : GaugeKnown). k.taken) new },
-        levels_new (suc n) workers seats (All-tail (IsNewGauge (gauges_id store.gauges) workers) seat seats all),
+  pub levels_new : (n count workers : ℕ) (seats : List GaugeSeat) → All (IsNewGauge (gauges_id store.gauges) workers) seats
+      → map (λ w. (gauge_part w).seat) seats ≡ range_with_len n count → EachNumbered (IsGaugeSeat store) n seats
+  levels_new n count workers [] all numbers = tt
+  levels_new n zero workers (seat ∷ seats) all numbers = absurd (nil_cons (gauge_part seat).seat (map (λ w. (gauge_part w).seat) seats) (sym numbers))
+  levels_new n (suc count) workers (seat ∷ seats) all numbers =
+      let new = All-head (IsNewGauge (gauges_id store.gauges) workers) seat seats all in
+      let rest = map (λ w. (gauge_part w).seat) seats in (
+        record {
+          own = ap (λ (k : GaugeKnown). k.bank) new;
+          is = head_same (gauge_part seat).seat n rest (range_with_len (suc n) count) numbers;
+          new = ap (λ (k : GaugeKnown). k.own.steps) new;
+          alone = ap (λ (k : GaugeKnown). k.taken) new;
+        },
+        levels_new (suc n) count workers seats (All-tail (IsNewGauge (gauges_id store.gauges) workers) seat seats all)
+        (tail_same (gauge_part seat).seat n rest (range_with_len (suc n) count) numbers),
       )
 
   sides_from : (k : ℕ) (rest : List (TurnCell HalfState)) → ((i : ℕ) → slice_get store.cells.items (k + i) ≡ slice_get rest i) → EachNumbered (IsSideFor store) k (map new_side (map cell_id rest))

@@ -1,5 +1,5 @@
 -- What is dealt to a worker of a new store makes a new recorder of it.
-use Rattle.std.proofs.Common.{◌≡◌, ◌≢◌, ◌+◌, ◌-◌, ◌<◌, ℕ, suc, List, [], ◌∷◌, ◌++◌, length, refl, ap, sym, subst, arith}
+use Rattle.std.proofs.Common.{◌≡◌, ◌≢◌, ◌+◌, ◌-◌, ◌<◌, ℕ, suc, List, [], ◌∷◌, length, refl, ap, sym, subst, arith}
 use Rattle.std.proofs.lemmas.List.Elements.{All-cons, All-nil}
 use Rattle.std.specs.Vec.Iter.{into_iter_items}
 use Rattle.stat_defs.specs.Books.{BookHistory}
@@ -46,6 +46,7 @@ module _ (store : Store) (place : ℕ) where
       place = refl;
       cell = is.side.own;
     };
+    gauges = is.gauges.is;
     work = refl;
     given = refl;
     followed = (seat_follows.begins (known_by hand.seat) new).1;
@@ -54,10 +55,6 @@ module _ (store : Store) (place : ℕ) where
 pub first_one : {X : Type 0} (P : ℕ → X → Type 0) (n : ℕ) (xs rest : List X) (x : X) → xs ≡ x ∷ rest → EachNumbered P n xs → P n x × EachNumbered P (suc n) rest
 first_one P n xs rest x e each = subst (λ l. EachNumbered P n l) e each
 
-pub one_more : {X : Type 0} (P : ℕ → X → Type 0) (n k : ℕ) (xs : List X) (x : X) → EachNumbered P n xs → k ≡ n + length xs → P k x → EachNumbered P n (xs ++ x ∷ [])
-one_more P n k [] x each at here = (subst (λ m. P m x) (omega (arith, at)) here, tt)
-one_more P n k (y ∷ xs) x each at here = (each.0, one_more P (suc n) k xs x each.1 (omega (arith, at)) here)
-
 module _ (store : Store) (place : ℕ) (left after : Dealing) (hand : WorkerHand) (deals : Deals hand left after) where
   hand_seat : AreLeft store place left → IsSeatFor store (suc place) hand.seat × EachNumbered (IsSeatFor store) (suc (suc place)) (into_iter_items after.seats)
   hand_seat is = first_one (IsSeatFor store) (suc place) (into_iter_items left.seats) (into_iter_items after.seats) hand.seat deals.seat is.seats
@@ -65,8 +62,8 @@ module _ (store : Store) (place : ℕ) (left after : Dealing) (hand : WorkerHand
   hand_counts : AreLeft store place left → IsCountSeat store hand.counts × EachNumbered (λ w. IsCountSeat store) (suc place) (into_iter_items after.counts)
   hand_counts is = first_one (λ w. IsCountSeat store) place (into_iter_items left.counts) (into_iter_items after.counts) hand.counts deals.counts is.counts
 
-  hand_gauges : AreLeft store place left → IsGaugeSeat store hand.gauges × EachNumbered (λ w. IsGaugeSeat store) (suc place) (into_iter_items after.gauges)
-  hand_gauges is = first_one (λ w. IsGaugeSeat store) place (into_iter_items left.gauges) (into_iter_items after.gauges) hand.gauges deals.gauges is.gauges
+  hand_gauges : AreLeft store place left → IsGaugeSeat store (suc place) hand.gauges × EachNumbered (IsGaugeSeat store) (suc (suc place)) (into_iter_items after.gauges)
+  hand_gauges is = first_one (IsGaugeSeat store) (suc place) (into_iter_items left.gauges) (into_iter_items after.gauges) hand.gauges deals.gauges is.gauges
 
   hand_side : AreLeft store place left → IsSideFor store place hand.side × EachNumbered (IsSideFor store) (suc place) (into_iter_items after.sides)
   hand_side is = first_one (IsSideFor store) place (into_iter_items left.sides) (into_iter_items after.sides) hand.side deals.side is.sides

@@ -23,13 +23,14 @@ module _ (store : Store) where
     pub own : IsSeatOf store.book seat
     pub new : known_by seat ≡ new_known (first_of store.book) number
 
-  -- a seat of the store's counters, and one of its gauges, which have made no step
+  -- a seat of the store's counters, and the one of this number of its gauges, which have made no step
   pub record IsCountSeat (seat : WorkerSeat) : Type 0 where
     pub own : (worker_known seat).bank ≡ bank_id store.counters
     pub new : (worker_known seat).own.steps ≡ []
 
-  pub record IsGaugeSeat (seat : GaugeSeat) : Type 0 where
+  pub record IsGaugeSeat (number : ℕ) (seat : GaugeSeat) : Type 0 where
     pub own : (gauge_known seat).bank ≡ gauges_id store.gauges
+    pub is : (gauge_part seat).seat ≡ number
     pub new : (gauge_known seat).own.steps ≡ []
     pub alone : (gauge_known seat).taken ≡ []
 
@@ -38,11 +39,11 @@ module _ (store : Store) where
     pub own : HasCell store place side.cell.cell
     pub new : side ≡ new_side side.cell.cell
 
-  -- what the worker at this place is dealt; its seat of the book has its number
+  -- what the worker at this place is dealt; its seats of the book and of the gauges have its number
   pub record IsHandFor (place : ℕ) (hand : WorkerHand) : Type 0 where
     pub seat : IsSeatFor (suc place) hand.seat
     pub counts : IsCountSeat hand.counts
-    pub gauges : IsGaugeSeat hand.gauges
+    pub gauges : IsGaugeSeat (suc place) hand.gauges
     pub side : IsSideFor place hand.side
 
   -- What is left where the workers below this place were dealt theirs: the seats of the book from the next worker's on,
@@ -50,7 +51,7 @@ module _ (store : Store) where
   pub record AreLeft (place : ℕ) (left : Dealing) : Type 0 where
     pub seats : EachNumbered IsSeatFor (suc place) (into_iter_items left.seats)
     pub counts : EachNumbered (λ w. IsCountSeat) place (into_iter_items left.counts)
-    pub gauges : EachNumbered (λ w. IsGaugeSeat) place (into_iter_items left.gauges)
+    pub gauges : EachNumbered IsGaugeSeat (suc place) (into_iter_items left.gauges)
     pub sides : EachNumbered IsSideFor place (into_iter_items left.sides)
 
 -- the parts of so many workers are left, and the reader's seat

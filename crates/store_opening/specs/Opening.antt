@@ -17,19 +17,21 @@ use Rattle.admin_side.specs.Reader.{ReaderKnown, IsReaderOf}
 use Rattle.flusher.specs.Flusher.{FlusherKnown, IsFlusherOf, new_flusher}
 use Rattle.store_opening.specs.declared.opening.Opened.{Opened}
 
--- the flusher of the store, which has begun no round
+-- the flusher of the store, whose seat of the gauges is the first, and which has begun no round
 pub record IsNewFlusher (store : Store) (k : FlusherKnown) : Type 0 where
   pub of : IsFlusherOf store k
+  pub gauges : k.gauges.own.seat ≡ 0
   pub flushes : k.flushes ≡ []
   pub round : k.round ≡ None
 
--- the reader of the store, whose seat of the book has this number, and which has made no reading
+-- the reader of the store, whose seats of the book and of the gauges have this number, and which has made no reading
 pub record IsNewReader (store : Store) (n : ℕ) (k : ReaderKnown) : Type 0 where
   pub of : IsReaderOf store.book store.counters store.gauges k
   pub number : k.seat.number ≡ n
+  pub gauges : k.gauges.own.seat ≡ n
   pub reads : k.reads ≡ []
 
--- a recorder for each worker of the store, and its flusher and reader; the reader's seat is behind the workers'
+-- a recorder for each worker of the store, and its flusher and reader; the reader's seats are behind the workers'
 pub record ArePartiesOf (opened : Opened) : Type 0 where
   pub recorders : EachNumbered (IsNewWorker opened.store) 1 opened.recorders.items
   pub count : length opened.recorders.items ≡ (first_of opened.store.book).workers
