@@ -1,0 +1,105 @@
+#!/usr/bin/env python3
+"""figures.py PROGRAM [PLAIN]: what an event costs in `run` and in `replay`.
+
+PROGRAM is the built program. PLAIN is another one that takes `run|replay - FILE..`; the two run in turn on the same
+files, and the figures of PLAIN come beside, with the ratio. Instructions are counted by valgrind, as the difference of
+two files, so what a start and the first event of each name cost is left out. Times are the least of nine rounds.
+"""
+import os
+import re
+import subprocess
+import sys
+import tempfile
+import time
+
+FULL = 131072
+ROUNDS = 9
+
+
+def mixed(seed, count, own):
+    """Half increments of 512 counters, a quarter values of 16 histograms, a quarter moves of one gauge."""
+    x = seed
+    for _ in range(count):
+        x = (6364136223846793005 * x + 1442695040888963407) % 2**64
+        r = x >> 33
+        i, j, kind = r >> 2, r >> 11, r & 3
+        if kind < 2:
+            yield "inc root c%d%s %d" % (i % 512, own, j % 1000)
+        elif kind == 2:
+            yield "rec root h%d%s %d" % (i % 16, own, j % 100000)
+        else:
+            yield "add root g%d acc %d" % (seed, j % 1000)
+
+
+KINDS = {
+    "inc": lambda i: "inc root upstream_rq_total.%06d %d" % (i * 7919 % 512, i % 1000),
+    "gauge": lambda i: "add root upstream_rq_active%05d acc %d" % (i * 7919 % 512, i % 1000),
+    "rec": lambda i: "rec root upstream_rq_time_%06d %d" % (i * 7919 % 16, i * 37 % 100000),
+}
+
+
+def write(folder, name, lines):
+    path = os.path.join(folder, name)
+    with open(path, "w") as out:
+        out.writelines(line + "\n" for line in lines)
+    return path
+
+
+def instructions(words):
+    done = subprocess.run(
+        ["valgrind", "--tool=cachegrind", "--cache-sim=no", "--cachegrind-out-file=/dev/null"] + words,
+        stdout=subprocess.DEVNULL, stderr=subprocess.PIPE, check=True)
+    return int(re.search(rb"refs:\s+([\d,]+)", done.stderr).group(1).replace(b",", b""))
+
+
+def once(words):
+    """Wall, user and system time in ms, and the most memory in MB, of one run."""
+    start = time.perf_counter()
+    # GNU time tells the memory of its child: a child forked from here would begin with that of this script.
+    child = subprocess.Popen(["/usr/bin/time", "-q", "-f", "%M"] + words,
+                             stdout=subprocess.DEVNULL, stderr=subprocess.PIPE)
+    said = child.stderr.read()
+    _, status, used = os.wait4(child.pid, 0)
+    child.returncode = os.waitstatus_to_exitcode(status)
+    if child.returncode:
+        sys.exit("%s: status %d" % (" ".join(words[:3]), child.returncode))
+    wall = (time.perf_counter() - start) * 1e3
+    return wall, used.ru_utime * 1e3, used.ru_stime * 1e3, int(said.split()[-1]) / 1024
+
+
+def least(commands):
+    """The least of each figure of each command, which run in turn."""
+    rounds = [[once(words) for words in commands] for _ in range(ROUNDS)]
+    return [[min(row[at][k] for row in rounds) for k in range(4)] for at in range(len(commands))]
+
+
+def told(figures):
+    return "wall %.0f ms, user %.0f ms, system %.0f ms, %.1f MB" % tuple(figures)
+
+
+def main():
+    if len(sys.argv) not in (2, 3):
+        sys.exit(__doc__)
+    programs = sys.argv[1:]
+    print("load %.1f of %d processors" % (os.getloadavg()[0], os.cpu_count()))
+    with tempfile.TemporaryDirectory() as folder:
+        for kind, line in KINDS.items():
+            short, long = (write(folder, kind + str(n), map(line, range(n))) for n in (FULL // 8, FULL // 4))
+            for verb in ("run", "replay"):
+                counts = [(instructions([p, verb, "-", long]) - instructions([p, verb, "-", short])) / (FULL // 8)
+                          for p in programs]
+                print("instructions, %s, %s:" % (verb, kind), " to ".join("%.0f" % c for c in counts), flush=True)
+        same = [write(folder, "same%d" % w, mixed(w, FULL, "")) for w in range(1, 33)]
+        apart = [write(folder, "apart%d" % w, mixed(w, FULL, "w%d" % w)) for w in range(1, 5)]
+        for count in (1, 4, 32):
+            rows = least([[p, "run", "-"] + same[:count] for p in programs])
+            print("%d files: %s" % (count, "; ".join(map(told, rows))))
+            if len(rows) == 2:
+                print("  ratios: " + ", ".join("%.2f" % (a / max(b, 1)) for a, b in zip(*rows)), flush=True)
+        for name, files in (("the same 512 names", same[:4]), ("differing names", apart)):
+            run, replay = least([[programs[0], verb, "-"] + files for verb in ("run", "replay")])
+            print("4 files of %s, run beside replay: %s; %s; wall %.2f" % (name, told(run), told(replay), run[0] / replay[0]))
+    print("load %.1f" % os.getloadavg()[0])
+
+
+main()
