@@ -1,5 +1,5 @@
 -- Lines, cut from their bytes.
-use Rattle.std.proofs.Common.{◌≡◌, ◌<◌, ◌≤◌, ◌+◌, ◌-◌, ℕ, ◌==◌, Bool, true, false, cond, Some, List, [], ◌∷◌, ◌++◌, length, take, get_or, drop, refl, sym, ap, ◌∙◌, subst, arith}
+use Rattle.std.proofs.Common.{◌≡◌, ◌<◌, ◌≤◌, ◌+◌, ◌-◌, ℕ, ◌==◌, Bool, true, false, cond, Some, List, [], ◌∷◌, ◌++◌, length, take, get_or, drop, inl, inr, refl, sym, ap, ◌∙◌, subst, arith}
 use Rattle.std.specs.List.{All, slice_split}
 use Rattle.memchr.specs.Find.{Nowhere, NoneBefore, Passes, is_byte}
 use Rattle.std.proofs.lemmas.List.{get_or-take, take-append-drop, drop_more, take_rest, length-take-le, drop_at, drop_all, append_assoc, length-append, append-nil}
@@ -45,6 +45,11 @@ pub first_of : (stop : Pulled) (piece : List ℕ) (pieces : List (List ℕ)) →
 first_of stop piece [] some = absurd (omega arith)
 first_of stop piece (next ∷ pieces) some = refl
 
+-- what stands behind a line and its newline
+pub drop_at_newline : (line rest : List ℕ) → drop (length line + 1) (line ++ 10 ∷ rest) ≡ rest
+drop_at_newline line rest =
+    ap (drop (length line + 1)) (sym (append_assoc line (10 ∷ []) rest)) ∙ drop_at (line ++ 10 ∷ []) rest (length line + 1) (length-append line (10 ∷ []))
+
 -- a line with its newline comes off
 pub cut_until : (stop : Pulled) (bytes line rest : List ℕ) → Lacks 10 line → bytes ≡ line ++ 10 ∷ rest
     → lines_until stop bytes ≡ line ∷ lines_until stop (drop (length line + 1) bytes)
@@ -53,10 +58,6 @@ cut_until stop bytes line rest lacks e =
     ap (lines_until stop) e ∙ ap (piece_lines stop) (slice_split_at is_newline line 10 rest (none_passes line lacks) refl)
     ∙ first_of stop line (slice_split is_newline rest) (omega (arith, length-slice_split is_newline rest))
     ∙ ap (λ l. line ∷ lines_until stop l) (sym after)
-  where
-    drop_at_newline : (line rest : List ℕ) → drop (length line + 1) (line ++ 10 ∷ rest) ≡ rest
-    drop_at_newline line rest =
-        ap (drop (length line + 1)) (sym (append_assoc line (10 ∷ []) rest)) ∙ drop_at (line ++ 10 ∷ []) rest (length line + 1) (length-append line (10 ∷ []))
 
 -- the last piece alone
 last_piece : (stop : Pulled) (bytes : List ℕ) → Lacks 10 bytes → lines_until stop bytes ≡ cond (is_line stop (length bytes)) (bytes ∷ []) []
@@ -82,7 +83,7 @@ line_has_bytes End count is = ltb-true 0 count is
 line_has_bytes TooMany count is = omega (arith, ltb-true MAX_LINE_BYTES count is)
 line_has_bytes Failed count is = omega (arith, ltb-true MAX_LINE_BYTES count is)
 
-first_lacks : (text : List ℕ) → Lacks 10 (first_line text)
+pub first_lacks : (text : List ℕ) → Lacks 10 (first_line text)
 first_lacks [] = λ k lt. absurd (omega arith)
 first_lacks (b ∷ bs) = by (b == 10) refl (first_lacks bs)
   where
@@ -91,7 +92,7 @@ first_lacks (b ∷ bs) = by (b == 10) refl (first_lacks bs)
     by false is lacks = lacks_cons 10 b (first_line bs) (eqb-false b 10 is) lacks
 
 -- what stands behind a line begins with its newline
-newline_behind : (text : List ℕ) (b : ℕ) (bs : List ℕ) → behind_line text ≡ b ∷ bs → b ≡ 10
+pub newline_behind : (text : List ℕ) (b : ℕ) (bs : List ℕ) → behind_line text ≡ b ∷ bs → b ≡ 10
 newline_behind [] b bs e = absurd cc
 newline_behind (x ∷ xs) b bs e = by (x == 10) refl (newline_behind xs b bs) e
   where
@@ -105,6 +106,7 @@ cut_at_newline stop bytes line rest lacks e = record {
   first = sym (ap first_line e ∙ first_behind line (10 ∷ rest) lacks ∙ append-nil line);
   some = omega arith;
   within = omega (arith, ap length e, length-append line (10 ∷ rest));
+  ends = inl (e ∙ ap (λ l. line ++ 10 ∷ l) (sym (ap (drop (length line + 1)) e ∙ drop_at_newline line rest)));
   cut = cut_until stop bytes line rest lacks e;
 }
 
@@ -113,6 +115,7 @@ cut_last stop bytes lacks is = record {
   first = sym (ap first_line (sym (append-nil bytes)) ∙ first_behind bytes [] lacks ∙ append-nil bytes);
   some = line_has_bytes stop (length bytes) is;
   within = omega arith;
+  ends = inr (refl, refl, is);
   cut = last_until stop bytes lacks is;
 }
 

@@ -7,6 +7,10 @@ pub mod CutLines
 pub mod Moves
 pub mod AnswerStep
 pub mod Runs
+pub mod Streams
+pub mod Passed
+pub mod Pulling
+pub mod Pieces
 pub mod OneReading
 pub mod NoEvent
 pub mod EveryFile

@@ -15,8 +15,8 @@ use Rattle.event_script.specs.declared.limits.TheConstants.{MAX_FILE_BYTES}
 use Rattle.event_script.specs.declared.limits.TheConstants.{MAX_LINE_BYTES}
 use Rattle.event_script.specs.Script.{LinesGive, is_line, piece_lines, lines_until, FileFrom, File, end_by}
 use Rattle.event_script.proofs.CutLines.{is_newline, first_of}
-use Rattle.event_script.specs.Reader.{Reading, Comes, MayFollow, Moves}
-use Rattle.event_script.specs.Answer.{StoppedBy, EndsBy, HasEnded}
+use Rattle.event_script.specs.Reader.{Reading, Gives, Comes, MayFollow, Moves}
+use Rattle.event_script.specs.Answer.{StoppedBy, EndsBy, IsLineFault, HasEnded}
 use Rattle.stats_io.specs.States.{SourceState}
 use Rattle.stats_io.specs.Told.{MayBe}
 use Rattle.event_script.specs.Run.{IsRun}
@@ -100,20 +100,23 @@ module _ (stop other : Pulled) (end : FileEnd) (fault : end ≡ end_by stop → 
       (behind_line piece (piece_lines stop (next ∷ pieces)) (piece_lines other (joined (next ∷ pieces) more))
       (λ n g es r. fault_stands (next ∷ pieces) more n g es r) number given events reads)
 
-seam_at : (limit : ℕ) (got rest : List ℕ) → length got ≤ limit → take limit (got ++ rest) ≡ got ++ take (limit - length got) rest
+pub seam_at : (limit : ℕ) (got rest : List ℕ) → length got ≤ limit → take limit (got ++ rest) ≡ got ++ take (limit - length got) rest
 seam_at limit got rest fits =
     let e : limit ≡ length got + (limit - length got) = omega arith in
     ap (λ n. take n (got ++ rest)) e ∙ take-append-add got rest (limit - length got)
 
-module _ (end : FileEnd) (fault : end ≡ file.ReadFault → ⊥) (got rest : List ℕ) (events : List Event) where
-  fault_within : length got ≤ MAX_FILE_BYTES → LinesGive 1 0 (lines_until Failed got) Failed events end → File (got ++ rest) events end
-  fault_within fits reads =
-      let seam : take (MAX_FILE_BYTES - 0) (got ++ rest) ≡ got ++ take (MAX_FILE_BYTES - length got) rest = seam_at MAX_FILE_BYTES got rest fits in
-      let behind = take (MAX_FILE_BYTES - length got) rest in (
-        (λ _. rw (split_joined got rest) (fault_stands Failed End end fault (λ count. refl) (slice_split is_newline got) (slice_split is_newline rest) 1 0 events reads)),
-        (λ _. rw (seam, split_joined got behind) (fault_stands Failed TooMany end fault (λ count. refl) (slice_split is_newline got) (slice_split is_newline behind) 1 0 events reads)),
-      )
+-- a fault that is found before a read fault stands, whatever follows
+pub fault_within : (number given offset : ℕ) (last : Pulled) (end : FileEnd) → (end ≡ file.ReadFault → ⊥) → (got rest : List ℕ) (events : List Event)
+    → offset + length got ≤ MAX_FILE_BYTES → LinesGive number given (lines_until Failed got) Failed events end → FileFrom number given offset (got ++ rest) last events end
+fault_within number given offset last end fault got rest events fits reads =
+    let room : length got ≤ MAX_FILE_BYTES - offset = omega (arith, fits) in
+    let behind : List ℕ = take (MAX_FILE_BYTES - offset - length got) rest in
+    let seam : take (MAX_FILE_BYTES - offset) (got ++ rest) ≡ got ++ behind = seam_at (MAX_FILE_BYTES - offset) got rest room in (
+      (λ _. rw (split_joined got rest) (fault_stands Failed last end fault (λ count. refl) (slice_split is_newline got) (slice_split is_newline rest) number given events reads)),
+      (λ _. rw (seam, split_joined got behind) (fault_stands Failed TooMany end fault (λ count. refl) (slice_split is_newline got) (slice_split is_newline behind) number given events reads)),
+    )
 
+module _ (end : FileEnd) (fault : end ≡ file.ReadFault → ⊥) (got rest : List ℕ) (events : List Event) where
   fault_past : MAX_FILE_BYTES < length got → LinesGive 1 0 (lines_until TooMany (take (MAX_FILE_BYTES - 0) got)) TooMany events end → File (got ++ rest) events end
   fault_past big reads =
       let long = length-append got rest in
@@ -122,8 +125,10 @@ module _ (end : FileEnd) (fault : end ≡ file.ReadFault → ⊥) (got rest : Li
 
   -- a fault before a read fault is that of the whole file
   pub fault_before : FileFrom 1 0 0 got Failed events end → File (got ++ rest) events end
-  fault_before script =
-      ⊎_elim (λ big. fault_past big (script.1 (omega arith))) (λ fits. fault_within fits (script.0 (omega arith))) (cases_lt MAX_FILE_BYTES (length got))
+  fault_before script = ⊎_elim
+      (λ big. fault_past big (script.1 (omega arith)))
+      (λ fits. fault_within 1 0 0 End end fault got rest events (omega (arith, fits)) (script.0 (omega arith)))
+      (cases_lt MAX_FILE_BYTES (length got))
 
 abbrev rest_of : Option (List ℕ) → List ℕ
 rest_of None = []
@@ -141,6 +146,16 @@ rest_none (Some x) e = e
 module _ (before after : Option (List ℕ)) (got : List ℕ) (events : List Event) (consumed : Consumes before after got) where
   run_whole : (end : FileEnd) → (rest_of after ≡ []) → FileFrom 1 0 0 (got ++ []) End events end → File (got ++ rest_of after) events end
   run_whole end none script = subst (λ (l : List ℕ). FileFrom 1 0 0 (got ++ l) End events end) (sym none) script
+
+  -- where the source had not stopped
+  run_open : (end : FileEnd) → IsLineFault end → ((more : List ℕ) (last : Pulled) → FileFrom 1 0 0 (got ++ more) last events end) → IsRun before end (length got) events
+  run_open (file.BadLine n) by script = (got ++ rest_of after, told_is before after got consumed, script (rest_of after) End)
+  run_open (file.LineTooLong n) by script = (got ++ rest_of after, told_is before after got consumed, script (rest_of after) End)
+  run_open file.TooMany by script = (got ++ rest_of after, told_is before after got consumed, script (rest_of after) End)
+  run_open file.Whole by script = absurd by
+  run_open file.TooBig by script = absurd by
+  run_open file.ReadFault by script = absurd by
+  run_open file.NotOpened by script = absurd by
 
   -- by the way that the source stopped
   file_is : (stop : Pulled) (end : FileEnd) → (end ≡ file.ReadFault → ⊥) → (stop ≡ End → IsAtEnd after)
@@ -182,15 +197,14 @@ run_of state source now first got events end moves has at_end =
   where
     come : (more : List ℕ) (last : Pulled) → Comes now more last [] end
     come more last =
-        let Given : Option FileEnd → Type 0 = λ e. MatchOption e
-        (MatchOption now.stopped (FileFrom now.number now.given now.offset (now.pending ++ more) last [] end) (λ stop. LinesGive now.number now.given (lines_until stop now.pending) stop [] end))
+        let Told : Option FileEnd → Type 0 = λ e. MatchOption e (Gives now.stopped now.number now.given now.offset now.pending more last [] end)
         (λ ended. ◌≡◌ {A = List Event} [] [] × (end ≡ ended)) in
-        subst Given (sym has.is) (refl, refl)
+        subst Told (sym has.is) (refl, refl)
 
-    answers : (stop : Pulled) → now.stopped ≡ Some stop → (more : List ℕ) (last : Pulled) → MayFollow (Some stop) more last → FileFrom 1 0 0 (got ++ more) last events end
-    answers stop is more last may = subst (λ (es : List Event). FileFrom 1 0 0 (got ++ more) last es end) (append-nil events) (moves.answers more last [] end (rw is may) (come more last))
+    answers : (s : Option Pulled) → now.stopped ≡ s → (more : List ℕ) (last : Pulled) → MayFollow s more last → FileFrom 1 0 0 (got ++ more) last events end
+    answers s is more last may = subst (λ (es : List Event). FileFrom 1 0 0 (got ++ more) last es end) (append-nil events) (moves.answers more last [] end (rw is may) (come more last))
 
     stopped_cases : (s : Option Pulled) → now.stopped ≡ s → StoppedBy s end → IsRun (state source).left end (length got) events
-    stopped_cases None is by' = absurd by'
+    stopped_cases None is by' = run_open (state source).left (state now.source).left got events moves.consumed end by' (λ more last. answers None is more last tt)
     stopped_cases (Some stop) is by' =
-        (run_is (state source).left (state now.source).left got events moves.consumed stop end by' (λ e. at_end (is ∙ ap (λ x. Some x) e)) (answers stop is))
+        (run_is (state source).left (state now.source).left got events moves.consumed stop end by' (λ e. at_end (is ∙ ap (λ x. Some x) e)) (answers (Some stop) is))

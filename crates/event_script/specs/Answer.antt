@@ -1,5 +1,5 @@
 -- What the reader answers.
-use Rattle.std.specs.Prelude.{◌≡◌, ◌<◌, ◌≤◌, ◌+◌, All, ℕ, List, [], ◌∷◌, Option, Some, None, IfSome, MatchOption}
+use Rattle.std.specs.Prelude.{◌≡◌, ◌<◌, ◌≤◌, ◌+◌, All, ℕ, List, [], ◌∷◌, Option, Some, None, IfSome, length}
 use Rattle.std.specs.Prelude.{Result, Ok, Err}
 use Rattle.std.specs.Io.KnownBytes.{IsAtEnd}
 use Rattle.stat_defs.specs.declared.events.Event.{Event}
@@ -9,10 +9,9 @@ use Rattle.stat_defs.specs.declared.memory.NoMemory.{NoMemory}
 use Rattle.stat_defs.specs.Faults.{Rose}
 use Rattle.stats_io.specs.States.{SourceState}
 use Rattle.stats_io.specs.declared.pulling.Pulled.TheVariants.{End}
-use Rattle.stats_io.specs.declared.pulling.TheConstants.{PULL_BYTES}
-use Rattle.event_script.specs.declared.limits.TheConstants.{MAX_FILE_BYTES, MAX_EVENTS}
+use Rattle.event_script.specs.declared.limits.TheConstants.{MAX_FILE_BYTES, MAX_EVENTS, MAX_PULL_BYTES, MAX_HELD_BYTES}
 use Rattle.event_script.specs.Grammar.{IsLawful}
-use Rattle.event_script.specs.Script.{LinesGive, end_by}
+use Rattle.event_script.specs.Script.{end_by}
 use Rattle.event_script.specs.Reader.{Reading, Moves}
 use Rattle.stats_io.specs.declared.pulling.Pulled.{Pulled}
 use Rattle.event_script.specs.declared.step.Step.{Step}
@@ -46,6 +45,14 @@ IfEvent other fact = Unit {0}
 abbrev pub TellsEnd : Result Step NoMemory → FileEnd → Type 0
 TellsEnd answer end = (events_answered answer ≡ []) × (end_of answer ≡ Some end)
 
+-- a line ends the file
+abbrev pub IsLineFault : FileEnd → Type 0
+IsLineFault file.Whole = ⊥
+IsLineFault file.TooBig = ⊥
+IsLineFault file.ReadFault = ⊥
+IsLineFault file.NotOpened = ⊥
+IsLineFault other = Unit {0}
+
 -- the end is that of the source, or a fault of a line
 abbrev pub EndsBy : Pulled → FileEnd → Type 0
 EndsBy stop file.Whole = end_by stop ≡ file.Whole
@@ -61,9 +68,9 @@ Explains source first file.ReadFault = Rose first source.faults
 Explains source first file.NotOpened = ⊥
 Explains source first other = Unit {0}
 
--- the source had stopped, and the end is its end or a fault of a line
+-- the end is a fault of a line, or the source had stopped, and it is that of the source
 abbrev pub StoppedBy : Option Pulled → FileEnd → Type 0
-StoppedBy None end = ⊥
+StoppedBy None end = IsLineFault end
 StoppedBy (Some stop) end = EndsBy stop end
 
 -- the reading has ended so, and for a cause
@@ -76,9 +83,17 @@ pub record HasEnded {S : Type 0} (state : S → SourceState) (now : Reading S) (
 abbrev pub no_answer : Result Step NoMemory
 no_answer = Err (record {})
 
+-- The bytes that were taken stand before the next line or are pending, but the one that a file has too many; and few are
+-- pending.
+pub record HoldsTaken {S : Type 0} (now : Reading S) : Type 0 where
+  pub all : now.offset + length now.pending ≤ now.taken
+  pub but_one : now.taken ≤ now.offset + length now.pending + 1
+  pub few : now.taken ≤ now.offset + MAX_HELD_BYTES
+
 -- An answer of a reader: some bytes were taken, and what comes behind the answer is what was to come. An event is
 -- lawful and has a line of its own, and an end has its cause. Where the source ended nothing of it is left. Events,
--- lines and bytes stay within their limits, and one pull at most goes past that of the bytes.
+-- lines and bytes stay within their limits. Behind an event the bytes that were taken end less than a pull past its
+-- line.
 pub record IsAnswer {S : Type 0} (state : S → SourceState) (old new : Reading S)
     (answer : Result Step NoMemory) : Type 0 where
   pub got : List ℕ
@@ -89,9 +104,11 @@ pub record IsAnswer {S : Type 0} (state : S → SourceState) (old new : Reading 
   pub whole : new.stopped ≡ Some End → IsAtEnd (state new.source).left
   pub few : new.given ≤ MAX_EVENTS
   pub short : new.number ≤ MAX_FILE_BYTES + 1
-  pub bound : new.taken ≤ MAX_FILE_BYTES + PULL_BYTES
+  pub bound : new.taken ≤ MAX_FILE_BYTES + 1
+  pub held : HoldsTaken new
+  pub near : IfEvent answer (new.taken < new.offset + MAX_PULL_BYTES)
 
--- what comes behind the answer: nothing behind an end
-abbrev pub FollowsAnswer : Result Step NoMemory → ℕ → ℕ → List (List ℕ) → Pulled → List Event → FileEnd → Type 0
-FollowsAnswer answer number given lines stop events end =
-    MatchOption (end_of answer) (LinesGive number given lines stop events end) (λ ended. (events ≡ []) × (end ≡ ended))
+-- where the answer is a read fault, and the first one, the source's count of faults rose during the call
+abbrev pub HasFaultCause : {S : Type 0} → (S → SourceState) → Reading S → Reading S → Result Step NoMemory → Type 0
+HasFaultCause state old new answer = old.ended ≡ None → end_of answer ≡ Some file.ReadFault
+    → Rose (state old.source).faults (state new.source).faults

@@ -9,10 +9,8 @@ use Rattle.stats_io.specs.declared.pulling.Pulled.TheVariants.{End, TooMany, Fai
 use Rattle.event_script.specs.Script.{LinesGive, lines_until, FileFrom}
 
 -- the source, the number of the next line, the numbers of events and of bytes before it, the bytes that were taken and
--- not yet
--- read, the number of all that were taken, the source's count of faults at the start, how the source stopped, and the
--- end that
--- was answered
+-- not yet read, the number of all that were taken, the source's count of faults at the start, how the source stopped,
+-- and the end that was found
 pub record Reading (S : Type 0) : Type 0 where
   pub source : S
   pub number : ℕ
@@ -38,13 +36,18 @@ unread source faults = record {
   ended = None;
 }
 
+-- What pending bytes give from a line on, which has that number and so many events and bytes before it. Where the source
+-- has not stopped, these bytes are still to be taken, and it then stops so.
+abbrev pub Gives : Option Pulled → ℕ → ℕ → ℕ → List ℕ → List ℕ → Pulled → List Event → FileEnd → Type 0
+Gives None number given offset pending more last events end =
+    FileFrom number given offset (pending ++ more) last events end
+Gives (Some stop) number given offset pending more last events end =
+    LinesGive number given (lines_until stop pending) stop events end
+
 -- the events and the end that are still to come, where these bytes are still to be taken and the source then stops so
 abbrev pub Comes : {S : Type 0} → Reading S → List ℕ → Pulled → List Event → FileEnd → Type 0
 Comes r more last events end =
-    MatchOption r.ended
-    (MatchOption r.stopped
-    (FileFrom r.number r.given r.offset (r.pending ++ more) last events end)
-    (λ stop. LinesGive r.number r.given (lines_until stop r.pending) stop events end))
+    MatchOption r.ended (Gives r.stopped r.number r.given r.offset r.pending more last events end)
     (λ ended. (events ≡ []) × (end ≡ ended))
 
 -- nothing comes behind the end, or behind a fault

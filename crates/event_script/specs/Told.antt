@@ -5,7 +5,7 @@ use Rattle.stat_defs.specs.declared.memory.NoMemory.{NoMemory}
 use Rattle.stat_defs.specs.declared.reports.FileEnd.{FileEnd}
 use Rattle.stats_io.specs.States.{SourceState}
 use Rattle.event_script.specs.Reader.{Reading}
-use Rattle.event_script.specs.Answer.{IsAnswer, TellsEnd}
+use Rattle.event_script.specs.Answer.{IsAnswer, TellsEnd, HasFaultCause, IfEnded, IsLineFault}
 use Rattle.event_script.specs.declared.step.Step.{Step}
 use Rattle.event_script.specs.declared.step.Step.TheVariants as step
 use Rattle.event_script.specs.declared.step.StepRef.{StepRef}
@@ -29,13 +29,19 @@ told_in (Ok s) = answer_of s
 told_in (Err e) = Err e
 
 -- what the reader answered, where it is the new one once nothing is borrowed from it; and an end is answered again,
--- which changes nothing
+-- which changes nothing, and a read fault has its cause
 pub record HasAnswered {S : Type 0} (state : S → SourceState) (old : Reading S) (result : Result StepRef NoMemory)
     (new : Reading S) : Type 0 where
   pub answer : IsAnswer state old new (told_in result)
   pub again : (end : FileEnd) → old.ended ≡ Some end → TellsEnd (told_in result) end × (new ≡ old)
+  pub fault : HasFaultCause state old new (told_in result)
 
--- the end that was answered, as it is answered again
+-- what a line gave: an answer, and no end but that of a line
+pub record HasRead {S : Type 0} (state : S → SourceState) (old new : Reading S) (result : Result Step NoMemory) : Type 0 where
+  pub answer : IsAnswer state old new result
+  pub by_line : IfEnded result IsLineFault
+
+-- the end that was found, as it is answered
 pub record IsLastEnd {S : Type 0} (state : S → SourceState) (now : Reading S) (step : StepRef) : Type 0 where
   pub end : FileEnd
   pub is : now.ended ≡ Some end

@@ -1,12 +1,16 @@
 //! Lines, cut from the bytes of a file.
 ghost use Rattle.std.specs.Prelude.{◌≡◌, ◌<◌, ◌≤◌, ◌+◌, ◌++◌, [], Some, ℕ, List, All, MatchOption, None, length, drop};
 ghost use Rattle.event_script.specs.declared.limits.TheConstants as limits;
-ghost use Rattle.event_script.specs.Script.{lines_until, LinesGive};
+ghost use Rattle.event_script.specs.Script.{lines_until};
 ghost use Rattle.event_script.specs.Script as script;
-ghost use Rattle.event_script.specs.Grammar.{IsLawful};
-ghost use Rattle.event_script.specs.EventIn.{event_in};
+ghost use Rattle.event_script.specs.Grammar.{IsLawful, IsPassedOver};
+ghost use Rattle.event_script.specs.EventIn.{event_in, first_line};
 ghost use Rattle.event_script.specs.Said.{LineSays, SaysFirst, IsCut};
-ghost use Rattle.event_script.specs.Answer.{events_answered, IfEnded, IfEvent, TellsEnd, FollowsAnswer, EndsBy};
+ghost use Rattle.event_script.specs.Passing.{PassesOver, HasNoPassed, ReadsLine};
+ghost use Rattle.event_script.specs.Window.{IsPiece, HasOwnLine, IsWholeEnd};
+ghost use Rattle.event_script.specs.Window as window;
+ghost use Rattle.event_script.specs.Answer.{events_answered};
+ghost use Rattle.std.specs.Bool.{MatchBool};
 ghost use Rattle.event_script.specs.Told.{answer_of};
 ghost use Rattle.stat_defs.specs.Borrowed.{event_of};
 ghost use Rattle.stat_defs.specs.declared.events.Event.{Event};
@@ -16,7 +20,7 @@ use crate::events::event_first;
 use crate::limits::{MAX_EVENTS, MAX_LINE_BYTES};
 use crate::step::StepRef;
 use memchr::memchr;
-use stat_defs::EventRef;
+use stat_defs::{EventRef, FileEnd};
 use stats_io::Pulled;
 
 // What a line says: nothing, an event, or nothing that is a line of an event file; or it is too long to be read.
@@ -108,55 +112,98 @@ fn said_first(bytes: &[u8], stopped: Pulled) -> Option<(Said<'_>, usize)>
     Some((said_with(event, length), length))
 }
 
-// The answer where all lines were read.
-fn step_by<'a>(stopped: Pulled) -> StepRef<'a>
-    ensures { TellsEnd (answer_of result) (script.end_by stopped) }
+// The end of a file whose lines were all read.
+pub fn end_by(stopped: Pulled) -> FileEnd
+    ensures { result ≡ script.end_by stopped }
 {
     match stopped {
-        Pulled::End => StepRef::End,
-        Pulled::TooMany => StepRef::TooBig,
-        Pulled::Failed => StepRef::ReadFault,
+        Pulled::End => FileEnd::Whole,
+        Pulled::TooMany => FileEnd::TooBig,
+        Pulled::Failed => FileEnd::ReadFault,
     }
 }
 
-// LinesGive on from that place to the next event, or to the end.
+// How a piece behind the last newline is read: where more bytes may follow, as where the source failed.
 #[inline(always)]
-pub fn read_on<'a>(bytes: &'a [u8], stopped: Pulled, place: &mut Place) -> StepRef<'a>
-    requires within { place.old.at ≤ length bytes.now }
-    requires numbered { place.old.number ≤ place.old.at + 1 }
-    requires short { length bytes.now ≤ limits.MAX_FILE_BYTES }
-    requires few { place.old.given ≤ limits.MAX_EVENTS }
-    ensures within { place.new.at ≤ length bytes.now }
-    ensures numbered { place.new.number ≤ place.new.at + 1 }
-    ensures few { place.new.given ≤ limits.MAX_EVENTS }
-    ensures given { place.new.given ≡ place.old.given + length (events_answered (answer_of result)) }
-    ensures event { IfEvent (answer_of result) (place.old.number < place.new.number) }
-    ensures lawful { All IsLawful (events_answered (answer_of result)) }
-    ensures ends { IfEnded (answer_of result) (λ end. EndsBy stopped end) }
-    ensures reads { (events : List Event) (end : FileEnd)
-        → FollowsAnswer (answer_of result) place.new.number place.new.given
-        (lines_until stopped (drop place.new.at bytes.now)) stopped events end
-        → LinesGive place.old.number place.old.given (lines_until stopped (drop place.old.at bytes.now)) stopped
-        (events_answered (answer_of result) ++ events) end }
+pub fn stop_of(stopped: Option<Pulled>) -> Pulled
+    ensures { result ≡ window.stop_of stopped }
 {
-    while let Some((said, count)) = said_first(&bytes[place.at..], stopped) {
-        match said {
-            Said::Nothing => {
-                place.at += count;
-                place.number += 1;
+    match stopped {
+        Some(stop) => stop,
+        None => Pulled::Failed,
+    }
+}
+
+// Whether the line that begins so is passed over, where it is no longer than a line may be.
+#[inline(always)]
+fn is_passed(bytes: &[u8]) -> bool
+    ensures { MatchBool result (IsPassedOver (first_line bytes.now) × (0 < length bytes.now))
+        (0 < length bytes.now → ¬ IsPassedOver (first_line bytes.now)) }
+{
+    !bytes.is_empty() && (bytes[0] == b'\n' || bytes[0] == b'#')
+}
+
+// Goes on to the first line that is not passed over, or behind the last line.
+#[inline(always)]
+pub fn pass_over(bytes: &[u8], stop: Pulled, place: &mut Place)
+    requires within { place.old.at ≤ length bytes.now }
+    requires short { place.old.number + length bytes.now ≤ limits.MAX_FILE_BYTES + place.old.at + 1 }
+    ensures within { place.new.at ≤ length bytes.now }
+    ensures passes { PassesOver stop bytes.now place.old place.new }
+    ensures own { HasNoPassed stop (drop place.new.at bytes.now) }
+{
+    while is_passed(&bytes[place.at..]) {
+        let Some((line, count)) = line_first(&bytes[place.at..], stop) else {
+            return;
+        };
+        if line.len() > MAX_LINE_BYTES {
+            return;
+        }
+        place.at += count;
+        place.number += 1;
+    }
+}
+
+// Whether a line stands at that place, where the last newline ends there.
+#[inline(always)]
+pub fn has_line(bytes: &[u8], stop: Pulled, at: usize, whole: usize) -> bool
+    requires within { at ≤ length bytes.now }
+    requires whole { IsWholeEnd bytes.now whole }
+    requires own { HasNoPassed stop (drop at bytes.now) }
+    ensures { MatchBool result (HasOwnLine stop (drop at bytes.now)) (IsPiece stop (drop at bytes.now)) }
+{
+    if at < whole {
+        return true;
+    }
+    is_line(stop, bytes.len() - at)
+}
+
+// Reads the line at that place, which is not passed over.
+#[inline(always)]
+pub fn read_line<'a>(bytes: &'a [u8], stop: Pulled, place: &mut Place) -> StepRef<'a>
+    requires within { place.old.at ≤ length bytes.now }
+    requires short { place.old.number + length bytes.now ≤ limits.MAX_FILE_BYTES + place.old.at + 1 }
+    requires few { place.old.given ≤ limits.MAX_EVENTS }
+    requires line { HasOwnLine stop (drop place.old.at bytes.now) }
+    ensures within { place.new.at ≤ length bytes.now }
+    ensures lawful { All IsLawful (events_answered (answer_of result)) }
+    ensures reads { ReadsLine stop bytes.now place.old place.new (answer_of result) }
+{
+    let Some((said, count)) = said_first(&bytes[place.at..], stop) else {
+        unreachable!()
+    };
+    match said {
+        Said::Nothing => unreachable!(),
+        Said::NoLine => StepRef::BadLine(place.number),
+        Said::TooLong => StepRef::LineTooLong(place.number),
+        Said::Event(event) => {
+            if place.given == MAX_EVENTS {
+                return StepRef::TooMany;
             }
-            Said::Event(event) => {
-                if place.given == MAX_EVENTS {
-                    return StepRef::TooMany;
-                }
-                place.at += count;
-                place.number += 1;
-                place.given += 1;
-                return StepRef::Event(event);
-            }
-            Said::NoLine => return StepRef::BadLine(place.number),
-            Said::TooLong => return StepRef::LineTooLong(place.number),
+            place.at += count;
+            place.number += 1;
+            place.given += 1;
+            StepRef::Event(event)
         }
     }
-    step_by(stopped)
 }

@@ -1,5 +1,5 @@
 -- A source that was read to its end.
-use Rattle.std.proofs.Common.{◌≡◌, ◌≢◌, ℕ, Option, None, Some, IfSome, Result, List, [], ◌++◌, length, refl, sym, ap, ◌∙◌, subst, zero-add}
+use Rattle.std.proofs.Common.{◌≡◌, ◌≢◌, ℕ, Option, None, Some, IfSome, Result, List, [], ◌++◌, length, refl, sym, ap, ◌∙◌, subst, arith, zero-add}
 use Rattle.std.proofs.lemmas.List.{append-nil}
 use Rattle.stat_defs.specs.declared.events.Event.{Event}
 use Rattle.stat_defs.specs.declared.memory.NoMemory.{NoMemory}
@@ -9,7 +9,7 @@ use Rattle.stat_defs.specs.declared.reports.WorkerEnd.{WorkerEnd}
 use Rattle.stats_io.specs.States.{SourceState}
 use Rattle.stats_io.specs.declared.pulling.Pulled.{Pulled}
 use Rattle.event_script.specs.declared.step.Step.{Step}
-use Rattle.event_script.specs.Answer.{IsAnswer, IfEnded, HasEnded, TellsEnd, Explains, StoppedBy}
+use Rattle.event_script.specs.Answer.{IsAnswer, IfEnded, HasEnded, TellsEnd, Explains, StoppedBy, IsLineFault}
 use Rattle.event_script.specs.Reader.{Reading, Moves, unread}
 use Rattle.event_script.specs.Run.{IsRun}
 use Rattle.event_script.proofs.Runs.{run_of}
@@ -34,7 +34,7 @@ run_taken content ReadFault taken events run = run
 run_taken content NotOpened taken events run = run
 
 was_opened : (stopped : Option Pulled) (end : FileEnd) → StoppedBy stopped end → end ≢ NotOpened
-was_opened None end by e = by
+was_opened None end by e = subst IsLineFault e by
 was_opened (Some stop) end by e = subst (λ (x : FileEnd). StoppedBy (Some stop) x) e by
 
 module _ {S : Type 0} (state : S → SourceState) where
@@ -59,6 +59,7 @@ module _ {S : Type 0} (state : S → SourceState) where
         origin = from_start.later.origin;
         given = got;
         consumed = from_start.consumed;
+        few_bytes = omega (arith, from_start.taken, answered.bound);
         taken = ap (taken_at end) (from_start.taken ∙ zero-add (length got));
         count_before = refl;
         count_after = refl;

@@ -1,5 +1,5 @@
 -- A source that was read to its end. This project's own.
-use Rattle.std.specs.Prelude.{◌≡◌, ◌≢◌, ◌≤◌, ℕ, List, length}
+use Rattle.std.specs.Prelude.{◌≡◌, ◌≢◌, ◌≤◌, ◌+◌, ℕ, List, length}
 use Rattle.std.specs.Io.KnownBytes.{Consumes}
 use Rattle.stat_defs.specs.Faults.{Rose}
 use Rattle.stat_defs.specs.declared.events.Event.{Event}
@@ -9,7 +9,7 @@ use Rattle.stat_defs.specs.declared.reports.FileEnd.TheVariants.{ReadFault, NotO
 use Rattle.stat_defs.specs.declared.reports.WorkerEnd.{WorkerEnd}
 use Rattle.stats_io.specs.States.{SourceState}
 use Rattle.event_script.specs.Run.{IsRun}
-use Rattle.event_script.specs.declared.limits.TheConstants.{MAX_EVENTS}
+use Rattle.event_script.specs.declared.limits.TheConstants.{MAX_EVENTS, MAX_FILE_BYTES}
 
 -- the bytes that were taken are told where the source failed
 abbrev pub taken_at : FileEnd → ℕ → ℕ
@@ -27,7 +27,7 @@ end_told end taken before after =
     record { end = end; taken = taken_at end taken; faults_before = before; faults_after = after }
 
 -- A source was read to its end, and gave these events. The end's two counts are those of this source and of a later
--- state of it, which has given up these bytes of what was left.
+-- state of it, which has given up these bytes of what was left: one more than a file may have, at most.
 pub record IsSourceRead {S : Type 0} (state : S → SourceState) (source : S) (events : List Event) (end : WorkerEnd)
     : Type 0 where
   pub is_run : IsRun (state source).left end.end end.taken events
@@ -37,6 +37,7 @@ pub record IsSourceRead {S : Type 0} (state : S → SourceState) (source : S) (e
   pub origin : (state last).origin ≡ (state source).origin
   pub given : List ℕ
   pub consumed : Consumes (state source).left (state last).left given
+  pub few_bytes : length given ≤ MAX_FILE_BYTES + 1
   pub taken : end.taken ≡ taken_at end.end (length given)
   pub count_before : end.faults_before ≡ (state source).faults
   pub count_after : end.faults_after ≡ (state last).faults

@@ -1,6 +1,6 @@
 //! Files with their events and their ends.
 
-use event_script::{Lines, Step, write_event};
+use event_script::{Lines, MAX_PULL_BYTES, Step, write_event};
 use stat_defs::NoMemory;
 use stats_io::MemSource;
 use std::alloc::Global;
@@ -378,7 +378,8 @@ fn assert_limits(
     let again = told_by(alloc, &mut lines, true)?;
     assert!(rt; want.ends_with(&again), "row {number} by {piece}, again");
     let mut fails = Vec::new(alloc);
-    fails.push(file.len().div_ceil(piece.max(1)) as u64)?;
+    let pulled = piece.clamp(1, MAX_PULL_BYTES);
+    fails.push(file.len().div_ceil(pulled) as u64)?;
     let mut lines = lines_of(alloc, &file, piece, fails)?;
     let told = count_by(alloc, &mut lines, true, MANY)?;
     assert!(rt;
@@ -450,5 +451,66 @@ fn great_files(rt: HostRuntime) -> Result<(), NoMemory> {
         rows = rows.saturating_add(1);
     }
     assert_eq!(rt; rows, 19);
+    Ok(())
+}
+
+// Events come whatever the pieces are, and before their file was read to its end: of 7,000 lines of 14 bytes, the first
+// event comes with at most 4,095 bytes behind its line.
+#[test]
+fn any_pieces(rt: HostRuntime) -> Result<(), NoMemory> {
+    let alloc = rt.alloc();
+    let file = repeated(alloc, b"inc root ab 1\n", 7_000)?;
+    for piece in [1, 7, 100_000] {
+        let mut lines = lines_of(alloc, &file, piece, Vec::new(alloc))?;
+        lines.next_ref(alloc)?;
+        assert!(rt; lines.taken() <= 4_109, "{} bytes by {piece}", lines.taken());
+        let told = count_by(alloc, &mut lines, true, MANY)?;
+        assert!(rt; told.as_slice() == b"6999 end".as_slice(), "by {piece}");
+        assert_eq!(rt; lines.taken(), 98_000);
+    }
+    Ok(())
+}
+
+#[test]
+fn fault_in_last_line(rt: HostRuntime) -> Result<(), NoMemory> {
+    let file = b"inc root a 1\ninc root b 2";
+    assert_fault(&rt, rt.alloc(), file, 64, 1, b"inc root a 1|read fault", 25)
+}
+
+// Sixteen lines of all kinds. Behind four comments of 1,001 bytes they stand across byte 4,096 of a file.
+const SIXTEEN: &[u8] = b"\
+inc root a 1\n\n# x\nadd root g acc 5\nsub root g acc 6\nset root g uninit 0\nrec root h 9\ntext root v a b\n\
+text root v \nopen l a.b\nopen l -\n#\nopen m -..\ninc l a 4294967295\nrelease l\nadd root g never 1\n";
+
+fn twenty_lines(alloc: Global) -> Result<Vec<u8>, NoMemory> {
+    let mut comment = bytes_of(alloc, b'#', 1_000)?;
+    comment.push(b'\n')?;
+    let mut file = repeated(alloc, &comment, 4)?;
+    file.extend_from_slice(SIXTEEN)?;
+    Ok(file)
+}
+
+// Asserts the same answers to a file by pieces of all lengths, and that all its bytes were taken.
+fn assert_alike(rt: &impl Abort, alloc: Global, file: &[u8]) -> Result<(), NoMemory> {
+    let mut lines = lines_of(alloc, file, 1, Vec::new(alloc))?;
+    let want = told_by(alloc, &mut lines, false)?;
+    for piece in [2, 7, 4_095, 4_096, 4_097] {
+        let mut lines = lines_of(alloc, file, piece, Vec::new(alloc))?;
+        let told = told_by(alloc, &mut lines, true)?;
+        assert!(rt; told == want, "{} bytes by {piece}", file.len());
+        assert_eq!(rt; lines.taken(), file.len() as u64, "by {piece}");
+    }
+    Ok(())
+}
+
+#[test]
+fn cut_anywhere(rt: HostRuntime) -> Result<(), NoMemory> {
+    let alloc = rt.alloc();
+    let file = twenty_lines(alloc)?;
+    for count in 4_004..=file.len() {
+        assert_alike(&rt, alloc, &file[..count])?;
+    }
+    let told = told_of(alloc, &file)?;
+    assert_eq!(rt; told.split(|b| *b == b'|').count(), 14);
     Ok(())
 }
