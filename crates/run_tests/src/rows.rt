@@ -186,7 +186,7 @@ fn each_worker_has_one_event(rt: HostRuntime) -> Result<(), Fail> {
     let report = run(&rt, alloc, &gate, TWO_FLUSHES_AND_A_READING, files)?;
     assert!(rt; report.verdicts.items().len() == 32);
     for told in report.verdicts.items() {
-        assert!(rt; told.items() == [Verdict::Accepted(FIRST)]);
+        assert!(rt; told.items() == [Verdict::Accepted(FIRST)].as_slice());
     }
     assert!(rt; units_of(report.flushes.items(), FIRST) == 32);
     drop(report);
@@ -208,7 +208,7 @@ fn a_fault_ends_one_file_alone(rt: HostRuntime) -> Result<(), Fail> {
     assert!(rt;
         ends.len() == 2 && ends[0].end == FileEnd::ReadFault && ends[1].end == FileEnd::Whole
     );
-    assert!(rt; verdicts[0].len() == counted && verdicts[1].len() == 1_000);
+    assert!(rt; verdicts[0].items().len() == counted && verdicts[1].items().len() == 1_000);
     assert!(rt; units_of(report.flushes.items(), FIRST) == counted as u64 + 1_000);
     drop(report);
     Ok(())
