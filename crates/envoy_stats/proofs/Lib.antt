@@ -1,2 +1,3 @@
 pub mod RunShown
 pub mod RunCalls
+mod Table

@@ -6,6 +6,7 @@ use Rattle.run_report.specs.RunReport.{IsRunOf}
 use Rattle.stats_commands.specs.Command.{Command, Run, command}
 use Rattle.stats_commands.specs.World.{World, Sight}
 use Rattle.stats_commands.specs.Outcome.{Reports, IsCall}
+use Rattle.stats_commands.specs.Statuses.{KeepsTable}
 
 module _ {K F S O E : Type 0} (see : Sight K F S O E) (before after : World K F O E) where
   -- the files were run, a worker a file, and the text of the report was written
@@ -19,3 +20,10 @@ module _ {K F S O E : Type 0} (see : Sight K F S O E) (before after : World K F 
     pub call : IsCall see before after (command words) status report
     pub ran : (options : OutputOptions) (boot : List ℕ) (names : List (List ℕ))
         → command words ≡ Some (Run options boot names) → Runs options boot names status report
+
+-- each call of the program keeps the table of statuses, which says what each of them means
+abbrev pub ProgramKeepsTable : {K F S O E : Type 0} → Sight K F S O E → Type 0
+ProgramKeepsTable {K} {F} {S} {O} {E} see = (before after : World K F O E) (words : List (List ℕ)) (status : ℕ)
+    (report : Option Report)
+    → IsProgramCall see before after words status report
+    → KeepsTable see before after (command words) status report

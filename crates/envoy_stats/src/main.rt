@@ -11,6 +11,7 @@ ghost use Rattle.envoy_stats.specs.Running.{IsProgramCall};
 
 #[cfg(test)]
 mod example_texts;
+mod laws;
 mod program;
 mod run;
 #[cfg(test)]
@@ -19,6 +20,7 @@ mod run_rows;
 mod tests;
 
 pub use flush_view::flush_view;
+pub use laws::program_keeps_the_table;
 use name_map::HashKey;
 pub use program::{envoy_stats, envoy_stats_with};
 use stats_commands::{NO_COMMAND, NO_MEMORY, OUT_OF_MEMORY, USAGE, say};

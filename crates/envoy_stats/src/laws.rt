@@ -1,0 +1,12 @@
+//! A law, the contract of a function that does nothing.
+ghost use Rattle.stats_commands.specs.World.{sight};
+ghost use Rattle.envoy_stats.specs.Running.{ProgramKeepsTable};
+
+use stats_io::{Shelf, Sink};
+use tag_rules::PatternMaker;
+
+/// A law: each call of the program keeps the table of statuses (`KeepsTable`), which says in a line each what statuses 0
+/// to 6 mean, and that there is no other one.
+pub fn program_keeps_the_table<K: PatternMaker, F: Shelf, O: Sink, E: Sink>()
+    ensures { ProgramKeepsTable (sight K.memory F.holds F.state F.S.state O.state E.state) }
+{}
