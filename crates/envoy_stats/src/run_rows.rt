@@ -1,6 +1,7 @@
 //! Rows of the command `run`. What depends on the schedule is not compared: sums, counts and what is written once a run
 //! is over do not.
 use crate::envoy_stats_with;
+use crate::example_texts::EDGE_JSON;
 use crate::tests::{Played, Wanted, assert_played, file_of, shelf_of, shelf_with, words_of};
 use name_map::HashKey;
 use stat_defs::{FlushRecord, MetricId, Report};
@@ -231,35 +232,6 @@ fn flushes_of_values(rt: HostRuntime) -> Result<(), Fail> {
     Ok(())
 }
 
-// A proxy's bootstrap: keys that are passed over, a tag, a matcher, buckets, a sink and two scopes.
-const USUAL: &str = r#"{
-  "node": {"id": "edge-1", "cluster": "edge"},
-  "admin": {"address": {"socket_address": {"address": "127.0.0.1", "port_value": 9901}}},
-  "static_resources": {"listeners": [], "clusters": []},
-  "stats_flush_interval": "5s",
-  "stats_config": {
-    "use_all_default_tags": true,
-    "stats_tags": [{"tag_name": "region", "fixed_value": "eu-1"}],
-    "stats_matcher": {"exclusion_list": {"patterns": [
-      {"prefix": "cluster.api.internal."},
-      {"safe_regex": {"regex": ".*\\.debug"}}
-    ]}},
-    "histogram_bucket_settings": [{"match": {"suffix": "_ms"}, "buckets": [10, 50, 100, 1000]}]
-  },
-  "stats_sinks": [{
-    "name": "envoy.stat_sinks.statsd",
-    "typed_config": {
-      "@type": "type.googleapis.com/envoy.config.metrics.v3.StatsdSink",
-      "address": {"socket_address": {"address": "127.0.0.1", "port_value": 8125}},
-      "prefix": "edge"
-    }
-  }],
-  "stats_run": {"scopes": [
-    {"label": "web", "prefix": "http.web."},
-    {"label": "api", "prefix": "cluster.api"}
-  ]}
-}"#;
-
 // A thousand events: counters and a histogram of all workers, gauges of this one, and every fifth event on a name that
 // the matcher does not admit.
 fn usual_lines(alloc: Global, worker: u32) -> Result<String, Fail> {
@@ -279,9 +251,9 @@ fn usual_lines(alloc: Global, worker: u32) -> Result<String, Fail> {
     Ok(lines)
 }
 
-// The usual bootstrap, and a file for each of four workers.
+// A proxy's bootstrap, with a matcher, tags, buckets and two scopes, and a file for each of four workers.
 fn usual_shelf(alloc: Global) -> Result<MemShelf, Fail> {
-    let mut files = vec![in alloc; file_of(alloc, "b", USUAL.as_bytes(), 9_999)?]?;
+    let mut files = vec![in alloc; file_of(alloc, "b", EDGE_JSON.as_bytes(), 9_999)?]?;
     for worker in 1..=4u32 {
         let name = format!(in alloc; "f{worker}")?;
         let lines = usual_lines(alloc, worker)?;
