@@ -241,7 +241,7 @@ fn usual_lines(alloc: Global, worker: u32) -> Result<String, Fail> {
         let shared = format!(in alloc;
             "inc web downstream_rq_{}xx {i}\nrec web rq_time_ms {}\ninc api upstream_rq_{} 2\ninc api x{}.debug 1\n",
             i % 5 + 1,
-            i * worker,
+            i.wrapping_mul(worker),
             i % 7 + 200,
             i % 2
         )?;

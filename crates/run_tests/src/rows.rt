@@ -2,7 +2,7 @@
 
 use crate::gates::{FlushAmong, ReadingBetween, SecondFirst, WorkerFirst};
 use crate::runs::{
-    PIECE, all_values, delta_of, file_of, file_with_faults, never_falls, repeated, run, units_of,
+    all_values, delta_of, file_of, file_with_faults, never_falls, repeated, run, units_of,
     values_in, word_of,
 };
 use run_gates::PaceGate;
@@ -193,23 +193,24 @@ fn each_worker_has_one_event(rt: HostRuntime) -> Result<(), Fail> {
     Ok(())
 }
 
+// The lines of 13 bytes that a pull of 4,096 bytes has whole.
+const WHOLE_LINES: usize = 315;
+
 // A worker whose second pull fails counts the whole lines of the first, and the worker beside it goes on to its end.
 #[test]
 fn a_fault_ends_one_file_alone(rt: HostRuntime) -> Result<(), Fail> {
     let alloc = rt.alloc();
     let gate = PaceGate::new(alloc, 2, 3)?;
-    let line = "inc root a 1\n";
-    let lines = repeated(alloc, line, 1_000)?;
+    let lines = repeated(alloc, "inc root a 1\n", 1_000)?;
     let cut = file_with_faults(alloc, lines.as_str(), vec![in alloc; 1]?)?;
     let files = vec![in alloc; cut, file_of(alloc, lines.as_str())?]?;
     let report = run(&rt, alloc, &gate, TWO_FLUSHES_AND_A_READING, files)?;
     let (verdicts, ends) = (report.verdicts.items(), report.ends.items());
-    let counted = PIECE / line.len();
     assert!(rt;
         ends.len() == 2 && ends[0].end == FileEnd::ReadFault && ends[1].end == FileEnd::Whole
     );
-    assert!(rt; verdicts[0].items().len() == counted && verdicts[1].items().len() == 1_000);
-    assert!(rt; units_of(report.flushes.items(), FIRST) == counted as u64 + 1_000);
+    assert!(rt; verdicts[0].items().len() == WHOLE_LINES && verdicts[1].items().len() == 1_000);
+    assert!(rt; units_of(report.flushes.items(), FIRST) == 1_315);
     drop(report);
     Ok(())
 }

@@ -15,17 +15,14 @@ use std::thread::Threads;
 use tag_rules::{Matcher, RegexMaker, TagRules, config_law};
 use worker_run::Given;
 
-/// The bytes that a source gives at a pull.
-pub(crate) const PIECE: usize = 4096;
-
-/// A file of these lines, of whose pulls those with these numbers, from 0, fail.
+/// A file of these lines, given 4,096 bytes a pull. The pulls with these numbers, from 0, fail.
 pub(crate) fn file_with_faults(
     alloc: Global,
     lines: &str,
     fails: Vec<u64>,
 ) -> Result<Given<MemSource>, Fail> {
     let bytes = lines.as_bytes().to_vec(alloc)?;
-    let source = MemSource::new(String::new(alloc), bytes, PIECE, fails);
+    let source = MemSource::new(String::new(alloc), bytes, 4096, fails);
     Ok(Given::Opened(source))
 }
 
