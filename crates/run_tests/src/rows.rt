@@ -206,9 +206,8 @@ fn a_fault_ends_one_file_alone(rt: HostRuntime) -> Result<(), Fail> {
     let files = vec![in alloc; cut, file_of(alloc, lines.as_str())?]?;
     let report = run(&rt, alloc, &gate, TWO_FLUSHES_AND_A_READING, files)?;
     let (verdicts, ends) = (report.verdicts.items(), report.ends.items());
-    assert!(rt;
-        ends.len() == 2 && ends[0].end == FileEnd::ReadFault && ends[1].end == FileEnd::Whole
-    );
+    assert!(rt; ends.len() == 2 && verdicts.len() == 2);
+    assert!(rt; ends[0].end == FileEnd::ReadFault && ends[1].end == FileEnd::Whole);
     assert!(rt; verdicts[0].items().len() == WHOLE_LINES && verdicts[1].items().len() == 1_000);
     assert!(rt; units_of(report.flushes.items(), FIRST) == 1_315);
     drop(report);
