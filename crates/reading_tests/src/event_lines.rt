@@ -463,7 +463,11 @@ fn any_pieces(rt: HostRuntime) -> Result<(), NoMemory> {
     for piece in [1, 7, 100_000] {
         let mut lines = lines_of(alloc, &file, piece, Vec::new(alloc))?;
         lines.next_ref(alloc)?;
-        assert!(rt; lines.taken() <= 4_109, "{} bytes by {piece}", lines.taken());
+        assert!(rt;
+            lines.taken() <= 4_109,
+            "{} bytes by {piece}",
+            lines.taken()
+        );
         let told = count_by(alloc, &mut lines, true, MANY)?;
         assert!(rt; told.as_slice() == b"6999 end".as_slice(), "by {piece}");
         assert_eq!(rt; lines.taken(), 98_000);

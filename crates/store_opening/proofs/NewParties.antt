@@ -58,7 +58,7 @@ module _ (store : Store) where
           alone = ap (λ (k : GaugeKnown). k.taken) new;
         },
         levels_new (suc n) count workers seats (All-tail (IsNewGauge (gauges_id store.gauges) workers) seat seats all)
-        (tail_same (gauge_part seat).seat n rest (range_with_len (suc n) count) numbers),
+            (tail_same (gauge_part seat).seat n rest (range_with_len (suc n) count) numbers),
       )
 
   sides_from : (k : ℕ) (rest : List (TurnCell HalfState)) → ((i : ℕ) → slice_get store.cells.items (k + i) ≡ slice_get rest i) → EachNumbered (IsSideFor store) k (map new_side (map cell_id rest))
