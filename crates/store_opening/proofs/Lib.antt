@@ -1,3 +1,4 @@
+pub mod Numbered
 mod NewWorkers
 mod NewTokens
 mod NewParties

@@ -1,5 +1,5 @@
 -- What a new store has is what its parties need.
-use Rattle.std.proofs.Common.{◌≡◌, ◌+◌, ℕ, zero, suc, List, [], ◌∷◌, length, map, All, slice_get, Some, refl, ap, sym, subst, arith}
+use Rattle.std.proofs.Common.{◌≡◌, ◌+◌, ℕ, zero, suc, List, [], ◌∷◌, length, map, All, slice_get, Some, refl, ap, sym, subst, add-one, arith}
 use Rattle.std.specs.Option.{IsSomeAnd}
 use Rattle.std.specs.Prelude.{Option}
 use Rattle.std.specs.List.{range_with_len}
@@ -53,12 +53,12 @@ module _ (store : Store) where
       let rest = map (λ w. (gauge_part w).seat) seats in (
         record {
           own = ap (λ (k : GaugeKnown). k.bank) new;
-          is = head_same (gauge_part seat).seat n rest (range_with_len (suc n) count) numbers;
+          is = head_same (gauge_part seat).seat n rest (range_with_len (n + 1) count) numbers;
           new = ap (λ (k : GaugeKnown). k.own.steps) new;
           alone = ap (λ (k : GaugeKnown). k.taken) new;
         },
         levels_new (suc n) count workers seats (All-tail (IsNewGauge (gauges_id store.gauges) workers) seat seats all)
-            (tail_same (gauge_part seat).seat n rest (range_with_len (suc n) count) numbers),
+            (subst (λ (k : ℕ). rest ≡ range_with_len k count) (add-one n) (tail_same (gauge_part seat).seat n rest (range_with_len (n + 1) count) numbers)),
       )
 
   sides_from : (k : ℕ) (rest : List (TurnCell HalfState)) → ((i : ℕ) → slice_get store.cells.items (k + i) ≡ slice_get rest i) → EachNumbered (IsSideFor store) k (map new_side (map cell_id rest))

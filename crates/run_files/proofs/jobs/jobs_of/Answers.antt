@@ -2,7 +2,7 @@ use Rattle.std.proofs.Common.{◌≡◌, ◌+◌, ap, length, refl, sym, subst, 
 use Rattle.std.specs.Vec.Iter.{into_iter_items}
 use Rattle.ledger.specs.Lists.{EachNumbered}
 use Rattle.worker_run.specs.declared.given.Job.{Job}
-use Rattle.ledger.proofs.FlushesFit.{each_push}
+use Rattle.store_opening.proofs.Numbered.{one_more}
 use Rattle.run_files.proofs.Places.{map_more, queue_moves, queue_count}
 use Rattle.run_files.proofs.jobs.jobs_of.Goals as goal
 
@@ -29,7 +29,7 @@ loop-given-preserved g c =
       files = map_more (λ (job : Job _). job.given) c.loop-given.jobs.items c.push_reserved.new.self.items job
           c.loop-given.yielded push.items i.files;
       numbers = subst (λ (l : List (Job _)). EachNumbered (λ number job. job.number ≡ number) 1 l) (sym push.items)
-          (each_push (λ number job. job.number ≡ number) 1 job.number c.loop-given.jobs.items job
-          (let len = c.len-in-loop-given.ensures in omega (arith, len)) i.numbers refl);
+          (one_more (λ number job. job.number ≡ number) 1 job.number c.loop-given.jobs.items job i.numbers
+          (let len = c.len-in-loop-given.ensures in omega (arith, len)) refl);
       room = (let same = push.capacity in let room = i.room in omega (arith, same, room));
     }

@@ -3,7 +3,7 @@ use Rattle.ledger.specs.Lists.{EachNumbered}
 use Rattle.recorder.specs.Knowing.{RecorderKnown}
 use Rattle.recorder.specs.Tied.{IsNewWorker}
 use Rattle.store_opening.specs.Dealing.{AreLeft, HasLeft}
-use Rattle.ledger.proofs.FlushesFit.{each_push}
+use Rattle.store_opening.proofs.Numbered.{one_more}
 use Rattle.store_opening.proofs.NewWorkers.{new_seat, new_worker, stays_left, fewer_left}
 use Rattle.store_opening.proofs.dealing.deal_recorders.Goals as goal
 
@@ -19,7 +19,7 @@ loop-place-preserved c =
     let worker = new_worker store at.place at.left dealt.new.left dealt.result dealt.ensures i.3 c.requires.legal
     (let below = c.loop-place-test.true in let count = c.len-workers.ensures in omega (arith, below, count)) in (
       subst (λ (l : List RecorderKnown). EachNumbered (IsNewWorker store) 1 l) (sym push.items)
-          (each_push (IsNewWorker store) 1 (suc at.place) at.recorders.items c.new_recorder.result (let count = i.1 in omega (arith, count)) i.0
+          (one_more (IsNewWorker store) 1 (suc at.place) at.recorders.items c.new_recorder.result i.0 (let count = i.1 in omega (arith, count))
           (subst (λ (r : RecorderKnown). IsNewWorker store (suc at.place) r) (sym c.new_recorder.ensures) worker)),
       (let all = ap length push.items in let sum = length-append at.recorders.items (c.new_recorder.result ∷ []) in let count = i.1 in omega (arith, all, sum, count)),
       (let count = i.2 in let more = push.len in omega (arith, count, more)),
