@@ -21,4 +21,5 @@ module _ {F S : Type 0} (shelf : F → ShelfState) (source : S → SourceState) 
     ledger = subst (λ (contents : List (Option (List ℕ))).
         RunLedger contents (map (λ (file : FileRead). file.events) is.files) (plan_of config) report)
         (same_contents one other same names) is.ledger;
+    scopes = is.scopes;
   }
