@@ -1,7 +1,6 @@
 //! Rows of the command `run`. What depends on the schedule is not compared: sums, counts and what is written once a run
 //! is over do not.
 use crate::envoy_stats_with;
-use crate::example_texts::EDGE_JSON;
 use crate::tests::{Played, Wanted, assert_played, file_of, shelf_of, shelf_with, words_of};
 use name_map::HashKey;
 use stat_defs::{FlushRecord, MetricId, Report};
@@ -13,15 +12,16 @@ use std::test::Fail;
 use std::thread::Threads;
 use tag_rules::RegexMaker;
 
-// What a call of the program over that shelf comes to, with that output sink.
-fn run_into<R: Threads + Wait + Sync>(
+// What a call of the program over that shelf comes to, with an output sink whose push of that number fails.
+fn run_over<R: Threads + Wait + Sync>(
     rt: &R,
     alloc: Global,
     words: &str,
     mut shelf: MemShelf,
-    mut out: MemSink,
+    failing_push: u64,
 ) -> Result<Played, Fail> {
     let mut maker = RegexMaker::new(Vec::new(alloc));
+    let mut out = MemSink::new(alloc, 4000, 1, vec![in alloc; failing_push]?)?;
     let mut err = MemSink::new(alloc, 1000, 100, Vec::new(alloc))?;
     let words = words_of(alloc, words)?;
     let key = HashKey::of(7);
@@ -34,18 +34,6 @@ fn run_into<R: Threads + Wait + Sync>(
         err,
         shelf,
     })
-}
-
-// The same with a sink that takes a byte a push, and whose push of that number fails.
-fn run_over<R: Threads + Wait + Sync>(
-    rt: &R,
-    alloc: Global,
-    words: &str,
-    shelf: MemShelf,
-    failing_push: u64,
-) -> Result<Played, Fail> {
-    let out = MemSink::new(alloc, 4000, 1, vec![in alloc; failing_push]?)?;
-    run_into(rt, alloc, words, shelf, out)
 }
 
 // A call with its files, parted by `|`, the number of the pull that fails of each file, and what it comes to.
@@ -229,67 +217,5 @@ fn flushes_of_values(rt: HostRuntime) -> Result<(), Fail> {
         values = values.saturating_add(values_in(flush));
     }
     assert_eq!(rt; values, LINES);
-    Ok(())
-}
-
-// A thousand events: counters and a histogram of all workers, gauges of this one, and every fifth event on a name that
-// the matcher does not admit.
-fn usual_lines(alloc: Global, worker: u32) -> Result<String, Fail> {
-    let mut lines = String::new(alloc);
-    for i in 0..200u32 {
-        let own = format!(in alloc; "set root worker{worker}.level{} acc {i}\n", i % 3)?;
-        let shared = format!(in alloc;
-            "inc web downstream_rq_{}xx {i}\nrec web rq_time_ms {}\ninc api upstream_rq_{} 2\ninc api x{}.debug 1\n",
-            i % 5 + 1,
-            i.wrapping_mul(worker),
-            i % 7 + 200,
-            i % 2
-        )?;
-        lines.push_str(own.as_str())?;
-        lines.push_str(shared.as_str())?;
-    }
-    Ok(lines)
-}
-
-// A proxy's bootstrap, with a matcher, tags, buckets and two scopes, and a file for each of four workers.
-fn usual_shelf(alloc: Global) -> Result<MemShelf, Fail> {
-    let mut files = vec![in alloc; file_of(alloc, "b", EDGE_JSON.as_bytes(), 9_999)?]?;
-    for worker in 1..=4u32 {
-        let name = format!(in alloc; "f{worker}")?;
-        let lines = usual_lines(alloc, worker)?;
-        files.push(file_of(alloc, name.as_str(), lines.as_bytes(), 9_999)?)?;
-    }
-    Ok(MemShelf::new(files, Vec::new(alloc)))
-}
-
-// What a command writes of the four files in a format.
-fn usual_output<R: Threads + Wait + Sync>(
-    rt: &R,
-    alloc: Global,
-    command: &str,
-    format: &str,
-) -> Result<Played, Fail> {
-    let words = format!(in alloc; "{command} --format {format} b f1 f2 f3 f4")?;
-    let out = MemSink::new(alloc, 30_000, 30_000, Vec::new(alloc))?;
-    run_into(rt, alloc, words.as_str(), usual_shelf(alloc)?, out)
-}
-
-// All that the matcher admits is accepted, and what is written is what a replay writes.
-#[test]
-fn a_run_writes_what_a_replay_writes(rt: HostRuntime) -> Result<(), Fail> {
-    let alloc = rt.alloc();
-    let counted = "# worker 1: 800 accepted, 200 dropped\n# worker 2: 800 accepted, 200 dropped\n\
-        # worker 3: 800 accepted, 200 dropped\n# worker 4: 800 accepted, 200 dropped\n";
-    for format in ["statsd", "prom", "admin"] {
-        let run = usual_output(&rt, alloc, "run", format)?;
-        let replay = usual_output(&rt, alloc, "replay", format)?;
-        assert_eq!(rt;
-            (run.outcome.status, replay.outcome.status),
-            (0, 0),
-            "{format}"
-        );
-        assert!(rt; run.out.bytes() == replay.out.bytes(), "{format}");
-        assert!(rt; run.out.bytes().ends_with(counted.as_bytes()), "{format}");
-    }
     Ok(())
 }
