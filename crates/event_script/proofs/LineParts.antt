@@ -12,7 +12,7 @@ use Rattle.event_script.specs.Grammar.{Lacks}
 use Rattle.stat_defs.specs.Names.{is_printable_byte}
 use Rattle.event_script.specs.EventIn.{first_line, behind_line, part_then, read_text, read_number, read_readout}
 use Rattle.event_script.specs.FirstLine.{HasPart, LacksPart, HasLine, LacksLine, is_end, HasDigits, HasMoreThan}
-use Rattle.event_script.specs.Lanes.{IsRunOf}
+use Rattle.event_script.specs.Lanes.{IsStretchOf}
 use Rattle.event_script.specs.FirstLine.{IsPart, IsNoPart, IsLast, IsNoLast}
 use Rattle.event_script.proofs.Splits.{lacks_all, lacks_cons, no_part, part_passes}
 use Rattle.event_script.proofs.PartThen.{then_at, then_none, first_behind, rest_behind, line_parts, text_is, text_reads, number_is, number_reads}
@@ -67,7 +67,7 @@ fails_in test (x ∷ xs) b back fails = rw (fails_in test xs b back fails) (by (
     by true = refl
     by false = refl
 
-module _ (test : ℕ → Bool) (not_newline : test 10 ≡ false) (text : List ℕ) (count : ℕ) (run : IsRunOf test text count) where
+module _ (test : ℕ → Bool) (not_newline : test 10 ≡ false) (text : List ℕ) (count : ℕ) (run : IsStretchOf test text count) where
   front_lacks : Lacks 10 (take count text)
   front_lacks = lacks_all test 10 (take count text) not_newline run.pass
 
@@ -137,7 +137,7 @@ module _ (test : ℕ → Bool) (not_newline : test 10 ≡ false) (text : List �
   part_found not_space most (Some p) is = part_reads not_space most p.0.now p.1.now is
 
 -- the text of a readout
-module _ (text : List ℕ) (count : ℕ) (run : IsRunOf is_printable_byte text count) where
+module _ (text : List ℕ) (count : ℕ) (run : IsStretchOf is_printable_byte text count) where
   pub readout_reads : is_end (drop count text) ≡ true → HasLine read_readout text (take count text) (drop count text)
   readout_reads at_end =
       let whole = line_whole text count (front_lacks is_printable_byte refl text count run) at_end in

@@ -19,7 +19,7 @@ use Rattle.event_script.specs.Reader.{Reading, Gives, Comes, MayFollow, Moves}
 use Rattle.event_script.specs.Answer.{StoppedBy, EndsBy, IsLineFault, HasEnded}
 use Rattle.stats_io.specs.States.{SourceState}
 use Rattle.stats_io.specs.Told.{MayBe}
-use Rattle.event_script.specs.Run.{IsRun}
+use Rattle.event_script.specs.FileEvents.{AreEventsOf}
 
 -- the pieces of two lists, one behind the other
 abbrev joined : List (List ℕ) → List (List ℕ) → List (List ℕ)
@@ -148,7 +148,7 @@ module _ (before after : Option (List ℕ)) (got : List ℕ) (events : List Even
   run_whole end none script = subst (λ (l : List ℕ). FileFrom 1 0 0 (got ++ l) End events end) (sym none) script
 
   -- where the source had not stopped
-  run_open : (end : FileEnd) → IsLineFault end → ((more : List ℕ) (last : Pulled) → FileFrom 1 0 0 (got ++ more) last events end) → IsRun before end (length got) events
+  run_open : (end : FileEnd) → IsLineFault end → ((more : List ℕ) (last : Pulled) → FileFrom 1 0 0 (got ++ more) last events end) → AreEventsOf before end (length got) events
   run_open (file.BadLine n) by script = (got ++ rest_of after, told_is before after got consumed, script (rest_of after) End)
   run_open (file.LineTooLong n) by script = (got ++ rest_of after, told_is before after got consumed, script (rest_of after) End)
   run_open file.TooMany by script = (got ++ rest_of after, told_is before after got consumed, script (rest_of after) End)
@@ -171,7 +171,7 @@ module _ (before after : Option (List ℕ)) (got : List ℕ) (events : List Even
 
   run_is : (stop : Pulled) (end : FileEnd) → EndsBy stop end → (stop ≡ End → IsAtEnd after)
       → ((more : List ℕ) (last : Pulled) → MayFollow (Some stop) more last → FileFrom 1 0 0 (got ++ more) last events end)
-      → IsRun before end (length got) events
+      → AreEventsOf before end (length got) events
   run_is stop file.Whole by at_end script = file_is stop file.Whole (λ e. cc) at_end script
   run_is stop (file.BadLine n) by at_end script = file_is stop (file.BadLine n) (λ e. cc) at_end script
   run_is stop (file.LineTooLong n) by at_end script = file_is stop (file.LineTooLong n) (λ e. cc) at_end script
@@ -191,9 +191,9 @@ module _ (before after : Option (List ℕ)) (got : List ℕ) (events : List Even
 pub run_of : {S : Type 0} (state : S → SourceState) (source : S) (now : Reading S) (first : ℕ) (got : List ℕ) (events : List Event) (end : FileEnd)
     → Moves state (record { source = source; number = 1; given = 0; offset = 0; pending = []; taken = 0; first_faults = first; stopped = None; ended = None }) now got events
     → HasEnded state now end → (now.stopped ≡ Some End → IsAtEnd (state now.source).left)
-    → IsRun (state source).left end now.taken events
+    → AreEventsOf (state source).left end now.taken events
 run_of state source now first got events end moves has at_end =
-    subst (λ (n : ℕ). IsRun (state source).left end n events) (sym (moves.taken ∙ zero-add (length got))) (stopped_cases now.stopped refl has.by)
+    subst (λ (n : ℕ). AreEventsOf (state source).left end n events) (sym (moves.taken ∙ zero-add (length got))) (stopped_cases now.stopped refl has.by)
   where
     come : (more : List ℕ) (last : Pulled) → Comes now more last [] end
     come more last =
@@ -204,7 +204,7 @@ run_of state source now first got events end moves has at_end =
     answers : (s : Option Pulled) → now.stopped ≡ s → (more : List ℕ) (last : Pulled) → MayFollow s more last → FileFrom 1 0 0 (got ++ more) last events end
     answers s is more last may = subst (λ (es : List Event). FileFrom 1 0 0 (got ++ more) last es end) (append-nil events) (moves.answers more last [] end (rw is may) (come more last))
 
-    stopped_cases : (s : Option Pulled) → now.stopped ≡ s → StoppedBy s end → IsRun (state source).left end (length got) events
+    stopped_cases : (s : Option Pulled) → now.stopped ≡ s → StoppedBy s end → AreEventsOf (state source).left end (length got) events
     stopped_cases None is by' = run_open (state source).left (state now.source).left got events moves.consumed end by' (λ more last. answers None is more last tt)
     stopped_cases (Some stop) is by' =
         (run_is (state source).left (state now.source).left got events moves.consumed stop end by' (λ e. at_end (is ∙ ap (λ x. Some x) e)) (answers (Some stop) is))

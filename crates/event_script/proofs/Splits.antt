@@ -3,7 +3,7 @@ use Rattle.std.proofs.Common.{◌≡◌, ◌≢◌, ◌+◌, ℕ, zero, suc, Boo
 use Rattle.std.proofs.lemmas.List.{get_or_at, length-append}
 use Rattle.std.specs.List.{list_all}
 use Rattle.event_script.specs.Grammar.{Lacks}
-use Rattle.event_script.specs.Lanes.{IsRunOf}
+use Rattle.event_script.specs.Lanes.{IsStretchOf}
 use Rattle.event_script.specs.FirstLine.{IsPart, IsNoPart}
 use Rattle.stat_defs.specs.Names.{IsLabel, IsLocalName, is_label_byte, is_name_byte}
 
@@ -48,22 +48,22 @@ pub name_lacks : (name : List ℕ) → IsLocalName name → Lacks 32 name
 name_lacks name h = lacks_all is_name_byte 32 name refl h.bytes
 
 -- the run of bytes that pass a test before one that doesn't
-run_is : (test : ℕ → Bool) (byte : ℕ) → test byte ≡ false → (part rest : List ℕ) → list_all test part ≡ true → (count : ℕ) → IsRunOf test (part ++ byte ∷ rest) count → count ≡ length part
+run_is : (test : ℕ → Bool) (byte : ℕ) → test byte ≡ false → (part rest : List ℕ) → list_all test part ≡ true → (count : ℕ) → IsStretchOf test (part ++ byte ∷ rest) count → count ≡ length part
 run_is test byte not [] rest all zero run = refl
 run_is test byte not [] rest all (suc k) run = let passes = (and_true (test byte) (list_all test (take k rest)) run.pass).0 in absurd cc
 run_is test byte not (x ∷ part) rest all zero run = let fails = run.longest (omega arith) in let passes = (and_true (test x) (list_all test part) all).0 in absurd cc
 run_is test byte not (x ∷ part) rest all (suc k) run =
-    let tail : IsRunOf test (part ++ byte ∷ rest) k = record {
+    let tail : IsStretchOf test (part ++ byte ∷ rest) k = record {
       within = omega (arith, run.within);
       pass = (and_true (test x) (list_all test (take k (part ++ byte ∷ rest))) run.pass).1;
       longest = λ more. run.longest (omega (arith, more));
     } in
     let same = run_is test byte not part rest (and_true (test x) (list_all test part) all).1 k tail in omega (arith, same)
 
-module _ (test : ℕ → Bool) (not : test 32 ≡ false) (text : List ℕ) (count most : ℕ) (run : IsRunOf test text count) where
+module _ (test : ℕ → Bool) (not : test 32 ≡ false) (text : List ℕ) (count most : ℕ) (run : IsStretchOf test text count) where
   pub no_part : IsNoPart text count most → (part rest : List ℕ) → 1 ≤ length part → length part ≤ most → list_all test part ≡ true → text ≡ part ++ 32 ∷ rest → ⊥
   no_part none part rest some few all is =
-      let e : count ≡ length part = run_is test 32 not part rest all count (subst (λ (l : List ℕ). IsRunOf test l count) is run) in
+      let e : count ≡ length part = run_is test 32 not part rest all count (subst (λ (l : List ℕ). IsStretchOf test l count) is run) in
       let long : length text ≡ length part + length (32 ∷ rest) = ap length is ∙ length-append part (32 ∷ rest) in
       none (omega arith) (omega arith) (omega arith) (ap (λ l. get_or l count 0) is ∙ get_or_at part 32 rest 0 count (sym e))
 

@@ -9,8 +9,8 @@ abbrev pub AllPassBetween : (ℕ → Bool) → List ℕ → ℕ → ℕ → Type
 AllPassBetween test text at end = (k : ℕ) → at ≤ k → k < end → test (slice_index text k) ≡ true
 
 -- the first run bytes of the n from at pass the test, and the next one of the n fails it
-abbrev pub IsRunIn : (ℕ → Bool) → List ℕ → ℕ → ℕ → ℕ → Type 0
-IsRunIn test text at n run =
+abbrev pub IsStretchIn : (ℕ → Bool) → List ℕ → ℕ → ℕ → ℕ → Type 0
+IsStretchIn test text at n run =
     ((run ≤ n) × AllPassBetween test text at (at + run)) × (run < n → test (slice_index text (at + run)) ≡ false)
 
 -- the place of the lowest bit that is set, or n
@@ -22,7 +22,7 @@ abbrev pub IsFront : (ℕ → Bool) → List ℕ → ℕ → Type 0
 IsFront test text count = (count ≤ length text) × AllPassBetween test text 0 count
 
 -- so many bytes that pass the test stand first, and then one that doesn't or none
-pub record IsRunOf (test : ℕ → Bool) (text : List ℕ) (count : ℕ) : Type 0 where
+pub record IsStretchOf (test : ℕ → Bool) (text : List ℕ) (count : ℕ) : Type 0 where
   pub within : count ≤ length text
   pub pass : list_all test (take count text) ≡ true
   pub longest : count < length text → test (slice_index text count) ≡ false

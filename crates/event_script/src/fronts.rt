@@ -1,7 +1,7 @@
 //! How many bytes of a class stand first.
 ghost use Rattle.std.specs.Prelude.{◌≡◌, ◌≤◌, length};
 ghost use Rattle.stat_defs.specs.Names as names;
-ghost use Rattle.event_script.specs.Lanes.{IsRunOf};
+ghost use Rattle.event_script.specs.Lanes.{IsStretchOf};
 ghost use Rattle.event_script.specs.Lanes.{IsFront};
 
 use crate::lanes::{LANES, label_run, name_run};
@@ -31,7 +31,7 @@ fn label_front(text: &[u8]) -> usize
 // How many label bytes stand first.
 #[inline(always)]
 pub fn label_length(text: &[u8]) -> usize
-    ensures { IsRunOf names.is_label_byte text.now result }
+    ensures { IsStretchOf names.is_label_byte text.now result }
 {
     let mut end = label_front(text);
     while end < text.len() && is_label_byte(text[end]) {
@@ -58,7 +58,7 @@ fn name_front(text: &[u8]) -> usize
 // How many name bytes stand first.
 #[inline(always)]
 pub fn name_length(text: &[u8]) -> usize
-    ensures { IsRunOf names.is_name_byte text.now result }
+    ensures { IsStretchOf names.is_name_byte text.now result }
 {
     let mut end = name_front(text);
     while end < text.len() && is_name_byte(text[end]) {
@@ -69,7 +69,7 @@ pub fn name_length(text: &[u8]) -> usize
 
 // How many bytes of a readout's text stand first.
 pub fn text_length(text: &[u8]) -> usize
-    ensures { IsRunOf names.is_printable_byte text.now result }
+    ensures { IsStretchOf names.is_printable_byte text.now result }
 {
     for (at, b) in text.iter().enumerate() {
         if !is_printable_byte(*b) {

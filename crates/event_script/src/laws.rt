@@ -2,7 +2,7 @@
 ghost use Rattle.std.specs.Prelude.{◌≡◌, ◌≢◌, ◌≤◌, ◌++◌, ℕ, List, Some, All, length};
 ghost use Rattle.std.specs.Io.KnownBytes.{IsAtEnd};
 ghost use Rattle.event_script.specs.Reader.{Reading, Moves, unread};
-ghost use Rattle.event_script.specs.Run.{IsRun};
+ghost use Rattle.event_script.specs.FileEvents.{AreEventsOf};
 ghost use Rattle.event_script.specs.Answer.{HasEnded};
 ghost use Rattle.stats_io.specs.declared.pulling.Pulled.{Pulled};
 ghost use Rattle.event_script.specs.Grammar.{IsLineOf, IsLawful, line_for, lines_for};
@@ -73,5 +73,5 @@ pub fn answers_are_a_run<S: Source>()
     ensures { (source : S) (now : Reading S) (faults : ℕ) (got : List ℕ) (events : List Event) (end : FileEnd)
         → Moves S.state (unread source faults) now got events
         → HasEnded S.state now end → (now.stopped ≡ Some Pulled.End → IsAtEnd (S.state now.source).left)
-        → IsRun (S.state source).left end now.taken events }
+        → AreEventsOf (S.state source).left end now.taken events }
 {}

@@ -10,7 +10,7 @@ use Rattle.stats_io.specs.States.{SourceState, ShelfState}
 use Rattle.stats_io.specs.Open.{IsUnpulled}
 use Rattle.stats_io.specs.Told.{MayBe}
 use Rattle.stats_io.proofs.Pieces.{kept_consumes}
-use Rattle.event_script.specs.Run.{IsRun}
+use Rattle.event_script.specs.FileEvents.{AreEventsOf}
 use Rattle.file_reading.specs.WorkerEnd.{IsOpened, HasCause}
 use Rattle.file_reading.specs.FileRead.{IsFile}
 use Rattle.file_reading.specs.SourceRead.{taken_at, IsSourceRead}
@@ -24,7 +24,7 @@ kept_may_be (Some told) (Some xs) bytes same is = sym same ∙ is
 
 -- a run over what is left of a source is one over the content that it was opened on
 run_of_content : (content left : Option (List ℕ)) (end : FileEnd) (taken : ℕ) (events : List Event)
-    → Keeps content left → IsRun left end taken events → IsRun content end taken events
+    → Keeps content left → AreEventsOf left end taken events → AreEventsOf content end taken events
 run_of_content content left Whole taken events same run = (run.0, kept_may_be content left run.0 same run.1, run.2)
 run_of_content content left (BadLine n) taken events same run =
     (run.0, kept_may_be content left run.0 same run.1, run.2)
@@ -88,7 +88,7 @@ module _ {S : Type 0} (source : S → SourceState) where
       → HasCause source (holds name) name (shelf before) (shelf after) end NotOpened
       → IsFile shelf source holds name before after (record { events = []; end = end })
   file_unopened shelf holds name before after end is cause = record {
-    run = subst (λ (e : FileEnd). IsRun (holds name) e end.taken []) (sym is) refl;
+    run = subst (λ (e : FileEnd). AreEventsOf (holds name) e end.taken []) (sym is) refl;
     cause = subst (λ (e : FileEnd). HasCause source (holds name) name (shelf before) (shelf after) end e) (sym is)
         cause;
   }

@@ -1,7 +1,7 @@
 -- Files of a shelf whose names hold the same.
 use Rattle.std.proofs.Common.{◌≡◌, ℕ, Option, List, [], ◌∷◌, map, refl, subst}
 use Rattle.stats_io.specs.States.{SourceState, ShelfState}
-use Rattle.event_script.specs.Run.{IsRun}
+use Rattle.event_script.specs.FileEvents.{AreEventsOf}
 use Rattle.file_reading.specs.WorkerEnd.{HasCause}
 use Rattle.file_reading.specs.FileRead.{FileRead, IsFile, AreFiles}
 
@@ -15,7 +15,7 @@ module _ {F S : Type 0} (shelf : F → ShelfState) (source : S → SourceState) 
   pub file_alike : (one other : List ℕ → Option (List ℕ)) (name : List ℕ) (before after : F) (file : FileRead) → one name ≡ other name
       → IsFile shelf source one name before after file → IsFile shelf source other name before after file
   file_alike one other name before after file same is = record {
-    run = subst (λ (c : Option (List ℕ)). IsRun c file.end.end file.end.taken file.events) same is.run;
+    run = subst (λ (c : Option (List ℕ)). AreEventsOf c file.end.end file.end.taken file.events) same is.run;
     cause = subst (λ (c : Option (List ℕ)). HasCause source c name (shelf before) (shelf after) file.end file.end.end) same is.cause;
   }
 

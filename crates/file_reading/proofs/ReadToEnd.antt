@@ -11,7 +11,7 @@ use Rattle.stats_io.specs.declared.pulling.Pulled.{Pulled}
 use Rattle.event_script.specs.declared.step.Step.{Step}
 use Rattle.event_script.specs.Answer.{IsAnswer, IfEnded, HasEnded, TellsEnd, Explains, StoppedBy, IsLineFault}
 use Rattle.event_script.specs.Reader.{Reading, Moves, unread}
-use Rattle.event_script.specs.Run.{IsRun}
+use Rattle.event_script.specs.FileEvents.{AreEventsOf}
 use Rattle.event_script.proofs.Runs.{run_of}
 use Rattle.event_script.proofs.Moves.{moves_trans}
 use Rattle.file_reading.specs.SourceRead.{taken_at, end_told, IsSourceRead}
@@ -24,7 +24,7 @@ at_end_of answer end fact tells holds = subst (λ (o : Option FileEnd). IfSome o
 
 -- the bytes that were taken matter at a read fault alone
 run_taken : (content : Option (List ℕ)) (end : FileEnd) (taken : ℕ) (events : List Event)
-    → IsRun content end taken events → IsRun content end (taken_at end taken) events
+    → AreEventsOf content end taken events → AreEventsOf content end (taken_at end taken) events
 run_taken content Whole taken events run = run
 run_taken content (BadLine n) taken events run = run
 run_taken content (LineTooLong n) taken events run = run

@@ -7,7 +7,7 @@ use Rattle.stat_defs.specs.declared.reports.FileEnd.TheVariants.{Whole, BadLine,
 use Rattle.stat_defs.specs.declared.reports.FileEnd.TheVariants.{ReadFault, NotOpened}
 use Rattle.stat_defs.specs.declared.reports.WorkerEnd.{WorkerEnd}
 use Rattle.stats_io.specs.States.{SourceState, ShelfState}
-use Rattle.event_script.specs.Run.{IsRun}
+use Rattle.event_script.specs.FileEvents.{AreEventsOf}
 use Rattle.file_reading.specs.WorkerEnd.{HasCause}
 
 -- the events that were read of a file, and how it ended
@@ -22,7 +22,7 @@ all_events files = flat_map (λ file. file.events) files
 module _ {F S : Type 0} (shelf : F → ShelfState) (source : S → SourceState) (holds : List ℕ → Option (List ℕ)) where
   -- the file of that name was read: these are its events, and its end has a cause
   pub record IsFile (name : List ℕ) (before after : F) (file : FileRead) : Type 0 where
-    pub run : IsRun (holds name) file.end.end file.end.taken file.events
+    pub run : AreEventsOf (holds name) file.end.end file.end.taken file.events
     pub cause : HasCause source (holds name) name (shelf before) (shelf after) file.end file.end.end
 
   -- the files of these names were read in order, each between two states of the shelf

@@ -8,7 +8,7 @@ use Rattle.stat_defs.specs.declared.reports.FileEnd.TheVariants.{Whole, BadLine,
 use Rattle.stat_defs.specs.declared.reports.FileEnd.TheVariants.{ReadFault, NotOpened}
 use Rattle.stat_defs.specs.declared.reports.WorkerEnd.{WorkerEnd}
 use Rattle.stats_io.specs.States.{SourceState}
-use Rattle.event_script.specs.Run.{IsRun}
+use Rattle.event_script.specs.FileEvents.{AreEventsOf}
 use Rattle.event_script.specs.declared.limits.TheConstants.{MAX_EVENTS, MAX_FILE_BYTES}
 
 -- the bytes that were taken are told where the source failed
@@ -30,7 +30,7 @@ end_told end taken before after =
 -- state of it, which has given up these bytes of what was left: one more than a file may have, at most.
 pub record IsSourceRead {S : Type 0} (state : S → SourceState) (source : S) (events : List Event) (end : WorkerEnd)
     : Type 0 where
-  pub is_run : IsRun (state source).left end.end end.taken events
+  pub is_run : AreEventsOf (state source).left end.end end.taken events
   pub few : length events ≤ MAX_EVENTS
   pub opened : end.end ≢ NotOpened
   pub last : S

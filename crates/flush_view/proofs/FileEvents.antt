@@ -10,7 +10,7 @@ use Rattle.stats_io.specs.declared.pulling.Pulled.{Pulled}
 use Rattle.stats_io.specs.declared.pulling.Pulled.TheVariants.{End, Failed}
 use Rattle.event_script.specs.declared.limits.TheConstants.{MAX_EVENTS, MAX_FILE_BYTES}
 use Rattle.event_script.specs.Grammar.{IsLawful}
-use Rattle.event_script.specs.Run.{IsRun}
+use Rattle.event_script.specs.FileEvents.{AreEventsOf}
 use Rattle.event_script.specs.Script.{LinesGive, FileFrom}
 
 -- lawful, and no more with those before than a file may have
@@ -50,7 +50,7 @@ bytes_few bytes stop events end from =
     (omega (arith, count), whole.1)
 
 few_lawful : (content : Option (List ℕ)) (end : FileEnd) (taken : ℕ) (events : List Event)
-    → IsRun content end taken events → AreOfFile events
+    → AreEventsOf content end taken events → AreOfFile events
 few_lawful content file.NotOpened taken events run =
     let none = no_more 0 events (omega arith) run in
     let count = none.0 in
@@ -64,7 +64,7 @@ few_lawful content (file.LineTooLong n) taken events run = bytes_few run.0 End e
 
 pub files_few : (contents : List (Option (List ℕ))) (ends : List WorkerEnd) (events : List (List Event))
     → length events ≡ length ends
-    → AllZip (λ content file. IsRun content file.0.end file.0.taken file.1) contents (zip ends events)
+    → AllZip (λ content file. AreEventsOf content file.0.end file.0.taken file.1) contents (zip ends events)
     → AllByRecursion AreOfFile events
 files_few contents ends [] same runs = tt
 files_few contents [] (es ∷ events) same runs = absurd (omega (arith, same))

@@ -9,7 +9,7 @@ use Rattle.stat_defs.specs.declared.reports.FileEnd.TheVariants as file
 use Rattle.stat_defs.specs.declared.reports.WorkerEnd.{WorkerEnd}
 use Rattle.stat_defs.specs.declared.reports.Report.{Report}
 use Rattle.event_script.specs.Script.{File}
-use Rattle.event_script.specs.Run.{IsRun}
+use Rattle.event_script.specs.FileEvents.{AreEventsOf}
 use Rattle.event_script.proofs.OneReading.{file_single}
 use Rattle.ledger.specs.Ledger.{TakenAtFault, ReplayLedger, plan_of, Direct}
 use Rattle.ledger.specs.OneReport.{NoFault, NoneFailed, without_ends, without_count, without_counts}
@@ -19,7 +19,7 @@ use Rattle.ledger.proofs.OneFlush.{one_report}
 of_file : (bytes : List ℕ) (events : List Event) (end : FileEnd) → (b : List ℕ) × (bytes ≡ b) × File b events end → File bytes events end
 of_file bytes events end run = subst (λ (b : List ℕ). File b events end) (sym run.1) run.2
 
-pub as_file : (bytes : List ℕ) (end : FileEnd) (taken : ℕ) (events : List Event) → NoFault end → IsRun (Some bytes) end taken events → File bytes events end
+pub as_file : (bytes : List ℕ) (end : FileEnd) (taken : ℕ) (events : List Event) → NoFault end → AreEventsOf (Some bytes) end taken events → File bytes events end
 as_file bytes file.Whole taken events none run = of_file bytes events file.Whole run
 as_file bytes (file.BadLine n) taken events none run = of_file bytes events (file.BadLine n) run
 as_file bytes (file.LineTooLong n) taken events none run = of_file bytes events (file.LineTooLong n) run
@@ -38,7 +38,7 @@ end_same : (x y : FileEnd) (m n : ℕ) → x ≡ y → m ≡ n
 end_same x y m n e f = cc
 
 abbrev pub Given : Option (List ℕ) → WorkerEnd × List Event → Type 0
-Given content read = IsRun content read.0.end read.0.taken read.1
+Given content read = AreEventsOf content read.0.end read.0.taken read.1
 
 pub ends_once : (contents : List (List ℕ)) (xs ys : List WorkerEnd) (es fs : List (List Event)) → length xs ≡ length contents → length ys ≡ length contents → length es ≡ length contents → length fs ≡ length contents
     → AllZip Given (map Some contents) (zip xs es) → AllZip Given (map Some contents) (zip ys fs)

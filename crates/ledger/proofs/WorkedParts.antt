@@ -25,7 +25,7 @@ use Rattle.merge_round.specs.Halves.{bins_by}
 use Rattle.merge_round.specs.Rounds.{ArePartsOf}
 use Rattle.event_script.specs.declared.limits.TheConstants.{MAX_FILE_BYTES, MAX_EVENTS, MAX_LINE_BYTES}
 use Rattle.event_script.specs.Grammar.{IsLineOf, IsLawful, given_prefix, given_for, line_for, lines_for}
-use Rattle.event_script.specs.Run.{IsRun}
+use Rattle.event_script.specs.FileEvents.{AreEventsOf}
 use Rattle.event_script.proofs.Written.{file_read}
 use Rattle.book_state.specs.Log.{Legal, is_sweep}
 use Rattle.book_state.specs.SeatLaws.{is_end}
@@ -37,7 +37,7 @@ use Rattle.ledger.specs.Work.{Work}
 use Rattle.ledger.specs.Segments.{bins_by_worker}
 use Rattle.ledger.specs.Readings.{NoneFalls}
 use Rattle.ledger.specs.Ledger.{AreRead, AreSwept, AreShown, RunLedger}
-use Rattle.ledger.specs.Worked.{plain_plan, report_of, Replays, IsReported, file_of, log_with, increments, both_accepted, accepted, makes_key, counter_a, gauge_log, part_of_7}
+use Rattle.ledger.specs.Worked.{plain_plan, report_of, IsWorkedReplay, IsReported, file_of, log_with, increments, both_accepted, accepted, makes_key, counter_a, gauge_log, part_of_7}
 use Rattle.ledger.proofs.Lists.{nil_cons, number_apart}
 use Rattle.ledger.proofs.OneFlush.{one_report}
 
@@ -52,7 +52,7 @@ pub lawful : (e : Event) → nat_le (length (line_for e)) MAX_LINE_BYTES ≡ tru
 lawful e short is = (line_for e, (at_most (length (line_for e)) MAX_LINE_BYTES short, is))
 
 pub read_whole : (events : List Event) → AllByRecursion IsLawful events → nat_le (length events) MAX_EVENTS ≡ true → nat_le (length (lines_for events)) MAX_FILE_BYTES ≡ true
-    → IsRun (file_of events) file.Whole 0 events
+    → AreEventsOf (file_of events) file.Whole 0 events
 read_whole events are few short =
     (lines_for events, refl, file_read events (All-from_recursion IsLawful events are) (at_most (length events) MAX_EVENTS few) (at_most (length (lines_for events)) MAX_FILE_BYTES short))
 
@@ -90,7 +90,7 @@ a_name = record { not_empty = omega arith; short = omega arith; bytes = refl }
 pub inc_a : (n : ℕ) → n < 2 ^ 32 → nat_le (length (line_for (event.Inc (codes "root") (codes "a") n))) MAX_LINE_BYTES ≡ true → IsLawful (event.Inc (codes "root") (codes "a") n)
 inc_a n small short = lawful_inc (codes "root") (codes "a") n root a_name small short
 
-pub increments_read : IsRun (file_of increments) file.Whole 0 increments
+pub increments_read : AreEventsOf (file_of increments) file.Whole 0 increments
 unfolding digits
 increments_read = read_whole increments (inc_a 3 (omega arith) refl, (inc_a 4 (omega arith) refl, tt)) refl refl
 
@@ -184,7 +184,7 @@ rec_7 = lawful_rec (codes "root") (codes "h") 7 root h_name (omega arith) refl
 
 -- what the reports of one file with one flush share
 module _ (verdicts : List Verdict) (log : List Entry) (flush : FlushRecord) where
-  pub read_one : (events : List Event) → length verdicts ≡ length events → IsRun (file_of events) file.Whole 0 events
+  pub read_one : (events : List Event) → length verdicts ≡ length events → AreEventsOf (file_of events) file.Whole 0 events
       → AreRead (file_of events ∷ []) (events ∷ []) (report_of verdicts log flush)
   read_one events same run = record {
     an_end_each = refl;
@@ -201,7 +201,7 @@ module _ (verdicts : List Verdict) (log : List Entry) (flush : FlushRecord) wher
   pub none_shown : (workers : List Work) → AreShown plain_plan workers (report_of verdicts log flush)
   none_shown workers = record { number = refl; never_falls = none_falls; each = tt; rising = no_pairs }
 
-pub reported : (events : List Event) (report : Report) → RunLedger (file_of events ∷ []) (events ∷ []) plain_plan report → Replays events report → IsReported events report
+pub reported : (events : List Event) (report : Report) → RunLedger (file_of events ∷ []) (events ∷ []) plain_plan report → IsWorkedReplay events report → IsReported events report
 reported events report run replay = record {
   run = run;
   replay = replay;

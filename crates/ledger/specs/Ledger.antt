@@ -11,7 +11,7 @@ use Rattle.stat_defs.specs.declared.history.Entry.{Entry}
 use Rattle.stat_defs.specs.declared.reports.FileEnd.{FileEnd}
 use Rattle.stat_defs.specs.declared.reports.FileEnd.TheVariants as file
 use Rattle.stat_defs.specs.declared.reports.Report.{Report}
-use Rattle.event_script.specs.Run.{IsRun}
+use Rattle.event_script.specs.FileEvents.{AreEventsOf}
 use Rattle.book_state.specs.State.{NameRules}
 use Rattle.book_state.specs.Log.{is_sweep, replay, Legal}
 use Rattle.book_state.specs.SeatLaws.{is_end}
@@ -43,7 +43,7 @@ pub record AreRead (contents : List (Option (List ℕ))) (events : List (List Ev
   pub an_end_each : length report.ends ≡ length contents
   pub verdicts_each : length report.verdicts ≡ length contents
   pub a_verdict_each : map length report.verdicts ≡ map length events
-  pub read : AllZip (λ content file. IsRun content file.0.end file.0.taken file.1)
+  pub read : AllZip (λ content file. AreEventsOf content file.0.end file.0.taken file.1)
       contents (zip report.ends events)
   pub counted : AllByRecursion (λ end. TakenAtFault end.end end.taken) report.ends
 

@@ -48,15 +48,15 @@ report_of verdicts log flush = record {
   ends = whole_end ∷ [];
 }
 
-abbrev pub Replays : List Event → Report → Type 0
-Replays events report = ReplayLedger (file_of events ∷ []) (events ∷ []) plain_plan report
+abbrev pub IsWorkedReplay : List Event → Report → Type 0
+IsWorkedReplay events report = ReplayLedger (file_of events ∷ []) (events ∷ []) plain_plan report
 
 -- the report of a file of these events is that of a run and that of a replay
 pub record IsReported (events : List Event) (report : Report) : Type 0 where
   pub run : RunLedger (file_of events ∷ []) (events ∷ []) plain_plan report
-  pub replay : Replays events report
+  pub replay : IsWorkedReplay events report
   -- and a replay has no other, but for the ends of the files
-  pub only : (other : Report) → Replays events other → without_ends report ≡ without_ends other
+  pub only : (other : Report) → IsWorkedReplay events other → without_ends report ≡ without_ends other
 
 abbrev pub accepted : ℕ → Verdict
 accepted id = verdict.Accepted (record { 0 = id })

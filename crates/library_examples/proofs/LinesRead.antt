@@ -11,7 +11,7 @@ use Rattle.event_script.specs.declared.step.Step.{Step}
 use Rattle.event_script.specs.Answer.{IsAnswer, HasEnded, TellsEnd, Explains}
 use Rattle.event_script.specs.Grammar.{IsLawful}
 use Rattle.event_script.specs.Reader.{Reading, Moves, unread}
-use Rattle.event_script.specs.Run.{IsRun}
+use Rattle.event_script.specs.FileEvents.{AreEventsOf}
 use Rattle.event_script.proofs.Runs.{run_of}
 use Rattle.event_script.proofs.Moves.{moves_trans}
 use Rattle.flush_view.proofs.FileEvents.{files_few}
@@ -21,7 +21,7 @@ use Rattle.library_examples.specs.Counting.{AreLinesApplied}
 
 -- the events of a run are lawful
 run_lawful : (content : Option (List ℕ)) (end : FileEnd) (taken : ℕ) (events : List Event)
-    → IsRun content end taken events → All IsLawful events
+    → AreEventsOf content end taken events → All IsLawful events
 run_lawful content end taken events run =
     let files = files_few (content ∷ [])
     (record { end = end; taken = taken; faults_before = 0; faults_after = 0 } ∷ []) (events ∷ []) refl (run, tt) in
@@ -39,7 +39,7 @@ module _ {S : Type 0} (state : S → SourceState) where
       let from_start = rw (is, append-nil) at all in
       let has : HasEnded state new end =
       subst (λ (o : Option FileEnd). IfSome o (HasEnded state new)) tells.1 answered.ended in
-      let run : IsRun (state source).left end new.taken so.events =
+      let run : AreEventsOf (state source).left end new.taken so.events =
       run_of state source new (state source).faults (so.read.got ++ answered.got) so.events end from_start has
       answered.whole in
       record {

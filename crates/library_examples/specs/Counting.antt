@@ -9,7 +9,7 @@ use Rattle.stat_defs.specs.declared.reports.Report.{Report}
 use Rattle.stats_io.specs.States.{SourceState}
 use Rattle.event_script.specs.Answer.{Explains}
 use Rattle.event_script.specs.Grammar.{IsLawful}
-use Rattle.event_script.specs.Run.{IsRun}
+use Rattle.event_script.specs.FileEvents.{AreEventsOf}
 use Rattle.event_script.specs.declared.limits.TheConstants as file
 use Rattle.plain_store.specs.Store.{StoreHistory, new_store, Applied, Flushes}
 use Rattle.replay_report.specs.Applying.{AreApplied}
@@ -32,7 +32,7 @@ pub record AreLinesApplied {S : Type 0} (state : S → SourceState) (source : S)
     (verdicts : List Verdict) (end : FileEnd) : Type 0 where
   pub events : List Event
   pub taken : ℕ
-  pub is_run : IsRun (state source).left end taken events
+  pub is_run : AreEventsOf (state source).left end taken events
   pub applied : AreApplied old events verdicts new
   pub lawful : All IsLawful events
   pub few : length events ≤ file.MAX_EVENTS

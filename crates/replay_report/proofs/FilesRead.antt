@@ -15,7 +15,7 @@ use Rattle.stats_io.specs.States.{SourceState, ShelfState}
 use Rattle.stats_io.specs.Open.{IsUnpulled}
 use Rattle.stats_io.specs.Told.{MayBe}
 use Rattle.stats_io.proofs.Pieces.{kept_consumes}
-use Rattle.event_script.specs.Run.{IsRun}
+use Rattle.event_script.specs.FileEvents.{AreEventsOf}
 use Rattle.plain_store.specs.Store.{StoreHistory}
 use Rattle.file_reading.specs.WorkerEnd.{IsOpened, HasCause}
 use Rattle.file_reading.specs.FileRead.{FileRead, all_events, IsFile, AreFiles}
@@ -143,7 +143,7 @@ module _ {F S : Type 0} (shelf : F → ShelfState) (source : S → SourceState) 
   same_content one other name before after earlier later run same read = record {
     events = read.events;
     file = record {
-      run = subst (λ (c : Option (List ℕ)). IsRun c run.end.end run.end.taken read.events) same read.file.run;
+      run = subst (λ (c : Option (List ℕ)). AreEventsOf c run.end.end run.end.taken read.events) same read.file.run;
       cause = subst
           (λ (c : Option (List ℕ)). HasCause source c name (shelf before) (shelf after) run.end run.end.end) same
           read.file.cause;

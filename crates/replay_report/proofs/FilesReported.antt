@@ -13,7 +13,7 @@ use Rattle.stat_defs.specs.declared.memory.NoMemory.{NoMemory}
 use Rattle.stat_defs.specs.declared.reports.Report.{Report}
 use Rattle.stat_defs.specs.declared.reports.WorkerEnd.{WorkerEnd}
 use Rattle.stats_io.specs.States.{SourceState, ShelfState}
-use Rattle.event_script.specs.Run.{IsRun}
+use Rattle.event_script.specs.FileEvents.{AreEventsOf}
 use Rattle.ledger.specs.Work.{Work, events_in, verdicts_in, work_of, together}
 use Rattle.ledger.specs.Ledger.{TakenAtFault, AreRead, ReplayLedger, IsReportOf, last_flush_alone, plan_of}
 use Rattle.ledger.proofs.WorkLists.{lengths, events_back, verdicts_back}
@@ -72,7 +72,7 @@ module _ {F S : Type 0} (shelf : F → ShelfState) (source : S → SourceState) 
   -- each file was read, so its events are those of what its name holds
   pub runs_of : (names : List (List ℕ)) (before after : F) (files : List FileRead)
       → AreFiles shelf source holds names before after files
-      → AllZip (λ content file. IsRun content file.0.end file.0.taken file.1) (map holds names)
+      → AllZip (λ content file. AreEventsOf content file.0.end file.0.taken file.1) (map holds names)
       (zip (ends_of files) (events_of files))
   runs_of [] before after [] are = tt
   runs_of [] before after (f ∷ fs) are = absurd are

@@ -25,7 +25,7 @@ use Rattle.store_closing.specs.Closes.{Closes, told_of, plan_told, events_told, 
 use Rattle.worker_run.specs.declared.given.Given.{Given}
 use Rattle.worker_run.specs.declared.given.Worked.{Worked}
 use Rattle.worker_run.specs.Working.{IsFileRead}
-use Rattle.run_files.specs.Run.{IsRunOver, content_of}
+use Rattle.run_files.specs.Run.{IsRunOfGiven, content_of}
 use Rattle.run_files.proofs.WorkersDone.{events_by, verdicts_by, AreWorked, are_read, files_read, verdicts_told}
 
 -- the accounts of a run say nothing of the files' ends
@@ -130,7 +130,7 @@ module _ {S : Type 0} (state : S → SourceState) (config : Config) (store : Sto
       (map (λ x. x.end) workers) closes.accounts)))
 
   -- the run of these files
-  pub run_made : IsRunOver state config files report
+  pub run_made : IsRunOfGiven state config files report
   run_made =
       let verdicts = ap (λ (r : Report). r.verdicts) is ∙ verdicts_told state store 1 files workers worked in
       let ends = ap (λ (r : Report). r.ends) is in

@@ -16,7 +16,7 @@ use Rattle.run_files.specs.declared.returning.Returned.{Returned}
 use Rattle.run_files.specs.declared.starting.Started.{Started}
 use Rattle.run_files.specs.Reporting.{Reports}
 use Rattle.run_files.specs.Returning.{AreBack}
-use Rattle.run_files.specs.Run.{IsRunOver}
+use Rattle.run_files.specs.Run.{IsRunOfGiven}
 use Rattle.run_files.specs.Starting.{IsStarted}
 use Rattle.run_files.proofs.ReportMade.{run_made}
 use Rattle.run_files.proofs.WorkersDone.{AreWorked, jobs_worked, each_ended, a_worker_each}
@@ -42,7 +42,7 @@ module _ {S : Type 0} (state : S → SourceState) (config : Config) (files : Lis
         ∙ sym (ap (λ (book : BookHistory). book.workers) is.book)));
   }
 
-  reported : (report : Report) → Reports started.store done report → IsRunOver state config files report
+  reported : (report : Report) → Reports started.store done report → IsRunOfGiven state config files report
   reported report made =
       let all = back.gathered in
       run_made state config started.store files back.workers done.flushings.records.items done.flushings.flusher
@@ -62,6 +62,6 @@ module _ {S : Type 0} (state : S → SourceState) (config : Config) (files : Lis
 
   -- its report
   pub run_done : (result : Result Report NoMemory) → IfOk result (Reports started.store done)
-      → IfOk result (IsRunOver state config files)
+      → IfOk result (IsRunOfGiven state config files)
   run_done (Ok report) made = reported report made
   run_done (Err e) made = tt

@@ -8,7 +8,7 @@ use Rattle.stat_defs.specs.declared.reports.FileEnd.TheVariants.{Whole, BadLine,
 use Rattle.stat_defs.specs.declared.reports.Report.{Report}
 use Rattle.stat_defs.specs.declared.reports.WorkerEnd.{WorkerEnd}
 use Rattle.stats_io.specs.States.{SourceState}
-use Rattle.event_script.specs.Run.{IsRun}
+use Rattle.event_script.specs.FileEvents.{AreEventsOf}
 use Rattle.file_reading.specs.SourceRead.{taken_at}
 use Rattle.ledger.specs.Ledger.{AreRead, TakenAtFault}
 use Rattle.ledger.specs.Lists.{EachNumbered}
@@ -46,10 +46,10 @@ counted_end NotOpened taken bytes is = is
 module _ {S : Type 0} (state : S → SourceState) where
   -- what was read of a file is a run of its content
   file_run : (file : Given S) (events : List Event) (end : WorkerEnd) → IsFileRead state file events end
-      → IsRun (content_of state file) end.end end.taken events
+      → AreEventsOf (content_of state file) end.end end.taken events
   file_run (Opened source) events end read = read.is_run
   file_run Missing events end read =
-      subst (λ (e : WorkerEnd). IsRun None e.end e.taken events) (sym read.1) read.0
+      subst (λ (e : WorkerEnd). AreEventsOf None e.end e.taken events) (sym read.1) read.0
 
   file_counted : (file : Given S) (events : List Event) (end : WorkerEnd) → IsFileRead state file events end
       → TakenAtFault end.end end.taken
@@ -104,7 +104,7 @@ module _ {S : Type 0} (state : S → SourceState) where
     files_read w (file ∷ files) (x ∷ xs) are = (read_by w file x are.0, files_read (suc w) files xs are.1)
 
     files_run : (w : ℕ) (files : List (Given S)) (workers : List Worked) → AreWorked w files workers
-        → AllZip (λ content told. IsRun content told.0.end told.0.taken told.1) (map (content_of state) files)
+        → AllZip (λ content told. AreEventsOf content told.0.end told.0.taken told.1) (map (content_of state) files)
         (zip (map (λ x. x.end) workers) (map events_by workers))
     files_run w [] [] are = tt
     files_run w [] (x ∷ xs) are = absurd are
@@ -151,7 +151,7 @@ module _ {S : Type 0} (state : S → SourceState) where
               ∙ (each ∙ sym (mapped_count (content_of state) files)));
           a_verdict_each = ap (map length) verdicts ∙ verdict_counts workers;
           read = subst (λ (es : List WorkerEnd).
-              AllZip (λ content told. IsRun content told.0.end told.0.taken told.1) (map (content_of state) files)
+              AllZip (λ content told. AreEventsOf content told.0.end told.0.taken told.1) (map (content_of state) files)
               (zip es (map events_by workers))) (sym ends) (files_run w files workers are);
           counted = subst (AllByRecursion (λ (end : WorkerEnd). TakenAtFault end.end end.taken)) (sym ends)
               (files_counted w files workers are);

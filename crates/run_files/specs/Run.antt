@@ -18,7 +18,7 @@ content_of state Missing = None
 
 -- A run of this configuration over these files gave this report. Each file was read to its end, which has a cause, and
 -- the report is the ledger of the files' events. No scope was opened twice or released twice, whichever workers did it.
-pub record IsRunOver {S : Type 0} (state : S → SourceState) (config : Config) (files : List (Given S)) (report : Report)
+pub record IsRunOfGiven {S : Type 0} (state : S → SourceState) (config : Config) (files : List (Given S)) (report : Report)
     : Type 0 where
   pub events : List (List Event)
   pub read : AllZip (λ file told. IsFileRead state file told.1 told.0) files (zip report.ends events)

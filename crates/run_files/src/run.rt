@@ -2,7 +2,7 @@
 ghost use Rattle.std.specs.Prelude.{◌≡◌, ◌≤◌, IfOk, length};
 ghost use Rattle.stat_defs.specs.Configs.{IsConfig};
 ghost use Rattle.book_state.specs.declared.limits.TheConstants.{MAX_WORKERS};
-ghost use Rattle.run_files.specs.Run.{IsRunOver};
+ghost use Rattle.run_files.specs.Run.{IsRunOfGiven};
 
 use crate::reporting::report_of;
 use crate::returning::run_parties;
@@ -30,7 +30,7 @@ pub fn run_files<R: Threads + Wait + Sync, G: Gate + Sync, S: Source + Drop + Se
     requires config { IsConfig setup.config.now }
     requires built { (setup.rules ≡ setup.config.now.tags) × (setup.matcher ≡ setup.config.now.matcher) }
     requires files { (1 ≤ length files.items) × (length files.items ≤ MAX_WORKERS) }
-    ensures { IfOk result (IsRunOver S.state setup.entry.config.now files.items) }
+    ensures { IfOk result (IsRunOfGiven S.state setup.entry.config.now files.items) }
 {
     let started = start(alloc, setup, files)?;
     let Started { store, sides, jobs } = started;

@@ -15,7 +15,7 @@ use Rattle.file_reading.proofs.FileOpened.{file_read, file_unopened}
 use Rattle.replay_report.proofs.FilesReported.{events_of, ends_of, runs_of, counted_of}
 use Rattle.worker_run.specs.declared.given.Given.{Given}
 use Rattle.worker_run.specs.declared.given.Given.TheVariants.{Opened, Missing}
-use Rattle.run_files.specs.Run.{content_of, IsRunOver}
+use Rattle.run_files.specs.Run.{content_of, IsRunOfGiven}
 use Rattle.worker_run.specs.Working.{IsFileRead}
 use Rattle.run_report.specs.Opened.{told_or, with_told, IsOpening, AreOpenings, AreOpened}
 use Rattle.run_report.specs.RunReport.{IsRunOf}
@@ -165,7 +165,7 @@ module _ {F S : Type 0} (shelf : F → ShelfState) (source : S → SourceState) 
   -- so is any report that is the run's but for these ends
   pub reported : (config : Config) (names : List (List ℕ)) (before after : F) (openings : Openings S)
       → AreOpened shelf source holds names before after openings → (given : Report)
-      → IsRunOver source config openings.files.items given → (report : Report)
+      → IsRunOfGiven source config openings.files.items given → (report : Report)
       → report ≡ record given { ends = with_told openings.ends.items given.ends }
       → IsRunOf shelf source holds config names before after report
   reported config names before after openings so given run report is =

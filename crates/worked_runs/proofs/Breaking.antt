@@ -5,7 +5,7 @@ use Rattle.stat_defs.specs.declared.events.GaugeOp.TheVariants.{Set}
 use Rattle.stat_defs.specs.declared.reports.FileEnd.TheVariants as file
 use Rattle.stat_defs.specs.declared.reports.FlushRecord.{FlushRecord}
 use Rattle.stat_defs.specs.declared.reports.ReadRecord.{ReadRecord}
-use Rattle.event_script.specs.Run.{IsRun}
+use Rattle.event_script.specs.FileEvents.{AreEventsOf}
 use Rattle.ledger.specs.Ledger.{AreRead, HasHistory, Account, AreShown}
 use Rattle.ledger.specs.Worked.{file_of}
 use Rattle.ledger.proofs.Lists.{nil_cons}
@@ -15,11 +15,11 @@ use Rattle.worked_runs.specs.Run.{plan_of_run, events_of_run, files_of_run, firs
 use Rattle.worked_runs.specs.Broken.{FourthAloneBroken, FifthAloneBroken, counted_twice, part_moved, value_fallen, place_fallen, works_in}
 use Rattle.worked_runs.proofs.Accounted.{two_account, three_rise}
 
-first_read : IsRun (file_of first_events) file.Whole 0 first_events
+first_read : AreEventsOf (file_of first_events) file.Whole 0 first_events
 unfolding digits
 first_read = read_whole first_events (rec_7, (inc_a 3 (omega arith) refl, (moves_g Set 5 (omega arith) refl, (inc_a 2 (omega arith) refl, tt)))) refl refl
 
-second_read : IsRun (file_of second_events) file.Whole 0 second_events
+second_read : AreEventsOf (file_of second_events) file.Whole 0 second_events
 unfolding digits
 second_read = read_whole second_events (inc_a 4 (omega arith) refl, (rec_7, (moves_g Set 9 (omega arith) refl, tt))) refl refl
 

@@ -5,7 +5,7 @@ use Rattle.stat_defs.specs.declared.events.Event.TheVariants as event
 use Rattle.stat_defs.specs.declared.history.Verdict.TheVariants as verdict
 use Rattle.stat_defs.specs.declared.reports.FileEnd.TheVariants as file
 use Rattle.stat_defs.specs.Names.{IsLabel, IsLocalName}
-use Rattle.event_script.specs.Run.{IsRun}
+use Rattle.event_script.specs.FileEvents.{AreEventsOf}
 use Rattle.book_state.specs.Log.{Legal}
 use Rattle.book_state.specs.Follows.{Follows}
 use Rattle.book_state.specs.Worked.{plain, root_alone, swept_last, released_events, released_verdicts}
@@ -37,7 +37,7 @@ name_u = record { not_empty = omega arith; short = omega arith; bytes = refl }
 name_t : IsLocalName (codes "t")
 name_t = record { not_empty = omega arith; short = omega arith; bytes = refl }
 
-is_read : IsRun (file_of released_events) file.Whole 0 released_events
+is_read : AreEventsOf (file_of released_events) file.Whole 0 released_events
 unfolding digits
 is_read = read_whole released_events (
   lawful_open (codes "s") (codes "t") (codes "t") label_s name_t refl refl refl,

@@ -5,7 +5,7 @@ use Rattle.stat_defs.specs.declared.events.Event.TheVariants as event
 use Rattle.stat_defs.specs.declared.events.GaugeOp.TheVariants.{Sub}
 use Rattle.stat_defs.specs.declared.ids.Mode.TheVariants.{Accumulate}
 use Rattle.stat_defs.specs.declared.reports.FileEnd.TheVariants as file
-use Rattle.event_script.specs.Run.{IsRun}
+use Rattle.event_script.specs.FileEvents.{AreEventsOf}
 use Rattle.book_state.specs.Follows.{Follows}
 use Rattle.book_state.specs.Worked.{plain}
 use Rattle.book_state.proofs.Lists.{true_false}
@@ -22,7 +22,7 @@ follows = follows_log subtraction (accepted 0 ∷ []) gauge_log (
     (tt, inl (omega arith, (refl, refl, refl)))
     refl refl refl refl
 
-is_read : IsRun (file_of subtraction) file.Whole 0 subtraction
+is_read : AreEventsOf (file_of subtraction) file.Whole 0 subtraction
 unfolding digits
 is_read = read_whole subtraction (moves_g Sub 5 (omega arith) refl, tt) refl refl
 

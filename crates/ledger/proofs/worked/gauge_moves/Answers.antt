@@ -5,7 +5,7 @@ use Rattle.stat_defs.specs.declared.events.Event.TheVariants as event
 use Rattle.stat_defs.specs.declared.events.GaugeOp.TheVariants.{Add, Sub, Set}
 use Rattle.stat_defs.specs.declared.ids.Mode.TheVariants.{Accumulate}
 use Rattle.stat_defs.specs.declared.reports.FileEnd.TheVariants as file
-use Rattle.event_script.specs.Run.{IsRun}
+use Rattle.event_script.specs.FileEvents.{AreEventsOf}
 use Rattle.book_state.specs.Follows.{Follows}
 use Rattle.book_state.specs.Worked.{plain}
 use Rattle.book_state.proofs.Lists.{true_false}
@@ -24,7 +24,7 @@ follows = follows_log gauge_moves (accepted 0 ∷ accepted 0 ∷ accepted 0 ∷ 
     (((tt, inl (omega arith, (refl, refl, refl))), inl (omega arith, (refl, refl))), inl (omega arith, (refl, refl)))
     refl refl refl refl
 
-is_read : IsRun (file_of gauge_moves) file.Whole 0 gauge_moves
+is_read : AreEventsOf (file_of gauge_moves) file.Whole 0 gauge_moves
 unfolding digits
 is_read = read_whole gauge_moves (moves_g Sub 5 (omega arith) refl, (moves_g Set (2 ^ 63 - 1) (omega arith) refl, (moves_g Add 1 (omega arith) refl, tt))) refl refl
 

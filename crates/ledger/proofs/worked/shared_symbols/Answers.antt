@@ -5,7 +5,7 @@ use Rattle.stat_defs.specs.declared.events.Event.TheVariants as event
 use Rattle.stat_defs.specs.declared.history.Verdict.TheVariants as verdict
 use Rattle.stat_defs.specs.declared.reports.FileEnd.TheVariants as file
 use Rattle.stat_defs.specs.Names.{IsLabel, IsLocalName}
-use Rattle.event_script.specs.Run.{IsRun}
+use Rattle.event_script.specs.FileEvents.{AreEventsOf}
 use Rattle.book_state.specs.Log.{Legal}
 use Rattle.book_state.specs.Follows.{Follows}
 use Rattle.book_state.specs.Worked.{plain, root_alone, shared, shared_events, shared_verdicts}
@@ -60,7 +60,7 @@ name_n = record { not_empty = omega arith; short = omega arith; bytes = refl }
 prefix : IsLocalName (codes "cluster.c")
 prefix = record { not_empty = omega arith; short = omega arith; bytes = refl }
 
-is_read : IsRun (file_of shared_events) file.Whole 0 shared_events
+is_read : AreEventsOf (file_of shared_events) file.Whole 0 shared_events
 unfolding digits
 is_read = read_whole shared_events (
   lawful_open (codes "p") (codes "cluster.c") (codes "cluster.c") label_p prefix refl refl refl,

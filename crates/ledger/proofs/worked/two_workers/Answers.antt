@@ -5,7 +5,7 @@ use Rattle.std.specs.List.Sorted.{IsStrictlyIncreasing, IsNonDecreasing}
 use Rattle.stat_defs.specs.declared.events.Event.TheVariants as event
 use Rattle.stat_defs.specs.declared.events.GaugeOp.TheVariants.{Set}
 use Rattle.stat_defs.specs.declared.reports.FileEnd.TheVariants as file
-use Rattle.event_script.specs.Run.{IsRun}
+use Rattle.event_script.specs.FileEvents.{AreEventsOf}
 use Rattle.book_state.specs.Log.{empty, Legal}
 use Rattle.book_state.specs.Follows.{Own, own, Follows}
 use Rattle.book_state.specs.Worked.{plain, root_alone}
@@ -92,11 +92,11 @@ one_of_both m n k in_list = by_place in_list.0 in_list.1 in_list.2 where
   by_place (suc zero) below e = inr (sym e)
   by_place (suc (suc i)) below e = absurd (omega (arith, below))
 
-first_read : IsRun (file_of first_of_two) file.Whole 0 first_of_two
+first_read : AreEventsOf (file_of first_of_two) file.Whole 0 first_of_two
 unfolding digits
 first_read = read_whole first_of_two (rec_7, (inc_a 3 (omega arith) refl, (moves_g Set 5 (omega arith) refl, tt))) refl refl
 
-second_read : IsRun (file_of second_of_two) file.Whole 0 second_of_two
+second_read : AreEventsOf (file_of second_of_two) file.Whole 0 second_of_two
 unfolding digits
 second_read = read_whole second_of_two (inc_a 4 (omega arith) refl, (moves_g Set 9 (omega arith) refl, tt)) refl refl
 

@@ -4,7 +4,7 @@ use Rattle.std.specs.Fmt.{digits}
 use Rattle.stat_defs.specs.declared.events.Event.TheVariants as event
 use Rattle.stat_defs.specs.declared.reports.FileEnd.TheVariants as file
 use Rattle.stat_defs.specs.Names.{IsLocalName}
-use Rattle.event_script.specs.Run.{IsRun}
+use Rattle.event_script.specs.FileEvents.{AreEventsOf}
 use Rattle.book_state.specs.Log.{Legal}
 use Rattle.book_state.specs.Follows.{Follows}
 use Rattle.book_state.specs.Worked.{plain, root_alone}
@@ -39,7 +39,7 @@ legal = legal_log 1 _ refl (
 name_t : IsLocalName (codes "t")
 name_t = record { not_empty = omega arith; short = omega arith; bytes = refl }
 
-is_read : IsRun (file_of values_and_texts) file.Whole 0 values_and_texts
+is_read : AreEventsOf (file_of values_and_texts) file.Whole 0 values_and_texts
 unfolding digits
 is_read = read_whole values_and_texts (
   rec_7,

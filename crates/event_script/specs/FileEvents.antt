@@ -9,12 +9,12 @@ use Rattle.event_script.specs.Script.{File, FileToFault}
 
 -- The events that were read of a file of this content, how it ended, and how many bytes were taken before a read fault.
 -- Where the content is not told, they are those of some list of bytes.
-abbrev pub IsRun : Option (List ℕ) → FileEnd → ℕ → List Event → Type 0
-IsRun content NotOpened taken events = events ≡ []
-IsRun content ReadFault taken events =
+abbrev pub AreEventsOf : Option (List ℕ) → FileEnd → ℕ → List Event → Type 0
+AreEventsOf content NotOpened taken events = events ≡ []
+AreEventsOf content ReadFault taken events =
     (bytes : List ℕ) × MayBe content bytes × (taken ≤ length bytes) × FileToFault (take taken bytes) events
-IsRun content Whole taken events = (bytes : List ℕ) × MayBe content bytes × File bytes events Whole
-IsRun content TooBig taken events = (bytes : List ℕ) × MayBe content bytes × File bytes events TooBig
-IsRun content TooMany taken events = (bytes : List ℕ) × MayBe content bytes × File bytes events TooMany
-IsRun content (BadLine n) taken events = (bytes : List ℕ) × MayBe content bytes × File bytes events (BadLine n)
-IsRun content (LineTooLong n) taken events = (bytes : List ℕ) × MayBe content bytes × File bytes events (LineTooLong n)
+AreEventsOf content Whole taken events = (bytes : List ℕ) × MayBe content bytes × File bytes events Whole
+AreEventsOf content TooBig taken events = (bytes : List ℕ) × MayBe content bytes × File bytes events TooBig
+AreEventsOf content TooMany taken events = (bytes : List ℕ) × MayBe content bytes × File bytes events TooMany
+AreEventsOf content (BadLine n) taken events = (bytes : List ℕ) × MayBe content bytes × File bytes events (BadLine n)
+AreEventsOf content (LineTooLong n) taken events = (bytes : List ℕ) × MayBe content bytes × File bytes events (LineTooLong n)
