@@ -48,6 +48,7 @@ pub fn next_pull(taken: u64) -> usize
     ensures some { 0 < result }
     ensures few { result ≤ limits.MAX_PULL_BYTES }
     ensures bound { taken + result ≤ limits.MAX_FILE_BYTES + 1 }
+    ensures most { result < limits.MAX_PULL_BYTES → taken + result ≡ limits.MAX_FILE_BYTES + 1 }
 {
     MAX_PULL_BYTES.min(MAX_FILE_BYTES + 1 - taken as usize)
 }
