@@ -2,11 +2,11 @@
 
 use crate::gates::{FlushAmong, ReadingBetween, SecondFirst, WorkerFirst};
 use crate::runs::{
-    all_values, delta_of, file_of, file_with_faults, never_falls, repeated, run, units_of,
-    values_in, word_of,
+    all_values, delta_of, file_of, file_with_faults, gauge_of, never_falls, repeated, run,
+    units_of, values_in, word_of,
 };
 use run_gates::PaceGate;
-use stat_defs::{FileEnd, MetricId, Report, Verdict};
+use stat_defs::{FileEnd, FlushRecord, MetricId, Report, Verdict};
 use stats_io::MemSource;
 use std::alloc::Global;
 use std::test::Fail;
@@ -25,6 +25,10 @@ const TWO_READINGS: &str =
 
 const TWO_FLUSHES: &str =
     r#"{"stats_config":{"use_all_default_tags":false},"stats_run":{"flushes":2}}"#;
+
+// As many as a configuration may have.
+const MOST_ROUNDS: &str = r#"{"stats_config":{"use_all_default_tags":false},
+    "stats_run":{"flushes":64,"flush_every":625,"reads":64}}"#;
 
 const FORTY_ROUNDS: &str = r#"{"stats_config":{"use_all_default_tags":false},
     "stats_run":{"flushes":40,"flush_every":800,"reads":40}}"#;
@@ -169,6 +173,61 @@ fn a_crowd_loses_no_unit(rt: HostRuntime) -> Result<(), Fail> {
     }
     for end in report.ends.items() {
         assert!(rt; end.end == FileEnd::Whole);
+    }
+    drop(report);
+    Ok(())
+}
+
+// Each worker makes these metrics in this order, so that they have the numbers 0 to 3 in every schedule.
+const COMMON_NAMES: &str =
+    "inc root a 1\ninc root b 2\nadd root g acc 5\nsub root g acc 2\nrec root h 7\n";
+
+// Whether these are the verdicts on 10,000 events of the common names.
+fn are_common(verdicts: &[Verdict]) -> bool {
+    let turn = [
+        Verdict::Accepted(MetricId(0)),
+        Verdict::Accepted(MetricId(1)),
+        Verdict::Accepted(MetricId(2)),
+        Verdict::Accepted(MetricId(2)),
+        Verdict::Accepted(MetricId(3)),
+    ];
+    for told in verdicts.chunks(5) {
+        if told != turn.as_slice() {
+            return false;
+        }
+    }
+    verdicts.len() == 10_000
+}
+
+// Whether no unit, step or value of 8,000 times the common names was lost.
+fn is_common_sum(flushes: &[FlushRecord]) -> bool {
+    let Some(last) = flushes.last() else {
+        return false;
+    };
+    units_of(flushes, MetricId(0)) == 8_000
+        && units_of(flushes, MetricId(1)) == 16_000
+        && gauge_of(last, MetricId(2)) == Some(24_000)
+        && all_values(flushes) == 8_000
+}
+
+#[test]
+fn workers_share_common_names(rt: HostRuntime) -> Result<(), Fail> {
+    let alloc = rt.alloc();
+    let gate = PaceGate::new(alloc, 4, 625)?;
+    let mut files = Vec::new(alloc);
+    for _ in 0..4 {
+        let lines = repeated(alloc, COMMON_NAMES, 2_000)?;
+        files.push(file_of(alloc, lines.as_str())?)?;
+    }
+    let report = run(&rt, alloc, &gate, MOST_ROUNDS, files)?;
+    let flushes = report.flushes.items();
+    let readings = report.reads.items();
+    assert!(rt; flushes.len() == 65 && readings.len() == 64);
+    assert!(rt; is_common_sum(flushes));
+    assert!(rt; never_falls(readings, MetricId(0)) && never_falls(readings, MetricId(1)));
+    assert!(rt; report.verdicts.items().len() == 4);
+    for told in report.verdicts.items() {
+        assert!(rt; are_common(told.items()));
     }
     drop(report);
     Ok(())

@@ -87,6 +87,16 @@ pub(crate) fn delta_of(flush: &FlushRecord, id: MetricId) -> u64 {
     0
 }
 
+/// A gauge's word in a flush, where that shows it.
+pub(crate) fn gauge_of(flush: &FlushRecord, id: MetricId) -> Option<u64> {
+    for gauge in flush.gauges.items() {
+        if gauge.id == id {
+            return Some(gauge.word);
+        }
+    }
+    None
+}
+
 /// The units of a counter in all these flushes.
 pub(crate) fn units_of(flushes: &[FlushRecord], id: MetricId) -> u64 {
     let mut units = 0u64;
