@@ -57,7 +57,7 @@ held_adds k k' (event.Release label) v held same = cc
 module _ (store : Store) (polled : Polled) (old mid : RecorderKnown) (looks : PollsOnce polled old mid) where
   -- a poll that acknowledged nothing
   pub polled_on : polled.acked ≡ false → WorksOn store old mid
-  polled_on not w given at =
+  polled_on not w count at =
       let log = looks.log in
       let loads : (log.releases ≤ tag_in old.seat) × (mid.seat ≡ loaded log.releases old.seat) =
       subst (λ (b : Bool). MatchBool b
@@ -92,7 +92,7 @@ module _ (store : Store) (polled : Polled) (old mid : RecorderKnown) (looks : Po
 
     -- an event behind the poll
     decided_on : WorksMore store old new
-    decided_on w given at = record {
+    decided_on w count at = record {
       worker = same_worker store w old new
           (ap (λ (r : RecorderKnown). r.of) did.rest ∙ ap (λ (r : RecorderKnown). r.of) looks.rest)
           (adds.number ∙ same_number old.seat mid.seat looks.log.due)

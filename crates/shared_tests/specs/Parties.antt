@@ -16,21 +16,21 @@ use Rattle.shared_tests.specs.declared.parties.Rounds.TheVariants.{Between, Begu
 use Rattle.shared_tests.specs.declared.parties.Parties.{Parties}
 
 -- the store's worker w was given so many events, and its entries are those of the events
-pub record IsAtWork (store : Store) (w given : ℕ) (r : RecorderKnown) : Type 0 where
+pub record IsAtWork (store : Store) (w count : ℕ) (r : RecorderKnown) : Type 0 where
   pub worker : IsWorkerOf store w r
   pub followed : HasFollowedAll r
-  pub given : r.given ≡ given
+  pub given : r.given ≡ count
 
 -- whatever worker it was, with however many events, it is so still
 abbrev pub WorksOn : Store → RecorderKnown → RecorderKnown → Type 0
-WorksOn store old new = (w given : ℕ) → IsAtWork store w given old → IsAtWork store w given new
+WorksOn store old new = (w count : ℕ) → IsAtWork store w count old → IsAtWork store w count new
 
 -- and with one event more
 abbrev pub WorksMore : Store → RecorderKnown → RecorderKnown → Type 0
-WorksMore store old new = (w given : ℕ) → IsAtWork store w given old → IsAtWork store w (given + 1) new
+WorksMore store old new = (w count : ℕ) → IsAtWork store w count old → IsAtWork store w (count + 1) new
 
 abbrev pub IsPartyOf : Store → ℕ → Worker → Type 0
-IsPartyOf store w (AtWork r given) = IsAtWork store w given r
+IsPartyOf store w (AtWork r count) = IsAtWork store w count r
 IsPartyOf store w (Left ended) = HasEnded store w ended
 
 abbrev pub IsAtRound : Store → Rounds → Type 0

@@ -76,7 +76,9 @@ fn one_call<R: Wait + Abort>(
 }
 
 // What a worker left that has ended.
-fn left_by<R: Abort>(rt: &R, worker: Worker) -> Ended {
+fn left_by<R: Abort>(rt: &R, worker: Worker) -> Ended
+    ensures { worker ≡ Worker.Left result }
+{
     let Worker::Left(ended) = worker else {
         panic!(rt; "a worker has not ended")
     };
@@ -95,16 +97,20 @@ fn all_ended<R: Abort>(
     requires second { IfSome second (IsPartyOf store.now 2) }
     ensures { HaveEnded store.now result.items }
 {
-    let mut ended = vec![in alloc; left_by(rt, first)].expect(rt, "a list");
-    if let Some(second) = second {
-        ended.push(left_by(rt, second)).expect(rt, "a list");
-    }
-    assert!(rt; ended.len() == store.cells.len());
-    ended
+    let first = left_by(rt, first);
+    let Some(second) = second else {
+        assert!(rt; store.cells.len() == 1);
+        return vec![in alloc; first].expect(rt, "a list");
+    };
+    let second = left_by(rt, second);
+    assert!(rt; store.cells.len() == 2);
+    vec![in alloc; first, second].expect(rt, "a list")
 }
 
 // The flusher between two rounds.
-fn idle_flusher<R: Abort>(rt: &R, rounds: Rounds) -> Flusher {
+fn idle_flusher<R: Abort>(rt: &R, rounds: Rounds) -> Flusher
+    ensures { rounds ≡ Rounds.Between result }
+{
     let Rounds::Between(flusher) = rounds else {
         panic!(rt; "a round has not ended")
     };

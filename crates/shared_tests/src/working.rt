@@ -85,6 +85,19 @@ fn poll_alone<R: Wait + Abort>(desk: &Desk<'_, R>, recorder: &mut Recorder) -> b
     polled.turned
 }
 
+// Polls, applies the event that a line says, and tells what it came to.
+fn event_calls<R: Wait + Abort>(desk: &Desk<'_, R>, recorder: &mut Recorder, line: &str) -> String
+    requires own { recorder.old.of ≡ ids_of desk.now.store.now }
+    requires cell { HasItsCell desk.now.store.now recorder.old }
+    requires few { recorder.old.given < MAX_GIVEN }
+    ensures { WorksMore desk.now.store.now recorder.old recorder.new }
+{
+    let event = event_in(desk.rt, desk.alloc, line);
+    let answer = work_one(desk, recorder, &event.borrowed());
+    drop(event);
+    answer
+}
+
 /// The next call of a worker, and what it answered: a poll, the end, or an event with the poll before it.
 pub(crate) fn worker_calls<R: Wait + Abort>(
     desk: &Desk<'_, R>,
@@ -112,8 +125,7 @@ pub(crate) fn worker_calls<R: Wait + Abort>(
         }
         _ => {
             assert!(desk.rt; given < MAX_GIVEN);
-            let event = event_in(desk.rt, desk.alloc, words);
-            let answer = work_one(desk, &mut recorder, &event.borrowed());
+            let answer = event_calls(desk, &mut recorder, words);
             (Worker::AtWork(recorder, given + 1), answer)
         }
     }
