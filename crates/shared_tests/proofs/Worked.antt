@@ -1,5 +1,5 @@
 -- A recorder after a poll, and after an event behind it.
-use Rattle.std.proofs.Common.{◌≡◌, ℕ, suc, ◌+◌, ◌<◌, ◌≤◌, Option, Some, None, List, [], ◌∷◌, ◌++◌, ap, sym, ◌∙◌, subst, inl, inr}
+use Rattle.std.proofs.Common.{◌≡◌, ℕ, suc, ◌+◌, ◌<◌, ◌≤◌, Some, None, List, [], ◌∷◌, ◌++◌, ap, sym, ◌∙◌, subst, inl, inr}
 use Rattle.std.specs.Prelude.{Bool, true, false}
 use Rattle.std.specs.Bool.{MatchBool}
 use Rattle.std.proofs.lemmas.List.{map-append}
@@ -23,7 +23,7 @@ use Rattle.recorder.specs.Knowing.{RecorderKnown}
 use Rattle.recorder.specs.Calling.{Decided, Hits, Applies, PollsOnce}
 use Rattle.recorder.specs.Following.{HasFollowedAll}
 use Rattle.recorder.specs.Tied.{IsWorkerOf}
-use Rattle.shared_tests.specs.Parties.{IsAtWork, WorksOn, WorksMore}
+use Rattle.shared_tests.specs.Parties.{WorksOn, WorksMore}
 
 same_cell : (turned : Bool) (k k' : HalfKnown) → LooksAndTurns turned k k' → k'.cell.cell ≡ k.cell.cell
 same_cell true k k' (spare, none, is) = ap (λ (h : HalfKnown). h.cell.cell) is

@@ -1,5 +1,5 @@
 //! How a store is opened for a script.
-ghost use Rattle.std.specs.Prelude.{◌≡◌, ◌+◌, ◌≤◌, None, IsSome, IfSome};
+ghost use Rattle.std.specs.Prelude.{◌+◌, ◌≤◌, IsSome, IfSome};
 ghost use Rattle.std.specs.Vec.Iter.{into_iter_items};
 ghost use Rattle.stat_defs.specs.Configs.{IsConfig};
 ghost use Rattle.ledger.specs.Lists.{EachNumbered};

@@ -1,6 +1,5 @@
 //! The interpreter of a script: calls of a store's parties, one after another.
-ghost use Rattle.std.specs.Prelude.{◌≡◌, ◌≤◌, None, IfSome};
-ghost use Rattle.flusher.specs.Flusher.{IsFlusherOf};
+ghost use Rattle.std.specs.Prelude.{◌≡◌, ◌≤◌, IfSome};
 ghost use Rattle.store_closing.specs.Closes.{HaveEnded};
 ghost use Rattle.shared_tests.specs.Parties.{IsPartyOf, AreParties};
 
