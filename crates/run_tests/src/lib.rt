@@ -1,4 +1,5 @@
-//! Tests of runs of files in real threads: `gates` hold the threads up, and `rows` says what comes of it.
+//! Tests of runs of files in real threads: `gates` hold the threads up, `rows` says what comes of it, and `schedules`
+//! that the same comes of four workers' events in whatever order.
 #![tactic(auto)]
 
 #[cfg(test)]
@@ -9,3 +10,5 @@ mod pulls;
 mod rows;
 #[cfg(test)]
 mod runs;
+#[cfg(test)]
+mod schedules;
