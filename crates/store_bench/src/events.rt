@@ -34,12 +34,15 @@ fn is_local_name(name: &[u8]) -> bool
     has_name_bytes(name)
 }
 
-fn event_on(call: Call, name: &[u8], n: u32) -> EventRef<'_>
-    requires { IsLocalName name.now }
-    ensures { IsLawfulEvent (event_of result) }
+/// The event of a call on the metric of this name, where there may be one.
+pub(crate) fn event(call: Call, name: &[u8], n: u32) -> Option<EventRef<'_>>
+    ensures { IfSome result (λ event. IsLawfulEvent (event_of event)) }
 {
+    if !is_local_name(name) {
+        return None;
+    }
     let label = b"root".as_slice();
-    match call {
+    Some(match call {
         Call::Gauge => EventRef::Gauge {
             label,
             name,
@@ -53,15 +56,5 @@ fn event_on(call: Call, name: &[u8], n: u32) -> EventRef<'_>
             v: u64::from(n),
         },
         Call::Counter | Call::Poll | Call::Work => EventRef::Inc { label, name, n },
-    }
-}
-
-/// The event of a call on the metric of this name, where there may be one.
-pub(crate) fn event(call: Call, name: &[u8], n: u32) -> Option<EventRef<'_>>
-    ensures { IfSome result (λ event. IsLawfulEvent (event_of event)) }
-{
-    if !is_local_name(name) {
-        return None;
-    }
-    Some(event_on(call, name, n))
+    })
 }

@@ -1,5 +1,6 @@
 //! A worker of a store.
 ghost use Rattle.std.specs.Prelude.{All};
+ghost use Rattle.std.proofs.Props.{props};
 ghost use Rattle.stat_defs.specs.Borrowed.{event_of};
 ghost use Rattle.stat_defs.specs.Events.{IsLawfulEvent};
 ghost use Rattle.store_bench.specs.Held.{IsAtHand};
@@ -18,23 +19,18 @@ pub(crate) struct Party<'a> {
     recorder: Recorder,
     // The recorder was given no more events than these.
     given: u32,
-    ghost own: { IsAtHand store.now given recorder },
+    ghost own: { IsAtHand store.now given recorder } by { Prim.hlevel props },
 }
 
 impl Party<'_> {
     /// Applies the event of a call on the metric of this name, by what is held or by the book.
     pub(crate) fn tell<R: Wait + AllocGlobal>(&mut self, rt: &R, call: Call, name: &[u8], n: u32) {
-        if let Some(event) = event(call, name, n) {
-            self.apply(rt, &event);
-        }
-    }
-
-    fn apply<R: Wait + AllocGlobal>(&mut self, rt: &R, event: &EventRef<'_>)
-        requires { IsLawfulEvent (event_of event.now) }
-    {
+        let Some(event) = event(call, name, n) else {
+            return;
+        };
         if self.given < MAX_GIVEN {
             self.given += 1;
-            let _verdict = self.recorder.apply(rt, rt.alloc(), self.store, event);
+            let _verdict = self.recorder.apply(rt, rt.alloc(), self.store, &event);
         }
     }
 
