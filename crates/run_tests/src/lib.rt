@@ -1,8 +1,11 @@
-//! Tests of runs of files in real threads: `gates` hold the threads up, and `rows` says what comes of it.
+//! Tests of runs of files in real threads: `gates` hold the threads up, `rows` says what comes of it, and `hard_files`
+//! what comes of files that somebody made to be hard.
 #![tactic(auto)]
 
 #[cfg(test)]
 mod gates;
+#[cfg(test)]
+mod hard_files;
 #[cfg(test)]
 mod rows;
 #[cfg(test)]
