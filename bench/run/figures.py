@@ -5,6 +5,7 @@ PROGRAM is the built program. PLAIN is another one that takes `run|replay - FILE
 files, and the figures of PLAIN come beside, with the ratio. Instructions are counted by valgrind, as the difference of
 two files, so what a start and the first event of each name cost is left out. Times are the least of nine rounds.
 """
+import json
 import os
 import re
 import subprocess
@@ -99,6 +100,13 @@ def main():
         for name, files in (("the same 512 names", same[:4]), ("differing names", apart)):
             run, replay = least([[programs[0], verb, "-"] + files for verb in ("run", "replay")])
             print("4 files of %s, run beside replay: %s; %s; wall %.2f" % (name, told(run), told(replay), run[0] / replay[0]))
+        one, four = least([[programs[0], "run", "-"] + apart[:count] for count in (1, 4)])
+        print("4 files beside 1 of them: wall %.2f, user %.2f" % (four[0] / one[0], four[1] / one[1]))
+        paced = write(folder, "paced", [json.dumps({"stats_run": {"flushes": 64, "flush_every": 4 * FULL // 64, "reads": 64}})])
+        for name, files in (("the same 512 names", same[:4]), ("differing names", apart)):
+            none, many = least([[programs[0], "run", boot] + files for boot in ("-", paced)])
+            print("4 files of %s, 64 flushes and 64 readings: %s; beside none: wall %.2f, user %.2f"
+                  % (name, told(many), many[0] / none[0], many[1] / none[1]), flush=True)
     print("load %.1f" % os.getloadavg()[0])
 
 

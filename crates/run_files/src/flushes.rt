@@ -66,7 +66,7 @@ fn flush_one<R: Wait, G: Gate>(
     Ok(())
 }
 
-// So many flushes.
+// Flushes, one after another, up to their number.
 fn flush_rounds<R: Wait, G: Gate>(
     hall: &Hall<'_, R, G>,
     flusher: &mut Flusher,
@@ -83,7 +83,7 @@ fn flush_rounds<R: Wait, G: Gate>(
     Ok(records)
 }
 
-/// Makes so many flushes, each behind the gate. May wait. It ends without them where the run stops.
+/// Makes this number of flushes, each behind the gate. May wait. It returns without the rest where the run stops.
 pub(crate) fn flush_all<R: Wait, G: Gate>(
     hall: &Hall<'_, R, G>,
     mut flusher: Flusher,

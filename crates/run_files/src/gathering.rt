@@ -16,7 +16,7 @@ pub(crate) struct Gathered {
 }
 
 impl Gathered {
-    // Nothing yet, with room for so many workers.
+    // Nothing yet, with room for this number of workers.
     fn with_room(alloc: Global, workers: usize) -> Result<Gathered, NoMemory>
         ensures none { IfOk result (λ all. (all.verdicts.items ≡ []) × (all.ends.items ≡ []) × (all.ended.items ≡ [])) }
         ensures room { IfOk result (HasRoom workers) }

@@ -6,8 +6,8 @@ use std::sync::Wait;
 use std::sync::atomic::{AtomicBool, Ordering};
 use store_parts::Store;
 
-/// The runtime, the gate and the store; whether a thread wants memory, so that the others need not go on; and for each
-/// worker, in order, whether the gate was told that it is done.
+/// The runtime, the gate and the store; whether a thread is out of memory, so that the others need not go on; and for
+/// each worker, in order, whether the gate was told that it is done.
 #[derive(Drop)]
 pub(crate) struct Hall<'a, R: Wait, G: Gate> {
     pub(crate) rt: &'a R,
@@ -19,7 +19,7 @@ pub(crate) struct Hall<'a, R: Wait, G: Gate> {
 }
 
 impl<R: Wait, G: Gate> Hall<'_, R, G> {
-    // A thread wants memory.
+    // A thread is out of memory.
     pub(crate) fn stop_all(&self) {
         self.stop.store(true, Ordering::SeqCst);
     }

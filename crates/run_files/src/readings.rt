@@ -40,7 +40,7 @@ fn read_one<R: Wait, G: Gate>(
     Ok(())
 }
 
-// So many readings.
+// Readings, one after another, up to their number.
 fn read_rounds<R: Wait, G: Gate>(
     hall: &Hall<'_, R, G>,
     admin: &mut Admin,
@@ -57,7 +57,7 @@ fn read_rounds<R: Wait, G: Gate>(
     Ok(records)
 }
 
-/// Makes so many readings, each behind the gate. May wait. It ends without them where the run stops.
+/// Makes this number of readings, each behind the gate. May wait. It returns without the rest where the run stops.
 pub(crate) fn read_all<R: Wait, G: Gate>(
     hall: &Hall<'_, R, G>,
     mut admin: Admin,

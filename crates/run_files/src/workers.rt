@@ -12,7 +12,7 @@ use std::sync::Wait;
 use std::thread::{Threads, map_vec};
 use worker_run::{Job, Worked, work};
 
-/// Runs one worker to its end. Whatever comes, the gate is told that it is done; where it wants memory, the run stops.
+/// Runs one worker to its end. Whatever comes, the gate is told that it is done; without memory the run stops.
 pub(crate) fn work_told<R: Wait, G: Gate, S: Source + Drop>(
     hall: &Hall<'_, R, G>,
     job: Job<S>,
@@ -29,8 +29,8 @@ pub(crate) fn work_told<R: Wait, G: Gate, S: Source + Drop>(
     outcome
 }
 
-/// Runs the workers side by side, each in a thread of its own where one can be made. Where memory for the threads is
-/// wanting, the run stops, and the gate is told of the workers that were not started.
+/// Runs the workers side by side, each in a thread of its own where one can be made. Where there is no
+/// memory for the threads, the run stops, and the gate is told of the workers that were not started.
 pub(crate) fn work_all<R: Threads + Wait + Sync, G: Gate + Sync, S: Source + Drop + Send>(
     hall: &Hall<'_, R, G>,
     jobs: Vec<Job<S>>,

@@ -5,7 +5,7 @@ use std::sync::Wait;
 use std::sync::atomic::{AtomicBool, Ordering};
 use std::thread::yield_now;
 
-/// So many turns a gate waits for a thread.
+/// The maximum number of turns that a gate waits for a thread.
 const TURNS: u32 = 1_000_000;
 
 /// The turns that an event waits for a flush, which may itself be waiting for that event.

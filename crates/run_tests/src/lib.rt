@@ -7,6 +7,8 @@ mod gates;
 #[cfg(test)]
 mod hard_files;
 #[cfg(test)]
+mod pulls;
+#[cfg(test)]
 mod rows;
 #[cfg(test)]
 mod runs;

@@ -6,7 +6,7 @@ use name_map::HashKey;
 use run_files::{Setup, run_files};
 use run_gates::Gate;
 use stat_defs::{Config, FlushRecord, MetricId, Part, ReadRecord, Report};
-use stats_io::MemSource;
+use stats_io::{MemSource, Source};
 use std::alloc::Global;
 use std::process::Abort;
 use std::sync::Wait;
@@ -31,7 +31,7 @@ pub(crate) fn file_of(alloc: Global, lines: &str) -> Result<Given<MemSource>, Fa
     file_with_faults(alloc, lines, Vec::new(alloc))
 }
 
-/// A line so many times.
+/// A line, repeated this number of times.
 pub(crate) fn repeated(alloc: Global, line: &str, times: u32) -> Result<String, Fail> {
     let mut lines = String::new(alloc);
     for _ in 0..times {
@@ -41,12 +41,12 @@ pub(crate) fn repeated(alloc: Global, line: &str, times: u32) -> Result<String, 
 }
 
 /// The report of a run of these files, 1 to 32 of them, under the configuration of a bootstrap.
-pub(crate) fn run<R: Threads + Wait + Abort + Sync, G: Gate + Sync>(
+pub(crate) fn run<R: Threads + Wait + Abort + Sync, G: Gate + Sync, S: Source + Drop + Send>(
     rt: &R,
     alloc: Global,
     gate: &G,
     bootstrap: &str,
-    files: Vec<Given<MemSource>>,
+    files: Vec<Given<S>>,
 ) -> Result<Report, Fail> {
     let config = read(alloc, bootstrap.as_bytes())?;
     let report = run_with(rt, alloc, gate, &config, files);
@@ -54,12 +54,12 @@ pub(crate) fn run<R: Threads + Wait + Abort + Sync, G: Gate + Sync>(
     report
 }
 
-fn run_with<R: Threads + Wait + Abort + Sync, G: Gate + Sync>(
+fn run_with<R: Threads + Wait + Abort + Sync, G: Gate + Sync, S: Source + Drop + Send>(
     rt: &R,
     alloc: Global,
     gate: &G,
     config: &Config,
-    files: Vec<Given<MemSource>>,
+    files: Vec<Given<S>>,
 ) -> Result<Report, Fail>
     requires { IsConfig config.now }
 {
