@@ -291,7 +291,7 @@ def endless_bootstrap():
 
 def directory():
     os.mkdir("d")
-    return Case(["d", put("f", ["inc root a 1"])], 4, r"file 1: (not opened|read failed)\n",
+    return Case(["d", put("f", ["inc root a 1"])], 4, r"file 1: (not opened|read failed)\n", beside=(13, 13),
                 ends=lambda told: told == [(0, 0), (1, 0)])
 
 
