@@ -1,22 +1,35 @@
 /* Makes the call of one kind with one number fail: FAIL_KIND is alloc, open, read or write, FAIL_AT its number from 0.
-   It is loaded before the program (LD_PRELOAD), and counts from the first call after main's own set-up. */
+   It is loaded before the program (LD_PRELOAD), and counts from the first call after main's own set-up, those of all
+   threads together. Where FAIL_SEEN names a file, the file is made as the call fails. */
 #define _GNU_SOURCE
 #include <dlfcn.h>
 #include <errno.h>
 #include <fcntl.h>
 #include <stdarg.h>
+#include <stdatomic.h>
 #include <stdlib.h>
 #include <string.h>
 #include <sys/types.h>
 #include <unistd.h>
 
-static long counts[4];
+static atomic_long counts[4];
+
+static void tell(void) {
+    static int (*real)(const char *, int, mode_t);
+    const char *seen = getenv("FAIL_SEEN");
+    if (!seen) return;
+    if (!real) real = dlsym(RTLD_NEXT, "open");
+    int fd = real(seen, O_CREAT | O_WRONLY, 0600);
+    if (fd >= 0) close(fd);
+}
 
 static int fails(int kind, const char *name) {
     const char *asked = getenv("FAIL_KIND");
     const char *at = getenv("FAIL_AT");
     if (!asked || !at || strcmp(asked, name)) return 0;
-    return counts[kind]++ == atol(at);
+    if (atomic_fetch_add(&counts[kind], 1) != atol(at)) return 0;
+    tell();
+    return 1;
 }
 
 void *malloc(size_t size) {

@@ -11,6 +11,8 @@ ghost use Rattle.envoy_stats.specs.Running.{IsProgramCall};
 
 #[cfg(test)]
 mod example_texts;
+#[cfg(test)]
+mod failing_parts;
 mod laws;
 mod program;
 mod run;

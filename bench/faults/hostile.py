@@ -1,0 +1,453 @@
+#!/usr/bin/env python3
+"""hostile.py PROGRAM [CASE..]: files that somebody made to hurt the program.
+
+Makes the files of each case in a temporary folder and runs `replay` and `run` over them. It looks at the status, at
+standard error and at the end of the output, and prints the time and the peak of memory, beside those of ordinary files
+of the same sizes: half increments of 512 counters, a quarter values of 16 histograms, a quarter moves of a gauge, at
+most as many as a file may have. A case is wrong where the status or what was written is another one, where more than
+4 GB were in use, or where it took more than ten times as long as the ordinary files and no cause is known; times below
+a twentieth of a second count as that. Its own status is the number of cases that were wrong.
+
+Words behind PROGRAM are the names of the cases to run; all where there is none. It needs GNU time, and Linux.
+"""
+import json
+import os
+import random
+import re
+import subprocess
+import sys
+import tempfile
+import threading
+import time
+from pathlib import Path
+
+EVENTS = 131072  # events that a file may have
+BYTES = 8388608  # bytes that it may have
+BOOT_BYTES = 1048576  # bytes that a bootstrap may have
+METRICS = 16384  # metrics that a store makes
+MOST_MEMORY = 4 << 20  # kB
+LONGEST = 300  # seconds
+USUAL = "-"
+LETTERS = "abcdefghijklmnopqrstuvwxyz0123456789_"
+
+
+class Case:
+    """Words behind the command, and what is to come of them. `slow` is the cause that makes the case slower than an
+    ordinary one, where there is such; `beside` are the sizes of the ordinary files, or other files to compare with."""
+
+    def __init__(self, words, status=0, err="", ends=None, boot=USUAL, slow="", beside=None, feeds=(), out=None):
+        self.words, self.status, self.err, self.ends = words, status, err, ends
+        self.boot, self.slow, self.beside, self.feeds, self.out = boot, slow, beside, feeds, out
+
+
+def put(name, content):
+    """Writes a file of these lines or bytes, and gives its name."""
+    if not isinstance(content, bytes):
+        content = "".join(line + "\n" for line in content).encode()
+    Path(name).write_bytes(content)
+    return name
+
+
+def put_boot(name, boot):
+    return put(name, json.dumps(boot).encode())
+
+
+def ordinary(size, seed):
+    """Lines of about so many bytes."""
+    rng, lines, held = random.Random(seed), [], 0
+    while held < size and len(lines) < EVENTS:
+        kind, n = rng.randrange(4), rng.randrange(1000)
+        if kind < 2:
+            line = "inc root upstream_rq_total.%06d %d" % (rng.randrange(512), n)
+        elif kind == 2:
+            line = "rec root upstream_rq_time_%06d %d" % (rng.randrange(16), n * 97)
+        else:
+            line = "add root upstream_rq_active%05d acc %d" % (seed, n)
+        lines.append(line)
+        held += len(line) + 1
+    return lines
+
+
+def accepted(out):
+    """How many events each file had accepted, and how many dropped."""
+    return [tuple(map(int, m)) for m in re.findall(r"^# worker \d+: (\d+) accepted, (\d+) dropped$", out, re.M)]
+
+
+def once(program, words, out, feeds=()):
+    """Status, standard output's end, standard error, seconds and kB of one run."""
+    for feed in feeds:
+        threading.Thread(target=feed, daemon=True).start()
+    started = time.perf_counter()
+    command = ["/usr/bin/time", "-q", "-f", "%e %M", "-o", "figures", program] + words
+    with open(out or "out", "wb") as to, open("err", "wb") as err:
+        try:
+            status = subprocess.run(command, stdout=to, stderr=err, timeout=LONGEST).returncode
+        except subprocess.TimeoutExpired:
+            return -1, "", "not done after %d s" % LONGEST, LONGEST, 0
+    wall = time.perf_counter() - started
+    memory = int(Path("figures").read_text().split()[-1])
+    return status, "" if out else Path("out").read_text(errors="replace"), Path("err").read_text(), wall, memory
+
+
+def best(program, words, out=None, feeds=()):
+    """The same of the fastest of three runs, where one takes less than two seconds."""
+    told = once(program, words, out, feeds)
+    for _ in range(2):
+        if told[3] < 2:
+            told = min(told, once(program, words, out, feeds), key=lambda run: run[3])
+    return told
+
+
+ORDINARY = {}
+
+
+def beside(program, command, case):
+    """Seconds of ordinary files of the same sizes, or of the files that the case names."""
+    if isinstance(case.beside, list):
+        return best(program, [command, USUAL] + case.beside)[3]
+    sizes = case.beside or tuple(os.path.getsize(f) if os.path.isfile(f) else BYTES for f in case.words)
+    if (command, sizes) not in ORDINARY:
+        files = [put("ordinary%d" % at, ordinary(size, at)) for at, size in enumerate(sizes)]
+        ORDINARY[command, sizes] = best(program, [command, USUAL] + files)[3]
+    return ORDINARY[command, sizes]
+
+
+def faults_of(case, run, usual):
+    status, out, err, wall, memory = run
+    faults = []
+    if status != case.status:
+        faults.append("status %d, and not %d" % (status, case.status))
+    if not re.fullmatch(case.err, err):
+        faults.append("said %r" % err[-200:])
+    if memory > MOST_MEMORY:
+        faults.append("more than 4 GB")
+    if wall > 10 * max(usual, 0.05) and not case.slow:
+        faults.append("%.0f times the time of an ordinary one" % (wall / usual))
+    told = accepted(out)
+    if case.ends and not case.ends(told):
+        faults.append("ended with %r" % told[:4])
+    return faults
+
+
+def same_name(count, line):
+    return [put("f%d" % at, line) for at in range(1, count + 1)]
+
+
+# What follows are the cases: each makes its files, and gives them.
+
+def many_releases():
+    boot = put_boot("b", {"stats_run": {"scopes": [{"label": "s", "prefix": "p"}]}})
+    files = same_name(32, ["release s"])
+    return Case(files, boot=boot, ends=lambda told: sorted(told) == [(0, 1)] * 31 + [(1, 0)])
+
+
+def open_and_release():
+    files = same_name(32, ["open s p", "inc s a 1", "release s"] * 10000)
+    return Case(files, ends=lambda told: len(told) == 32 and all(a + d == 30000 for a, d in told),
+                slow="each event is one call of the book, under its lock, and each counter is made anew")
+
+
+def dots():
+    """16,384 names of 511 bytes with 255 dots, of tokens of one byte."""
+    prefix = ".".join("pqrstuvw" * 16)
+    tokens = [LETTERS[at % 16] for at in range(128)]
+    lines = []
+    for at in range(METRICS):
+        for place in range(4):
+            tokens[place * 37] = LETTERS[at >> 4 * place & 15] if place else LETTERS[16 + (at & 15)]
+        lines.append("inc s %s 1" % ".".join(tokens))
+    boot = put_boot("b", {"stats_run": {"scopes": [{"label": "s", "prefix": prefix}]}})
+    assert len(prefix) == 255 and len(lines[0]) == 255 + 8 and len(set(lines)) == METRICS
+    return Case([put("f", lines)], boot=boot, ends=lambda told: told == [(METRICS, 0)],
+                slow="a name's 256 numbers are stored for each metric, and the output has all names")
+
+
+def only_dots():
+    """Names of dots alone, the longest of 511 empty tokens and one."""
+    prefix = "." * 254 + "p"
+    lines = ["inc s %s 1" % ("." * at + "a") for at in range(255)] * 64
+    boot = put_boot("b", {"stats_run": {"scopes": [{"label": "s", "prefix": prefix}]}})
+    return Case([put("f", lines)], boot=boot, ends=lambda told: told == [(len(lines), 0)])
+
+
+def warm_histograms():
+    """1,024 histograms in each of 32 workers, with values of all sizes, and halves that turn."""
+    boot = put_boot("b", {"stats_run": {"flushes": 8, "flush_every": 262144}})
+    files = []
+    for worker in range(1, 33):
+        rng = random.Random(worker)
+        lines = ["rec root h%d %d" % (at % 1024, rng.randrange(1 << rng.randrange(1, 64))) for at in range(EVENTS)]
+        files.append(put("f%d" % worker, lines))
+    return Case(files, boot=boot, ends=lambda told: told == [(EVENTS, 0)] * 32)
+
+
+def churn():
+    """65,536 openings and releases beside 31 files whose names come and go with the scope."""
+    files = [put("f1", ["open s p", "release s"] * (EVENTS // 2))]
+    for worker in range(2, 33):
+        files.append(put("f%d" % worker, ("inc s n%d 1" % (at % 7) for at in range(EVENTS))))
+    return Case(files, ends=lambda told: told[0][0] + told[0][1] == EVENTS and len(told) == 32,
+                slow="each event is one call of the book, under its lock, and stands in its log")
+
+
+def rules_of(count, names):
+    """64 tag rules and 32 patterns of 1,024 bytes, each with a star in a star, and so many names of 511 bytes."""
+    rules, patterns = [], []
+    for at in range(64):
+        word = "%02d" % at
+        rules.append({"tag_name": "t" + word, "regex": ("((a*)*" + "(?:a*)*" * 144 + "b" + word).ljust(1023, "c") + ")"})
+    for at in range(32):
+        patterns.append({"safe_regex": {"regex": ("(?:a*)*" * 145 + "b%02d" % at).ljust(1024, "d")}})
+    config = {"use_all_default_tags": False, "stats_tags": rules,
+              "stats_matcher": {"exclusion_list": {"patterns": patterns}}}
+    scopes = [{"label": "s", "prefix": "a" * 255}]
+    boot = put_boot("b%d" % count, {"stats_config": config, "stats_run": {"scopes": scopes}})
+    lines = ["inc s %s%03d 1" % ("a" * 252, at) for at in range(names)]
+    return Case([put("f%d" % count, lines)], boot=boot, ends=lambda told: told == [(names, 0)],
+                slow="a search takes time in the length of the name and of the pattern, and each new name is searched "
+                     "by all 96; the bootstrap is the operator's own")
+
+
+def rules():
+    return rules_of(1, 8)
+
+
+def twice_the_names():
+    return rules_of(2, 16)
+
+
+def folded(a, b):
+    product = a * b
+    return product & (1 << 64) - 1 ^ product >> 64
+
+
+def fed(state, text):
+    """What the toolchain's hasher makes of a text, by its public definition."""
+    state, at, n = state + len(text) & (1 << 64) - 1, 0, len(text)
+    if n <= 8:
+        word = (int.from_bytes(text[:4], "little") | int.from_bytes(text[-4:], "little") << 32) if n >= 4 else \
+            text[0] | text[n // 2] << 8 | text[-1] << 16
+        return folded(state - n & (1 << 64) - 1 ^ word, FACTOR ^ 2 * n)
+    while n - at > 16:
+        first, second = (int.from_bytes(text[at + k:at + k + 8], "little") for k in (0, 8))
+        state, at = folded(first ^ state, second ^ FACTOR), at + 16
+    first, second = (int.from_bytes(text[k:k + 8], "little") for k in (n - 16, n - 8))
+    return folded(first ^ state, second ^ FACTOR)
+
+
+FACTOR, BEGUN = 0x9E3779B97F4A7C15, 0x243F6A8885A308D3
+
+
+def names_of_one_hash(before, count):
+    """Names of 32 bytes that all have one hash behind these texts, under the hasher without a key: their third word is
+    the state, so that the product is 0 whatever the fourth word is."""
+    state, rng = BEGUN, random.Random(1)
+    for text in before:
+        state = fed(state, text)
+    start = state + 32 & (1 << 64) - 1
+    while True:
+        front = bytes(rng.choice(LETTERS.encode()) for _ in range(16))
+        first, second = (int.from_bytes(front[k:k + 8], "little") for k in (0, 8))
+        word = folded(first ^ start, second ^ FACTOR).to_bytes(8, "little")
+        if all(0x21 <= b <= 0x7E and b not in b".:|" for b in word):
+            break
+    ends = ("".join(LETTERS[at // 37**k % 37] for k in range(8)) for at in range(count))
+    return [(front + word).decode() + end for end in ends]
+
+
+def one_hash():
+    """Names that all have one hash without a key: as the program's tables ask for them, behind a label, and alone."""
+    chosen = names_of_one_hash([b"root", b"\xff"], METRICS // 2) + names_of_one_hash([], METRICS // 2)
+    # The first byte of the third word is changed, and no two names have one hash.
+    plain = [name[:16] + ("a" if name[16] != "a" else "b") + name[17:] for name in chosen]
+    lines = lambda names: ["inc root %s 1" % name for name in names] * 4
+    return Case([put("f", lines(chosen))], beside=[put("plain", lines(plain))],
+                ends=lambda told: told == [(4 * METRICS, 0)])
+
+
+def fed_for_ever(name):
+    os.mkfifo(name)
+
+    def feed():
+        line = b"inc root a 1\n" * 4096
+        try:
+            with open(name, "wb", buffering=0) as to:
+                while True:
+                    to.write(line)
+        except BrokenPipeError:
+            pass
+    return feed
+
+
+def endless_pipe():
+    feed = fed_for_ever("p")
+    return Case(["p"], 3, r"file 1: too many events\n", ends=lambda told: told == [(EVENTS, 0)], feeds=[feed])
+
+
+def endless_bootstrap():
+    feed = fed_for_ever("b")
+    return Case([put("f", ["inc root a 1"])], 2, r"boot: too big\n", boot="b", feeds=[feed])
+
+
+def directory():
+    os.mkdir("d")
+    return Case(["d", put("f", ["inc root a 1"])], 4, r"file 1: (not opened|read failed)\n", beside=(13, 13),
+                ends=lambda told: told == [(0, 0), (1, 0)])
+
+
+def bootstrap_directory():
+    os.mkdir("d")
+    return Case([put("f", ["inc root a 1"])], 4, r"boot: read failed\n", boot="d")
+
+
+def zeros():
+    return Case(["/dev/zero", put("f", ["inc root a 1"])], 3, r"file 1 line 1: line too long\n", beside=(8192, 13),
+                ends=lambda told: told == [(0, 0), (1, 0)])
+
+
+def bootstrap_zeros():
+    return Case([put("f", ["inc root a 1"])], 2, r"boot: too big\n", boot="/dev/zero")
+
+
+def full_device():
+    return Case([put("f", ordinary(200000, 1))], 5, r"write failed\n", out="/dev/full")
+
+
+def most_events():
+    return Case([put("f", ["inc root a 1"] * EVENTS)], ends=lambda told: told == [(EVENTS, 0)])
+
+
+def an_event_too_many():
+    return Case([put("f", ["inc root a 1"] * (EVENTS + 1))], 3, r"file 1: too many events\n",
+                ends=lambda told: told == [(EVENTS, 0)])
+
+
+def most_bytes():
+    return Case([put("f", b"\n" * BYTES)], ends=lambda told: told == [(0, 0)])
+
+
+def a_byte_too_many():
+    return Case([put("f", b"\n" * (BYTES + 1))], 3, r"file 1: too big\n", ends=lambda told: told == [(0, 0)])
+
+
+def big_bootstrap():
+    return Case([put("f", ["inc root a 1"])], 2, r"boot: too big\n", boot=put("b", b"{}".ljust(BOOT_BYTES + 1)))
+
+
+def deep_bootstrap():
+    boot = put("b", (b"[" * (BOOT_BYTES // 2)).ljust(BOOT_BYTES, b"]"))
+    return Case([put("f", ["inc root a 1"])], 2, r"boot: not json\n", boot=boot)
+
+
+def longest_lines():
+    lines = ["#" * 1024, "inc %s %s 4294967295" % ("l" * 32, "n" * 255), "text root t %s" % ("t" * 1012)] * 4096
+    return Case([put("f", lines)], ends=lambda told: told == [(4096, 4096)])
+
+
+def a_line_too_long():
+    return Case([put("f", ["inc root a 1", "#" * 1025, "inc root a 1"])], 3, r"file 1 line 2: line too long\n",
+                ends=lambda told: told == [(1, 0)])
+
+
+def odd_bytes():
+    return Case([put("f", b"#\0\xff\ninc root a 1\ninc root \xff 1\n"), put("g", b"inc root a\0 1\n")], 3,
+                r"file 1 line 3: no event\nfile 2 line 1: no event\n", ends=lambda told: told == [(1, 0), (0, 0)])
+
+
+CASES = [many_releases, open_and_release, dots, only_dots, warm_histograms, churn, rules, twice_the_names, one_hash,
+         endless_pipe, endless_bootstrap, directory, bootstrap_directory, zeros, bootstrap_zeros, full_device,
+         most_events, an_event_too_many, most_bytes, a_byte_too_many, big_bootstrap, deep_bootstrap, longest_lines,
+         a_line_too_long, odd_bytes]
+
+
+def try_case(program, make):
+    """Makes the files of a case in a folder of its own, and runs both commands over them."""
+    wrong = 0
+    for command in ("replay", "run"):
+        with tempfile.TemporaryDirectory() as place:
+            os.chdir(place)
+            case = make()
+            usual = beside(program, command, case)
+            feeds = case.feeds
+            words = [command, case.boot] + case.words
+            run = once(program, words, case.out, feeds) if feeds else best(program, words, case.out)
+            faults = faults_of(case, run, usual)
+            os.chdir("/")
+        told = "; ".join(["WRONG: " + ", ".join(faults)] * bool(faults) + [case.slow] * bool(case.slow))
+        print("%-20s %-6s status %d, %7.3f s (ordinary %6.3f), %6.1f MB%s"
+              % (make.__name__, command, run[0], run[3], usual, run[4] / 1024, told and "; " + told), flush=True)
+        wrong += bool(faults)
+    return wrong
+
+
+def opened_by(process, path):
+    """Whether a process has the file open."""
+    folder = "/proc/%d/fd" % process.pid
+    try:
+        return any(os.path.realpath(os.path.join(folder, fd)) == path for fd in os.listdir(folder))
+    except OSError:
+        return False
+
+
+def replaced(program, command):
+    """A file is replaced by another one of its name while a second file, a pipe, holds the program up. What was opened
+    before is read to its end: a run opens its files first, and a replay one behind the other."""
+    with tempfile.TemporaryDirectory() as place:
+        os.chdir(place)
+        put("f", ["inc root old 1"] * 3)
+        put("new", ["inc root new 1"] * 5)
+        os.mkfifo("p")
+        process = subprocess.Popen([program, command, USUAL, "f", "p"], stdout=subprocess.PIPE, stderr=subprocess.PIPE)
+        patience = time.time() + 10
+        while command == "run" and not opened_by(process, os.path.join(place, "f")) and time.time() < patience:
+            time.sleep(0.01)
+        time.sleep(0.3)
+        os.rename("new", "f")
+        with open("p", "w") as to:
+            to.write("inc root p 1\n")
+        out, err = process.communicate(timeout=LONGEST)
+        os.chdir("/")
+    whole = b"# last\nenvoy.old:3|c\nenvoy.p:1|c\n# worker 1: 3 accepted, 0 dropped\n# worker 2: 1 accepted, 0 dropped\n"
+    right = process.returncode == 0 and err == b"" and out == whole
+    print("%-20s %-6s status %d%s" % ("replaced", command, process.returncode, "" if right else "; WRONG: %r" % out))
+    return not right
+
+
+def rewritten(program, command):
+    """A file is cut and written anew again and again while it is read: the program ends, with what a file may give."""
+    with tempfile.TemporaryDirectory() as place:
+        os.chdir(place)
+        lines = b"inc root a 1\n" * EVENTS
+        path, done = os.path.join(place, "f"), threading.Event()
+        put(path, lines)
+
+        def write():
+            while not done.is_set():
+                with open(path, "wb") as to:
+                    for at in range(0, len(lines), 65536):
+                        to.write(lines[at:at + 65536])
+        threading.Thread(target=write, daemon=True).start()
+        runs = [once(program, [command, USUAL, path], None) for _ in range(20)]
+        done.set()
+        time.sleep(0.1)
+        os.chdir("/")
+    said = re.compile(r"|file 1 line \d+: (no event|line too long)\n|file 1: too many events\n")
+    right = all(status in (0, 3) and said.fullmatch(err) and accepted(out) for status, out, err, _, _ in runs)
+    print("%-20s %-6s statuses %s, at most %.3f s%s" % ("rewritten", command, sorted({run[0] for run in runs}),
+                                                       max(run[3] for run in runs), "" if right else "; WRONG"))
+    return not right
+
+
+def main():
+    program, asked = os.path.abspath(sys.argv[1]), sys.argv[2:]
+    print("load %.1f of %d processors" % (os.getloadavg()[0], os.cpu_count()))
+    wrong = sum(try_case(program, make) for make in CASES if not asked or make.__name__ in asked)
+    for make in (replaced, rewritten):
+        if not asked or make.__name__ in asked:
+            wrong += make(program, "replay") + make(program, "run")
+    print("load %.1f; %d wrong" % (os.getloadavg()[0], wrong))
+    sys.exit(min(wrong, 100))
+
+
+if __name__ == "__main__":
+    main()

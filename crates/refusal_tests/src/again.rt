@@ -1,0 +1,155 @@
+//! Calls of a store's parties, each made once more where there was no memory.
+ghost use Rattle.std.specs.Prelude.{◌≡◌, ◌+◌, None, IsSome, All, IfOk, OnOk};
+ghost use Rattle.stat_defs.specs.Borrowed.{event_of};
+ghost use Rattle.stat_defs.specs.Events.{IsLawfulEvent};
+ghost use Rattle.flush_cells.specs.declared.passing.Pass.TheVariants.{Done};
+ghost use Rattle.flush_cells.specs.Cells.{IsNotHolding};
+ghost use Rattle.flush_cells.specs.Late.{pass_from};
+ghost use Rattle.admin_side.specs.Reader.{IsReaderOf};
+ghost use Rattle.flusher.specs.Flusher.{IsFlusherOf};
+ghost use Rattle.refusal_tests.specs.Standing.{MayBeGiven};
+
+use admin_side::Admin;
+use event_script::{Lines, Step, line_says_lawful_events};
+use flush_cells::Pass;
+use flusher::Flusher;
+use locked_book::Way;
+use recorder::Recorder;
+use stat_defs::{Event, EventRef, FlushRecord, NoMemory, ReadRecord, Verdict};
+use stats_io::SureSource;
+use std::alloc::Global;
+use std::sync::Wait;
+use std::test::Fail;
+use store_parts::Store;
+
+/// Where a party works: the runtime that may wait, and the store.
+#[derive(Drop)]
+pub(crate) struct Desk<'a, R: Wait> {
+    pub(crate) rt: &'a R,
+    pub(crate) alloc: Global,
+    pub(crate) store: &'a Store,
+}
+
+fn poll<R: Wait>(desk: &Desk<'_, R>, recorder: &mut Recorder, _more: u32) -> Result<(), NoMemory>
+    requires { MayBeGiven desk.now.store.now _more recorder.old }
+    ensures { MayBeGiven desk.now.store.now _more recorder.new }
+{
+    match recorder.poll(desk.rt, desk.alloc, desk.store) {
+        Ok(_) => Ok(()),
+        Err(NoMemory) => {
+            let _polled = recorder.poll(desk.rt, desk.alloc, desk.store)?;
+            Ok(())
+        }
+    }
+}
+
+fn apply<R: Wait>(
+    desk: &Desk<'_, R>,
+    recorder: &mut Recorder,
+    event: &EventRef<'_>,
+    _more: u32,
+) -> Result<Verdict, NoMemory>
+    requires given { MayBeGiven desk.now.store.now (_more + 2) recorder.old }
+    requires lawful { IsLawfulEvent (event_of event.now) }
+    ensures { IfOk result (λ _. MayBeGiven desk.now.store.now _more recorder.new) }
+{
+    match recorder.apply(desk.rt, desk.alloc, desk.store, event) {
+        Ok(verdict) => Ok(verdict),
+        Err(NoMemory) => recorder.apply(desk.rt, desk.alloc, desk.store, event),
+    }
+}
+
+// The event that a line says.
+fn event_in(alloc: Global, line: &str) -> Result<Event, Fail>
+    ensures { IfOk result IsLawfulEvent }
+{
+    line_says_lawful_events();
+    let source = SureSource::new(String::new(alloc), line.as_bytes().to_vec(alloc)?, 4096);
+    let mut lines = Lines::new(alloc, source)?;
+    match lines.next(alloc)? {
+        Step::Event(event) => Ok(event),
+        _ => Err("no event")?,
+    }
+}
+
+/// Polls, and applies the event that a line says.
+pub(crate) fn work<R: Wait>(
+    desk: &Desk<'_, R>,
+    recorder: &mut Recorder,
+    line: &str,
+    more: u32,
+) -> Result<Verdict, Fail>
+    requires { MayBeGiven desk.now.store.now (more + 2) recorder.old }
+    ensures { IfOk result (λ _. MayBeGiven desk.now.store.now more recorder.new) }
+{
+    let event = event_in(desk.alloc, line)?;
+    poll(desk, recorder, more + 2)?;
+    Ok(apply(desk, recorder, &event.borrowed(), more)?)
+}
+
+/// A reading.
+pub(crate) fn read<R: Wait>(desk: &Desk<'_, R>, admin: &mut Admin) -> Result<ReadRecord, NoMemory>
+    requires { IsReaderOf desk.now.store.now.book desk.now.store.now.counters desk.now.store.now.gauges admin.old }
+{
+    let Store {
+        book,
+        counters,
+        gauges,
+        cells: _,
+    } = desk.store;
+    let way = Way { rt: desk.rt, book };
+    match admin.read(&way, desk.alloc, counters, gauges) {
+        Ok(shown) => Ok(shown),
+        Err(NoMemory) => admin.read(&way, desk.alloc, counters, gauges),
+    }
+}
+
+fn begin<R: Wait>(desk: &Desk<'_, R>, flusher: &mut Flusher) -> Result<(), NoMemory>
+    requires { IsFlusherOf desk.now.store.now flusher.old × (flusher.old.round ≡ None) }
+    ensures { OnOk result (IsFlusherOf desk.now.store.now flusher.new × IsSome flusher.new.round) }
+{
+    match flusher.begin(desk.rt, desk.alloc, desk.store) {
+        Ok(()) => Ok(()),
+        Err(NoMemory) => flusher.begin(desk.rt, desk.alloc, desk.store),
+    }
+}
+
+fn pass<R: Wait>(desk: &Desk<'_, R>, flusher: &mut Flusher) -> Result<Pass, NoMemory>
+    requires { IsFlusherOf desk.now.store.now flusher.old × IsSome flusher.old.round }
+    ensures own { IfOk result (λ pass. IsFlusherOf desk.now.store.now flusher.new × IsSome flusher.new.round) }
+    ensures told { IfOk result (λ pass. pass ≡ pass_from 1 flusher.new.tokens) }
+    ensures none_held { OnOk result (All IsNotHolding flusher.new.tokens) }
+{
+    match flusher.pass(desk.alloc, desk.store) {
+        Ok(pass) => Ok(pass),
+        Err(NoMemory) => flusher.pass(desk.alloc, desk.store),
+    }
+}
+
+fn take<R: Wait>(desk: &Desk<'_, R>, flusher: &mut Flusher) -> Result<FlushRecord, NoMemory>
+    requires own { IsFlusherOf desk.now.store.now flusher.old × IsSome flusher.old.round }
+    requires done { (pass_from 1 flusher.old.tokens ≡ Done) × All IsNotHolding flusher.old.tokens }
+{
+    match flusher.flush(desk.alloc, desk.store) {
+        Ok(shown) => Ok(shown),
+        Err(NoMemory) => flusher.flush(desk.alloc, desk.store),
+    }
+}
+
+/// A flush, for which the worker gives its half.
+pub(crate) fn flush<R: Wait>(
+    desk: &Desk<'_, R>,
+    recorder: &mut Recorder,
+    flusher: &mut Flusher,
+    more: u32,
+) -> Result<FlushRecord, Fail>
+    requires worker { MayBeGiven desk.now.store.now more recorder.old }
+    requires flusher { IsFlusherOf desk.now.store.now flusher.old × (flusher.old.round ≡ None) }
+{
+    begin(desk, flusher)?;
+    poll(desk, recorder, more)?;
+    match pass(desk, flusher)? {
+        Pass::Done => Ok(take(desk, flusher)?),
+        Pass::Late(..) => Err("the half was not given")?,
+    }
+}

@@ -1,0 +1,126 @@
+//! Two scopes that share a counter, a histogram and a text.
+ghost use Rattle.std.specs.Prelude.{◌≡◌, None, IfOk};
+ghost use Rattle.admin_side.specs.Reader.{IsReaderOf};
+ghost use Rattle.flusher.specs.Flusher.{IsFlusherOf};
+ghost use Rattle.recorder.specs.declared.limits.TheConstants.{MAX_GIVEN};
+ghost use Rattle.refusal_tests.specs.Standing.{MayBeGiven};
+
+use crate::again::{Desk, flush, read, work};
+use crate::opening::{first_of, opened};
+use admin_side::Admin;
+use boot_file::read as read_boot;
+use flusher::Flusher;
+use recorder::Recorder;
+use stat_defs::{FlushRecord, MetricId, ReadRecord, ScopeId, Verdict};
+use std::sync::Wait;
+use std::test::Fail;
+use store_opening::Opened;
+
+const NO_TAGS: &[u8] = br#"{"stats_config":{"use_all_default_tags":false}}"#;
+
+// What came of it all.
+#[derive(Drop)]
+struct Told {
+    verdicts: [Verdict; 8],
+    reading: ReadRecord,
+    flush: FlushRecord,
+}
+
+// Eight events, a reading and a flush.
+fn calls<R: Wait>(
+    desk: &Desk<'_, R>,
+    recorder: &mut Recorder,
+    flusher: &mut Flusher,
+    admin: &mut Admin,
+) -> Result<Told, Fail>
+    requires worker { MayBeGiven desk.now.store.now MAX_GIVEN recorder.old }
+    requires flusher { IsFlusherOf desk.now.store.now flusher.old × (flusher.old.round ≡ None) }
+    requires reader { IsReaderOf desk.now.store.now.book desk.now.store.now.counters desk.now.store.now.gauges
+        admin.old }
+{
+    let first = work(desk, recorder, "open p cluster.c", 131_070)?;
+    let second = work(desk, recorder, "open q cluster.c.", 131_068)?;
+    let third = work(desk, recorder, "inc p n 1", 131_066)?;
+    let fourth = work(desk, recorder, "inc q n 2", 131_064)?;
+    let fifth = work(desk, recorder, "release p", 131_062)?;
+    let sixth = work(desk, recorder, "inc q n 4", 131_060)?;
+    let seventh = work(desk, recorder, "rec q h 7", 131_058)?;
+    let eighth = work(desk, recorder, "text q t x", 131_056)?;
+    let reading = read(desk, admin)?;
+    let flush = flush(desk, recorder, flusher, 131_056)?;
+    Ok(Told {
+        verdicts: [first, second, third, fourth, fifth, sixth, seventh, eighth],
+        reading,
+        flush,
+    })
+}
+
+const VERDICTS: [Verdict; 8] = [
+    Verdict::Opened(ScopeId(1)),
+    Verdict::Opened(ScopeId(2)),
+    Verdict::Accepted(MetricId(0)),
+    Verdict::Accepted(MetricId(0)),
+    Verdict::Released(ScopeId(1)),
+    Verdict::Accepted(MetricId(0)),
+    Verdict::Accepted(MetricId(1)),
+    Verdict::Accepted(MetricId(2)),
+];
+
+// Three openings, four finds, a release with its acknowledgement, and a text: what was refused left no entry, or the one
+// find that the same event would make again.
+const ENTRIES: u64 = 10;
+
+// The word of the one counter.
+fn word_in(reading: &ReadRecord) -> u64 {
+    match reading.counters.items() {
+        [counter] => counter.word,
+        _ => 0,
+    }
+}
+
+// The units of the one counter, and the values of the one histogram.
+fn sums_in(flush: &FlushRecord) -> (u64, u64) {
+    let units = match flush.deltas.items() {
+        [delta] => delta.n,
+        _ => 0,
+    };
+    let mut values = 0u64;
+    for part in flush.parts.items() {
+        for bin in part.bins.items() {
+            values = values.wrapping_add(bin.count);
+        }
+    }
+    (units, values)
+}
+
+#[test]
+fn goes_on_after_a_refusal(rt: HostRuntime) -> Result<(), Fail> {
+    let alloc = rt.alloc();
+    let config = read_boot(alloc, NO_TAGS)?;
+    let parties = opened(alloc, &config);
+    drop(config);
+    let Opened {
+        store,
+        recorders,
+        mut flusher,
+        mut admin,
+    } = parties?;
+    let Some(mut recorder) = first_of(&store, recorders) else {
+        return Err("no worker")?;
+    };
+    let desk = Desk {
+        rt: &rt,
+        alloc,
+        store: &store,
+    };
+    let told = calls(&desk, &mut recorder, &mut flusher, &mut admin);
+    drop(recorder);
+    drop(flusher);
+    drop(admin);
+    drop(store);
+    let told = told?;
+    assert!(rt; told.verdicts == VERDICTS);
+    assert!(rt; told.reading.at == ENTRIES && word_in(&told.reading) == 7);
+    assert!(rt; told.flush.at == ENTRIES && sums_in(&told.flush) == (7, 1));
+    Ok(())
+}
