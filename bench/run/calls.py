@@ -6,8 +6,8 @@ usage: bench/run/calls.py [ROUNDS]      at the top of the repository, with `carg
 
 Runs `store_bench` and the plain atomic adds of bench/words in turn. Times are the least of the rounds. A ratio is that of
 two measures of one round: the least of the rounds, and the median in brackets. Instructions of a call are the difference
-of two runs by the calls that one has more. The load of the machine before and after is told, since threads that other
-programs keep from their processors make every figure worse.
+of two runs by the calls that one has more, and so is its processor time, which tells more than the clock where other
+programs keep threads from their processors: the load of the machine before and after is told.
 """
 import os
 import re
@@ -24,6 +24,7 @@ TIMED, CALLS = 130, 8000
 KINDS = ("counter", "gauge", "histogram", "poll", "event")
 SHARED = "add, four threads on one counter"
 GOALS = {"counter": 45, "poll": 6}
+THREADS = {"counter": 1, "counter-2": 2, "counter-4": 4, "event-4": 4, "event-4-beside": 4}
 RATIOS = (
     ("two threads on two counters, to one", "counter-2", "counter", 1.2),
     ("four threads on four counters, to one", "counter-4", "counter", 1.2),
@@ -52,6 +53,16 @@ def instructions(kind, rounds):
     return int(re.search(rb"Collected : (\d+)", said).group(1))
 
 
+def processor(name):
+    """Nanoseconds of processor time of a call, of all threads of the run together."""
+    def used(rounds):
+        child = subprocess.Popen([str(OURS), str(rounds), name], stdout=subprocess.DEVNULL)
+        usage = os.wait4(child.pid, 0)[2]
+        child.returncode = 0
+        return usage.ru_utime + usage.ru_stime
+    return (used(TIMED) - used(2)) / ((TIMED - 2) * CALLS * THREADS[name]) * 1e9
+
+
 def told(goal, value):
     return "" if value <= goal else f"   above {goal}"
 
@@ -60,9 +71,10 @@ def main():
     rounds = int(sys.argv[1]) if len(sys.argv) > 1 else 9
     subprocess.run(["cargo", "build", "--release", "--quiet", "--offline"], cwd=TOP / "bench/words", check=True)
     before = os.getloadavg()[0]
-    runs = []
+    runs, spent = [], []
     for _ in range(rounds):
         runs.append(figures([str(OURS), str(TIMED)]) | plain_adds())
+        spent.append({name: processor(name) for name in THREADS})
     print(f"load {before:.1f} to {os.getloadavg()[0]:.1f}, {os.cpu_count()} processors, {rounds} rounds")
     for name in runs[0]:
         least = min(run[name] for run in runs)
@@ -70,6 +82,9 @@ def main():
     for name, ours, other, goal in RATIOS:
         each = [run[ours] / run[other] for run in runs]
         print(f"{name}: {min(each):.2f} ({statistics.median(each):.2f}){told(goal, min(each))}")
+    for name in THREADS:
+        each = [one[name] for one in spent]
+        print(f"processor time, {name}: {min(each):.2f} ({statistics.median(each):.2f}) ns")
     for kind in KINDS:
         count = (instructions(kind, 12) - instructions(kind, 2)) / (10 * CALLS)
         print(f"{kind}: {count:.0f} instructions{told(300, count)}")
