@@ -1,3 +1,4 @@
 pub mod RunShown
 pub mod RunCalls
 mod Table
+mod Causes

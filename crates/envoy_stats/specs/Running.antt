@@ -7,6 +7,7 @@ use Rattle.stats_commands.specs.Command.{Command, Run, command}
 use Rattle.stats_commands.specs.World.{World, Sight}
 use Rattle.stats_commands.specs.Outcome.{Reports, IsCall}
 use Rattle.stats_commands.specs.Statuses.{KeepsTable}
+use Rattle.stats_commands.specs.Flawless.{IsFlawless, IsDoneOrWants}
 
 module _ {K F S O E : Type 0} (see : Sight K F S O E) (before after : World K F O E) where
   -- the files were run, a worker a file, and the text of the report was written
@@ -27,3 +28,11 @@ ProgramKeepsTable {K} {F} {S} {O} {E} see = (before after : World K F O E) (word
     (report : Option Report)
     → IsProgramCall see before after words status report
     → KeepsTable see before after (command words) status report
+
+-- Nothing fails without a cause: a call of the program in which nothing went wrong has status 0, or 6.
+abbrev pub ProgramFailsByCause : {K F S O E : Type 0} → Sight K F S O E → Type 0
+ProgramFailsByCause {K} {F} {S} {O} {E} see = (before after : World K F O E) (words : List (List ℕ)) (status : ℕ)
+    (report : Option Report)
+    → IsProgramCall see before after words status report
+    → IsFlawless see before after (command words) report
+    → IsDoneOrWants status

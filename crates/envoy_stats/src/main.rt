@@ -22,7 +22,7 @@ mod run_rows;
 mod tests;
 
 pub use flush_view::flush_view;
-pub use laws::program_keeps_the_table;
+pub use laws::{program_fails_by_cause, program_keeps_the_table};
 use name_map::HashKey;
 pub use program::{envoy_stats, envoy_stats_with};
 use stats_commands::{NO_COMMAND, NO_MEMORY, OUT_OF_MEMORY, USAGE, say};

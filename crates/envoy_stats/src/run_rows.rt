@@ -1,10 +1,13 @@
 //! Rows of the command `run`. What depends on the schedule is not compared: sums, counts and what is written once a run
 //! is over do not.
+ghost use Rattle.std.specs.Prelude.{◌≤◌, IfOk};
+
 use crate::envoy_stats_with;
+use crate::example_texts::EDGE_JSON;
 use crate::tests::{Played, Wanted, assert_played, file_of, shelf_of, shelf_with, words_of};
 use name_map::HashKey;
-use stat_defs::{FlushRecord, MetricId, Report};
-use stats_io::{MemShelf, MemSink};
+use stat_defs::{FlushRecord, MetricId, Report, Verdict};
+use stats_io::{MemFile, MemShelf, MemSink};
 use std::alloc::Global;
 use std::process::Abort;
 use std::sync::Wait;
@@ -12,16 +15,15 @@ use std::test::Fail;
 use std::thread::Threads;
 use tag_rules::RegexMaker;
 
-// What a call of the program over that shelf comes to, with an output sink whose push of that number fails.
-fn run_over<R: Threads + Wait + Sync>(
+// What a call of the program over that shelf comes to, with that output sink.
+fn run_into<R: Threads + Wait + Sync>(
     rt: &R,
     alloc: Global,
     words: &str,
     mut shelf: MemShelf,
-    failing_push: u64,
+    mut out: MemSink,
 ) -> Result<Played, Fail> {
     let mut maker = RegexMaker::new(Vec::new(alloc));
-    let mut out = MemSink::new(alloc, 4000, 1, vec![in alloc; failing_push]?)?;
     let mut err = MemSink::new(alloc, 1000, 100, Vec::new(alloc))?;
     let words = words_of(alloc, words)?;
     let key = HashKey::of(7);
@@ -34,6 +36,18 @@ fn run_over<R: Threads + Wait + Sync>(
         err,
         shelf,
     })
+}
+
+// The same with a sink that takes a byte a push, and whose push of that number fails.
+fn run_over<R: Threads + Wait + Sync>(
+    rt: &R,
+    alloc: Global,
+    words: &str,
+    shelf: MemShelf,
+    failing_push: u64,
+) -> Result<Played, Fail> {
+    let out = MemSink::new(alloc, 4000, 1, vec![in alloc; failing_push]?)?;
+    run_into(rt, alloc, words, shelf, out)
 }
 
 // A call with its files, parted by `|`, the number of the pull that fails of each file, and what it comes to.
@@ -217,5 +231,117 @@ fn flushes_of_values(rt: HostRuntime) -> Result<(), Fail> {
         values = values.saturating_add(values_in(flush));
     }
     assert_eq!(rt; values, LINES);
+    Ok(())
+}
+
+// A thousand events: counters and a histogram of all workers, gauges of this one, and as every fifth event one whose
+// name the matcher does not admit.
+fn usual_lines(alloc: Global, worker: u32) -> Result<String, Fail> {
+    let mut lines = String::new(alloc);
+    for i in 0..200u32 {
+        let own = format!(in alloc; "set root worker{worker}.level{} acc {i}\n", i % 3)?;
+        let shared = format!(in alloc;
+            "inc web downstream_rq_{}xx {i}\nrec web rq_time_ms {}\ninc api upstream_rq_20{} 2\ninc api x{}.debug 1\n",
+            i % 5,
+            i.wrapping_mul(worker),
+            i % 7,
+            i % 2
+        )?;
+        lines.push_str(own.as_str())?;
+        lines.push_str(shared.as_str())?;
+    }
+    Ok(lines)
+}
+
+// The file of a worker.
+fn usual_file(alloc: Global, name: &str, worker: u32) -> Result<MemFile, Fail>
+    ensures { IfOk result (λ file. 1 ≤ file.piece) }
+{
+    let lines = usual_lines(alloc, worker)?;
+    file_of(alloc, name, lines.as_bytes(), 9_999)
+}
+
+// A proxy's bootstrap, with a matcher, tags, buckets and two scopes, and a file for each of four workers.
+fn usual_shelf(alloc: Global) -> Result<MemShelf, Fail> {
+    let boot = file_of(alloc, "b", EDGE_JSON.as_bytes(), 9_999)?;
+    let one = usual_file(alloc, "f1", 1)?;
+    let two = usual_file(alloc, "f2", 2)?;
+    let three = usual_file(alloc, "f3", 3)?;
+    let four = usual_file(alloc, "f4", 4)?;
+    let files = vec![in alloc; boot, one, two, three, four]?;
+    Ok(MemShelf::new(files, Vec::new(alloc)))
+}
+
+// What a command comes to over the four files in a format.
+fn usual_call<R: Threads + Wait + Sync>(
+    rt: &R,
+    alloc: Global,
+    command: &str,
+    format: &str,
+) -> Result<Played, Fail> {
+    let words = format!(in alloc; "{command} --format {format} b f1 f2 f3 f4")?;
+    let out = MemSink::new(alloc, 30_000, 30_000, Vec::new(alloc))?;
+    run_into(rt, alloc, words.as_str(), usual_shelf(alloc)?, out)
+}
+
+// Whether every fifth of a worker's thousand events was rejected, and every other one accepted.
+fn are_due(verdicts: &[Verdict]) -> bool {
+    let mut place = 0u64;
+    for verdict in verdicts {
+        place = place.wrapping_add(1);
+        let due = match verdict {
+            Verdict::Accepted(_) => place % 5 != 0,
+            Verdict::Rejected => place % 5 == 0,
+            _ => false,
+        };
+        if !due {
+            return false;
+        }
+    }
+    place == 1_000
+}
+
+// Whether one of the lines is this one.
+fn has_line(text: &[u8], wanted: &str) -> bool {
+    for line in text.split(|b| *b == b'\n') {
+        if line == wanted.as_bytes() {
+            return true;
+        }
+    }
+    false
+}
+
+// All that the matcher admits was accepted.
+fn assert_accepted(rt: &impl Abort, report: &Report) {
+    let verdicts = report.verdicts.items();
+    assert_eq!(rt; verdicts.len(), 4);
+    for of_worker in verdicts {
+        assert!(rt; are_due(of_worker.items()));
+    }
+}
+
+// The formats, and the line on the counter `cluster.api.upstream_rq_200` in each.
+const FORMATS: [(&str, &str); 3] = [
+    ("statsd", "edge.cluster.api.upstream_rq_200:232|c"),
+    (
+        "prom",
+        "envoy_cluster_upstream_rq{envoy_response_code=\"200\",envoy_cluster_name=\"api\",region=\"eu-1\"} 232",
+    ),
+    ("admin", "cluster.api.upstream_rq_200: 232"),
+];
+
+#[test]
+fn a_run_writes_what_a_replay_writes(rt: HostRuntime) -> Result<(), Fail> {
+    let alloc = rt.alloc();
+    for (format, line) in FORMATS {
+        let run = usual_call(&rt, alloc, "run", format)?;
+        let replay = usual_call(&rt, alloc, "replay", format)?;
+        assert_eq!(rt; run.outcome.status, 0, "{format}");
+        assert_eq!(rt; replay.outcome.status, 0, "{format}");
+        assert!(rt; run.out.bytes() == replay.out.bytes(), "{format}");
+        assert!(rt; has_line(run.out.bytes(), line), "{format}");
+        let report = run.outcome.report.ok_or("no report")?;
+        assert_accepted(&rt, &report);
+    }
     Ok(())
 }

@@ -1,6 +1,6 @@
 -- A store stays one of its configuration.
 use Rattle.std.proofs.Common.{◌≡◌, ℕ, zero, suc, ◌+◌, ◌-◌, ◌≤◌, ◌<◌, List, [], ◌∷◌, ◌++◌, map, length, get_or, All, length-append, refl, ap, sym, ◌∙◌, subst, arith}
-use Rattle.std.specs.List.{AllByRecursion}
+use Rattle.std.specs.List.{zip, AllByRecursion}
 use Rattle.std.specs.List.Sorted.{IsNonDecreasing}
 use Rattle.std.proofs.lemmas.List.{map-append}
 use Rattle.std.proofs.lemmas.List.Elements.{All-nil, All-cons, All-append, All-push, recursion_from_All}
@@ -14,11 +14,12 @@ use Rattle.stat_defs.specs.declared.history.Reply.TheVariants as reply
 use Rattle.stat_defs.specs.declared.history.Verdict.{Verdict}
 use Rattle.stat_defs.specs.declared.reports.FlushRecord.{FlushRecord}
 use Rattle.event_script.specs.Grammar.{IsLawful}
+use Rattle.ledger.specs.Work.{Work}
 use Rattle.ledger.proofs.WorkedParts.{none_falls}
 use Rattle.lone_worker.specs.declared.worker.TheConstants.{MAX_EVENTS}
 use Rattle.plain_store.specs.Store.{StoreHistory, new_store, Applied, Flushes}
 use Rattle.replay_report.specs.Applying.{AreApplied}
-use Rattle.replay_report.proofs.AppliedEvents.{one_applied}
+use Rattle.replay_report.proofs.AppliedEvents.{one_applied, zip_append}
 use Rattle.library_examples.specs.StoreOf.{IsStoreOf}
 
 abbrev pub place : FlushRecord → ℕ
@@ -49,7 +50,9 @@ module _ (config : Config) where
   made = record {
     configured = refl;
     one_worker = refl;
-    whole = refl;
+    decided_whole = refl;
+    counted = refl;
+    flushed_whole = refl;
     lawful = All-nil IsLawful;
     few = omega arith;
     a_verdict_each = refl;
@@ -63,7 +66,10 @@ module _ (config : Config) where
     events es vs lawful room are = subst (λ (s : StoreHistory). IsStoreOf config s) (sym are.applied) (record {
       configured = was.configured;
       one_worker = was.one_worker;
-      whole = was.whole;
+      decided_whole = was.decided_whole;
+      counted = ap (λ (work : Work). work ++ zip es vs) was.counted
+          ∙ sym (zip_append old.worker.events es old.worker.verdicts vs was.a_verdict_each);
+      flushed_whole = was.flushed_whole;
       lawful = All-append IsLawful old.worker.events es was.lawful lawful;
       few = (let long = length-append old.worker.events es in omega (arith, long, room));
       a_verdict_each = (
@@ -94,7 +100,9 @@ module _ (config : Config) where
         subst (λ (s : StoreHistory). IsStoreOf config s) (sym (flushes.rest ∙ ap with_book flushes.swept.1.logged)) (record {
           configured = was.configured;
           one_worker = was.one_worker;
-          whole = was.whole;
+          decided_whole = was.decided_whole;
+          counted = was.counted;
+          flushed_whole = was.flushed_whole;
           lawful = was.lawful;
           few = was.few;
           a_verdict_each = was.a_verdict_each;

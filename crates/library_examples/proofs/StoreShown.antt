@@ -1,5 +1,5 @@
 -- The report of a store that was finished can be shown.
-use Rattle.std.proofs.Common.{◌≡◌, ℕ, ◌≤◌, List, [], ◌∷◌, ◌++◌, map, length, append-nil, ap, sym, ◌∙◌, subst, arith}
+use Rattle.std.proofs.Common.{◌≡◌, ℕ, ◌≤◌, true, List, [], ◌∷◌, ◌++◌, map, length, append-nil, ap, sym, ◌∙◌, subst, arith}
 use Rattle.std.specs.List.{zip, flat_map, AllByRecursion}
 use Rattle.std.specs.List.Sorted.{IsNonDecreasing}
 use Rattle.std.proofs.lemmas.List.Elements.{recursion_from_All}
@@ -35,7 +35,7 @@ use Rattle.flush_view.proofs.Ends.{ends_of_workers}
 use Rattle.flush_view.proofs.InLog.{legal_with_ends}
 use Rattle.flush_view.proofs.Recorded.{LawfulWork, AreBounded, events_in_files}
 use Rattle.flush_view.proofs.Showable.{units, values, lawful}
-use Rattle.plain_store.specs.Store.{StoreHistory, work_in}
+use Rattle.plain_store.specs.Store.{StoreHistory, Accounts}
 use Rattle.library_examples.specs.StoreOf.{IsStoreOf, IsReportOfStore, StoresShow}
 use Rattle.library_examples.proofs.StoreKept.{place, rising_push, made, event, events, flushed as flush_kept}
 
@@ -76,7 +76,7 @@ module _ (store : StoreHistory) (report : Report) (is : IsStoreOf store.worker.b
   given = reported.given
 
   abbrev work : Work
-  work = work_in store
+  work = zip store.worker.events store.worker.verdicts
 
   bounded : AreBounded (events_in_files MAX_WORKERS) (work ∷ [])
   bounded = record {
@@ -97,18 +97,23 @@ module _ (store : StoreHistory) (report : Report) (is : IsStoreOf store.worker.b
           (subst (λ (vs : List Verdict). Follows plan.rules 1 1 store.worker.events vs report.log)
           (sym (zip_verdicts store.worker.events store.worker.verdicts is.a_verdict_each))
           (subst (λ (log : List Entry). Follows plan.rules 1 1 store.worker.events store.worker.verdicts log)
-          (sym reported.log) (reported.finished.follows is.whole))),
+          (sym reported.log) (reported.finished.follows is.decided_whole))),
       tt,
     );
   }
 
   account : Account plan (work ∷ []) report
   account =
-      let shown = reported.finished.accounts is.whole in
+      let counted : store.counted ≡ work = is.counted in
+      let shown : Accounts (record store { counted = work }) given.log true given.last =
+      subst (λ (w : Work). Accounts (record store { counted = w }) given.log true given.last) counted
+      (reported.finished.accounts is.flushed_whole) in
       record {
         flushes = subst (λ (fs : List FlushRecord). FitAll plan.rules report.log (work ∷ []) fs) (sym reported.flushes)
             (subst (λ (l : List Entry). FitAll plan.rules l (work ∷ []) (store.flushes ++ given.last ∷ []))
-            (sym reported.log) (reported.finished.all_fit is.whole));
+            (sym reported.log)
+            (subst (λ (w : Work). FitAll plan.rules given.log (w ∷ []) (store.flushes ++ given.last ∷ [])) counted
+            (reported.finished.all_fit is.flushed_whole)));
         units = subst (λ (fs : List FlushRecord). AllByRecursion (λ id. flushed id.0 fs ≡ units_of id.0 (work ∷ []))
             (ids_made Counter (replay plan.rules 1 report.log))) (sym reported.flushes)
             (of_all (ids_made Counter (replay plan.rules 1 report.log)) shown.units);

@@ -1,5 +1,6 @@
 -- A store of a configuration between its calls, and the report of its flushes. This project's own.
 use Rattle.std.specs.Prelude.{◌≡◌, ◌≤◌, ◌<◌, ◌+◌, true, List, [], ◌∷◌, ◌++◌, length, map, All}
+use Rattle.std.specs.List.{zip}
 use Rattle.std.specs.List.Sorted.{IsNonDecreasing}
 use Rattle.stat_defs.specs.Configs.{IsConfig}
 use Rattle.stat_defs.specs.declared.configs.Config.{Config}
@@ -14,12 +15,14 @@ use Rattle.flush_view.specs.Showing.{IsShowable}
 use Rattle.plain_store.specs.Store.{StoreHistory, new_store, Applied, Flushes, Finishes}
 use Rattle.replay_report.specs.Applying.{AreApplied}
 
--- A store of this configuration, none of whose calls was cut short by want of memory. Its events are lawful, and its
--- flushes stand in the order of their sweeps.
+-- A store of this configuration, none of whose calls was cut short by want of memory: each event that was decided was
+-- counted. Its events are lawful, and its flushes stand in the order of their sweeps.
 pub record IsStoreOf (config : Config) (store : StoreHistory) : Type 0 where
   pub configured : store.worker.book.config ≡ config
   pub one_worker : store.worker.book.workers ≡ 1
-  pub whole : store.whole ≡ true
+  pub decided_whole : store.worker.whole ≡ true
+  pub counted : store.counted ≡ zip store.worker.events store.worker.verdicts
+  pub flushed_whole : store.whole ≡ true
   pub lawful : All IsLawful store.worker.events
   pub few : length store.worker.events ≤ MAX_EVENTS
   pub a_verdict_each : length store.worker.verdicts ≡ length store.worker.events

@@ -1,5 +1,5 @@
 -- What the code of every seat says of a seat on a book of its own.
-use Rattle.std.proofs.Common.{◌≡◌, ℕ, ◌==◌, ◌&&◌, inl, inr, ◌<◌, Bool, true, false, cond, List, [], ◌∷◌, filter, refl, ap, sym, ◌∙◌, subst, arith}
+use Rattle.std.proofs.Common.{◌≡◌, ℕ, ◌==◌, ◌&&◌, inl, inr, ◌<◌, Bool, true, false, cond, List, [], ◌∷◌, ◌++◌, filter, refl, ap, sym, ◌∙◌, subst, arith}
 use Rattle.std.specs.List.{list_all}
 use Rattle.std.proofs.lemmas.List.{append_cancel_left}
 use Rattle.stat_defs.specs.Books.{BookHistory}
@@ -21,7 +21,7 @@ use Rattle.book_seat.specs.Polling.{Polls, PollsInVain, AcksIfDue}
 use Rattle.book_seat.proofs.EntryLemmas.{grows_map, grows_then}
 use Rattle.book_seat.proofs.Followed.{event_applies}
 use Rattle.lone_worker.specs.Seats.{StaysAlone, AppliesAlone, CutsAlone}
-use Rattle.lone_worker.specs.Entries.{Adds}
+use Rattle.lone_worker.specs.Entries.{Adds, IsLeftOf}
 
 abbrev known : OwnedBook → LogKnown
 known o = owned_known o.number o.book
@@ -59,9 +59,9 @@ module _ (a b : OwnedBook) (one : a.number ≡ 1) where
   pub works_own : Works (state_of a.book) 1 → WorksUnder (known a)
   works_own works = subst (λ (k : ℕ). Works (state_of a.book) k) (sym one) works
 
-  pub vain_own : PollsInVain (known a) (known b) → CutsAlone a b
-  vain_own vain = record {
-    left = adds_own (λ made. Unit {0}) (grows_map (known a) (known b) MakesNothing (λ made. Unit {0}) (λ made none. tt) vain.left);
+  pub vain_own : (e : Event) → PollsInVain (known a) (known b) → CutsAlone e a b
+  vain_own e vain = record {
+    left = adds_own (IsLeftOf e) (grows_map (known a) (known b) MakesNothing (IsLeftOf e) (λ made none. inl (inl none)) vain.left);
     stays = stays_own 0 MakesNothing vain.left vain.stays;
   }
 
@@ -71,10 +71,13 @@ adds_map a b A B to adds = record { more = adds.more; logged = adds.logged; mine
 stays_then : (n : ℕ) (p m q : LogKnown) → StaysAtWork 0 p m → StaysAtWork n m q → StaysAtWork n p q
 stays_then n p m q first second = record { works = second.works; legal = second.legal; opened = (let few = first.opened in let more = second.opened in omega (arith, few, more)) }
 
-grows_any : (p m : LogKnown) → AcksIfDue p m → Grows p (λ made. Unit {0}) m
-grows_any p m acks = elim acks [
-  | inl none ↦ grows_map p m MakesNothing (λ made. Unit {0}) (λ made nil. tt) none.1
-  | inr ack ↦ grows_map p m _ (λ made. Unit {0}) (λ made one. tt) ack
+-- what is left of an event that was cut short behind its poll
+left_grows : (e : Event) (p m q : LogKnown) → AcksIfDue p m → Grows m (IsCutOff e) q → Grows p (IsLeftOf e) q
+left_grows e p m q acks cut = elim acks [
+  | inl none ↦ grows_then p m q MakesNothing (IsCutOff e) (IsLeftOf e)
+      (λ first second nil left. inl (subst (λ (l : List Own). IsCutOff e (l ++ second)) (sym nil) left)) none.1 cut
+  | inr ack ↦ grows_then p m q _ (IsCutOff e) (IsLeftOf e)
+      (λ first second one left. inr (one.0, second, ap (λ (l : List Own). l ++ second) one.1, one.2, left)) ack cut
 ]
 
 -- an event behind a poll
@@ -89,10 +92,10 @@ module _ (a m b : OwnedBook) (one : a.number ≡ 1) (acked : Bool) (polls : Poll
         stays = stays_own a b one 1 _ g (stays_then 1 (known a) (known m) (known b) polls.stays decides.stays);
       }
 
-  pub cuts_own : (e : Event) → CutsEvent e (known m) (known b) → CutsAlone a b
+  pub cuts_own : (e : Event) → CutsEvent e (known m) (known b) → CutsAlone e a b
   cuts_own e cuts =
-      let g = grows_then (known a) (known m) (known b) (λ made. Unit {0}) (IsCutOff e) (λ made. Unit {0}) (λ first second x y. tt) (grows_any (known a) (known m) polls.due) cuts.left in
-      record { left = adds_own a b one (λ made. Unit {0}) g; stays = stays_own a b one 0 (λ made. Unit {0}) g (stays_then 0 (known a) (known m) (known b) polls.stays cuts.stays) }
+      let g = left_grows e (known a) (known m) (known b) polls.due cuts.left in
+      record { left = adds_own a b one (IsLeftOf e) g; stays = stays_own a b one 0 (IsLeftOf e) g (stays_then 0 (known a) (known m) (known b) polls.stays cuts.stays) }
 
   pub room_own : openings_by 1 a.book.log < MAX_OPENINGS → opened (known m) < MAX_OPENINGS
   room_own few =

@@ -1,13 +1,12 @@
 -- What the seat of a lone worker, seat 1, leaves of its book. This project's own.
-use Rattle.std.specs.Prelude.{◌≡◌, ◌≤◌, ◌+◌, ℕ, List}
+use Rattle.std.specs.Prelude.{◌≡◌, ◌≤◌, ◌+◌, ℕ}
 use Rattle.stat_defs.specs.declared.events.Event.{Event}
 use Rattle.stat_defs.specs.declared.history.Verdict.{Verdict}
-use Rattle.book_state.specs.Follows.{Own}
 use Rattle.book_state.specs.Step.{Works}
 use Rattle.stat_book.specs.Calls.{state_of, openings_by}
 use Rattle.book_access.specs.declared.owned.OwnedBook.{OwnedBook}
 use Rattle.book_seat.specs.Naming.{NamesOwn}
-use Rattle.lone_worker.specs.Entries.{Adds, Applies}
+use Rattle.lone_worker.specs.Entries.{Adds, IsLeftOf, Applies}
 
 -- it is the same seat, it works, and it asked to open no more than this number of scopes
 pub record StaysAlone (scopes : ℕ) (old new : OwnedBook) : Type 0 where
@@ -22,6 +21,6 @@ pub record AppliesAlone (e : Event) (v : Verdict) (old new : OwnedBook) : Type 0
   pub stays : StaysAlone 1 old new
 
 -- an event was cut short by want of memory
-pub record CutsAlone (old new : OwnedBook) : Type 0 where
-  pub left : Adds old.book (λ (made : List Own). Unit {0}) new.book
+pub record CutsAlone (e : Event) (old new : OwnedBook) : Type 0 where
+  pub left : Adds old.book (IsLeftOf e) new.book
   pub stays : StaysAlone 0 old new

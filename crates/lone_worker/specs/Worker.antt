@@ -4,9 +4,9 @@ use Rattle.stat_defs.specs.Books.{BookHistory}
 use Rattle.stat_defs.specs.declared.configs.Config.{Config}
 use Rattle.stat_defs.specs.declared.events.Event.{Event}
 use Rattle.stat_defs.specs.declared.history.Verdict.{Verdict}
-use Rattle.book_state.specs.Follows.{Own, FollowsSoFar, Follows}
+use Rattle.book_state.specs.Follows.{FollowsSoFar, Follows}
 use Rattle.stat_book.specs.Calls.{rules_of, new_book}
-use Rattle.lone_worker.specs.Entries.{Adds, Applies}
+use Rattle.lone_worker.specs.Entries.{Adds, IsLeftOf, Applies}
 
 -- its book; the events that it decided, with their verdicts; whether its seat has ended; and whether each entry of its
 -- seat is one of these events, since no event was cut short by want of memory
@@ -31,7 +31,8 @@ pub record Decides (old : WorkerHistory) (e : Event) (v : Verdict) (new : Worker
   pub added : Applies old.book e v new.book
   pub decided : new ≡ record old { book = new.book; events = old.events ++ e ∷ []; verdicts = old.verdicts ++ v ∷ [] }
 
--- an event was cut short by want of memory: entries of the seat may stand behind the log as it was
-pub record IsCutShort (old new : WorkerHistory) : Type 0 where
-  pub left : Adds old.book (λ (made : List Own). Unit {0}) new.book
+-- an event was cut short by want of memory: behind the log as it was may stand what is left of the event, and nothing
+-- else of the worker has changed
+pub record IsCutShort (old : WorkerHistory) (e : Event) (new : WorkerHistory) : Type 0 where
+  pub left : Adds old.book (IsLeftOf e) new.book
   pub cut : new ≡ record old { book = new.book; whole = false }

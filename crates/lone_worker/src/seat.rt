@@ -27,7 +27,7 @@ pub(crate) fn apply(
     requires lawful { IsLawfulEvent (event_of event.now) }
     requires room { openings_by 1 seat.old.book.log < MAX_OPENINGS }
     ensures applied { IfOk result (λ verdict. AppliesAlone (event_of event.now) verdict seat.old seat.new) }
-    ensures err { OnErr result (CutsAlone seat.old seat.new) }
+    ensures err { OnErr result (CutsAlone (event_of event.now) seat.old seat.new) }
 {
     seat.poll(&(), alloc)?;
     seat.decide(&(), alloc, event)

@@ -110,7 +110,7 @@ impl LoneWorker {
         requires works { self.old.ended ≡ false }
         ensures ok { IfOk result (λ verdict. Decides self.old event.now verdict self.new) }
         ensures named { IfOk result (λ verdict. NamesOwn (state_of self.new.book) event.now verdict) }
-        ensures err { OnErr result (IsCutShort self.old self.new) }
+        ensures err { OnErr result (IsCutShort self.old event.now self.new) }
     {
         self.decide_ref(alloc, &event.borrowed())
     }
@@ -123,7 +123,7 @@ impl LoneWorker {
         requires works { self.old.ended ≡ false }
         ensures ok { IfOk result (λ verdict. Decides self.old (event_of event.now) verdict self.new) }
         ensures named { IfOk result (λ verdict. NamesOwn (state_of self.new.book) (event_of event.now) verdict) }
-        ensures err { OnErr result (IsCutShort self.old self.new) }
+        ensures err { OnErr result (IsCutShort self.old (event_of event.now) self.new) }
     {
         let whole = self.whole;
         self.whole = false;

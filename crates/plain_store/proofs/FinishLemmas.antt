@@ -29,7 +29,7 @@ use Rattle.ledger.proofs.PartLists.{all}
 use Rattle.ledger.proofs.FlushesFit.{all_entries, all_last}
 use Rattle.plain_store.specs.declared.sums.Sums.{Sums}
 use Rattle.plain_store.specs.Sums.{number_at, is_of_kind, as_id, delta_in, Shows, SweepsLast, EndsWith}
-use Rattle.plain_store.specs.Store.{StoreHistory, work_in, Accounts, Finishes}
+use Rattle.plain_store.specs.Store.{StoreHistory, Accounts, Finishes}
 use Rattle.plain_store.specs.StoreKept.{is_counter_there, AreOfWork}
 use Rattle.plain_store.proofs.CountersStay.{there_row}
 use Rattle.plain_store.proofs.FlushLemmas.{swept_kind, parts_left}
@@ -39,15 +39,14 @@ use Rattle.plain_store.proofs.Listed.{delta_ids, reading_ids, reading_words}
 pub ended_of_work : (old : StoreHistory) (mid : BookHistory) (sums : Sums) → Logged old.worker.book 1 call.End reply.Ended mid → AreOfWork old sums
     → AreOfWork (record old { worker = record old.worker { book = mid; ended = true } }) sums
 ended_of_work old mid sums l was = record {
-  worker = was.worker;
   units = was.units;
   none_elsewhere = λ id none. was.none_elsewhere id (ap (λ (s : State). is_counter_there s id) (sym l.step.after) ∙ none);
   words = was.words;
   left = was.left;
   none_merged = was.none_merged;
   takes_less = was.takes_less;
-  fit = subst (λ (b : BookHistory). FitSoFar (rules_of b) b.log (work_in old ∷ []) old.flushes) (sym l.logged)
-      (all_entries (rules_of old.worker.book) old.worker.book.log (record { seat = 1; call = call.End; reply = reply.Ended } ∷ []) (work_in old ∷ []) old.flushes was.fit);
+  fit = subst (λ (b : BookHistory). FitSoFar (rules_of b) b.log (old.counted ∷ []) old.flushes) (sym l.logged)
+      (all_entries (rules_of old.worker.book) old.worker.book.log (record { seat = 1; call = call.End; reply = reply.Ended } ∷ []) (old.counted ∷ []) old.flushes was.fit);
 }
 
 module _ (old : StoreHistory) (book : BookHistory) (n : ℕ) (swept : Logged old.worker.book 0 call.Sweep (reply.Swept n) book)
@@ -58,7 +57,7 @@ module _ (old : StoreHistory) (book : BookHistory) (n : ℕ) (swept : Logged old
   s = state_of old.worker.book
 
   abbrev left : List (ℕ × ℕ)
-  left = left_over 1 (work_in old) old.flushes
+  left = left_over 1 old.counted old.flushes
 
   abbrev entry : Entry
   entry = record { seat = 0; call = call.Sweep; reply = reply.Swept n }
@@ -82,7 +81,7 @@ module _ (old : StoreHistory) (book : BookHistory) (n : ℕ) (swept : Logged old
   shown_units id true is = refl
   shown_units id false is = sym (was.none_elsewhere id (not_made id is))
 
-  units_now : (id : ℕ) → flushed id (old.flushes ++ flush ∷ []) ≡ units_of id (work_in old ∷ [])
+  units_now : (id : ℕ) → flushed id (old.flushes ++ flush ∷ []) ≡ units_of id (old.counted ∷ [])
   units_now id =
       let more = units_flush id old.flushes flush in
       let shown = deltas (λ m. same_kind m.kind Counter) (metrics_of (state_of book)) (number_at before.deltas.items) flush id shows.deltas in
@@ -105,14 +104,14 @@ module _ (old : StoreHistory) (book : BookHistory) (n : ℕ) (swept : Logged old
   last_accounts = record {
     fits = fits_now;
     units = units_now;
-    words = subst (All (λ (reading : Reading). reading.word ≡ gauge_word reading.id.0 (work_in old))) (sym shows.gauges)
-        (reading_words before.words.items (λ id. gauge_word id (work_in old)) was.words (ids_not_gone Gauge s));
+    words = subst (All (λ (reading : Reading). reading.word ≡ gauge_word reading.id.0 old.counted)) (sym shows.gauges)
+        (reading_words before.words.items (λ id. gauge_word id old.counted) was.words (ids_not_gone Gauge s));
   }
 
-  pub last_fit : FitAll (rules_of old.worker.book) (old.worker.book.log ++ entry ∷ []) (work_in old ∷ []) (old.flushes ++ flush ∷ [])
-  last_fit = all_last (rules_of old.worker.book) (old.worker.book.log ++ entry ∷ []) (work_in old ∷ []) old.flushes flush
-      (all_entries (rules_of old.worker.book) old.worker.book.log (entry ∷ []) (work_in old ∷ []) old.flushes was.fit)
-      (subst (λ (segs : List (List (ℕ × ℕ))). Fits (rules_of old.worker.book) (old.worker.book.log ++ entry ∷ []) true segs flush) (sym (all (work_in old) old.flushes flush parts_of)) fits_now)
+  pub last_fit : FitAll (rules_of old.worker.book) (old.worker.book.log ++ entry ∷ []) (old.counted ∷ []) (old.flushes ++ flush ∷ [])
+  last_fit = all_last (rules_of old.worker.book) (old.worker.book.log ++ entry ∷ []) (old.counted ∷ []) old.flushes flush
+      (all_entries (rules_of old.worker.book) old.worker.book.log (entry ∷ []) (old.counted ∷ []) old.flushes was.fit)
+      (subst (λ (segs : List (List (ℕ × ℕ))). Fits (rules_of old.worker.book) (old.worker.book.log ++ entry ∷ []) true segs flush) (sym (all old.counted old.flushes flush parts_of)) fits_now)
 
 -- the end of the seat, the last sweep and its record
 module _ (old : StoreHistory) (mid new : BookHistory) (worker : WorkerHistory) (sums : Sums) (flush : FlushRecord) (at : ℕ) (log : List Entry)
@@ -147,8 +146,8 @@ module _ (old : StoreHistory) (mid new : BookHistory) (worker : WorkerHistory) (
   accounts whole =
       let at_last = last_accounts at_end new sweeps.gone sweeps.swept one sums flush shows (was whole) in
       record {
-        fits = subst (λ (rules : NameRules). Fits rules log true (left_over 1 (work_in old) old.flushes ∷ []) flush) same_rules
-            (subst (λ (l : List Entry). Fits (rules_of mid) l true (left_over 1 (work_in old) old.flushes ∷ []) flush) (sym whole_log) at_last.fits);
+        fits = subst (λ (rules : NameRules). Fits rules log true (left_over 1 old.counted old.flushes ∷ []) flush) same_rules
+            (subst (λ (l : List Entry). Fits (rules_of mid) l true (left_over 1 old.counted old.flushes ∷ []) flush) (sym whole_log) at_last.fits);
         units = at_last.units;
         words = at_last.words;
       }
@@ -159,12 +158,12 @@ module _ (old : StoreHistory) (mid new : BookHistory) (worker : WorkerHistory) (
     swept = (sweeps.gone, whole_log ∙ ap (λ (b : BookHistory). b.log ++ sweep ∷ []) ended.logged);
     legal = subst (λ (b : BookHistory). IsLegal b) new_is legal;
     follows = λ whole.
-        let follows = subst (λ (w : WorkerHistory). IsFollowed w) worker_is (followed (ap (λ (w : WorkerHistory). w.whole) worker_is ∙ (exact whole).worker)) in
+        let follows = subst (λ (w : WorkerHistory). IsFollowed w) worker_is (followed (ap (λ (w : WorkerHistory). w.whole) worker_is ∙ whole)) in
         subst (λ (b : BookHistory). Follows (rules_of b) 1 1 old.worker.events old.worker.verdicts b.log) new_is follows;
     accounts = accounts;
     all_fit = λ whole.
-        subst (λ (rules : NameRules). FitAll rules log (work_in old ∷ []) (old.flushes ++ flush ∷ [])) same_rules
-        (subst (λ (l : List Entry). FitAll (rules_of mid) l (work_in old ∷ []) (old.flushes ++ flush ∷ [])) (sym whole_log)
+        subst (λ (rules : NameRules). FitAll rules log (old.counted ∷ []) (old.flushes ++ flush ∷ [])) same_rules
+        (subst (λ (l : List Entry). FitAll (rules_of mid) l (old.counted ∷ []) (old.flushes ++ flush ∷ [])) (sym whole_log)
         (last_fit at_end new sweeps.gone sweeps.swept one sums flush shows (was whole)));
   }
 

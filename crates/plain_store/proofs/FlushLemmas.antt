@@ -33,7 +33,7 @@ use Rattle.ledger.proofs.PartLists.{all, nothing_left, less}
 use Rattle.ledger.proofs.FlushesFit.{all_entries, all_flush}
 use Rattle.plain_store.specs.declared.sums.Sums.{Sums}
 use Rattle.plain_store.specs.Sums.{number_at, is_of_kind, delta_in, delta_of, reading_of, is_among, Shows, IsEmptied}
-use Rattle.plain_store.specs.Store.{StoreHistory, work_in, Accounts}
+use Rattle.plain_store.specs.Store.{StoreHistory, Accounts}
 use Rattle.plain_store.specs.StoreKept.{is_counter_there, AreOfWork}
 use Rattle.plain_store.proofs.Numbers.{is_not}
 use Rattle.plain_store.proofs.Listed.{listed_within, delta_ids, reading_ids, reading_words, listed_among, passes}
@@ -78,7 +78,7 @@ passes_there s id = ap (λ (o : Option Metric). option_map_or (λ m. same_kind m
 
 -- the parts of a flush are those of what is left over
 pub parts_left : (old : StoreHistory) (before : Sums) (parts : List Part) → ArePartsOf (λ worker. bins_by (worker_values worker (before.parents.round ++ (1, before.half) ∷ []))) parts → AreOfWork old before
-    → ArePartsOf (bins_by_worker (left_over 1 (work_in old) old.flushes ∷ [])) parts
+    → ArePartsOf (bins_by_worker (left_over 1 old.counted old.flushes ∷ [])) parts
 parts_left old before parts shown was =
     subst (λ (values : List (ℕ × ℕ)). ArePartsOf (bins_by_worker (values ∷ [])) parts) was.left
     (subst (λ (f : ℕ → ℕ → List BinCount). ArePartsOf f parts) (λ i worker. bins_by (values_are before.half worker i))
@@ -92,7 +92,7 @@ module _ (old : StoreHistory) (book : BookHistory) (n : ℕ) (swept : Logged old
   s = state_of old.worker.book
 
   abbrev left : List (ℕ × ℕ)
-  left = left_over 1 (work_in old) old.flushes
+  left = left_over 1 old.counted old.flushes
 
   abbrev new : StoreHistory
   new = record old { worker = record old.worker { book = book }; flushes = old.flushes ++ flush ∷ [] }
@@ -114,7 +114,7 @@ module _ (old : StoreHistory) (book : BookHistory) (n : ℕ) (swept : Logged old
       (ap (map id_of_reading) shows.gauges ∙ reading_ids before.words.items (ids_not_gone Gauge s)))
       parts_of)
 
-  units_now : (id : ℕ) → flushed id (old.flushes ++ flush ∷ []) ≡ units_of id (work_in old ∷ [])
+  units_now : (id : ℕ) → flushed id (old.flushes ++ flush ∷ []) ≡ units_of id (old.counted ∷ [])
   units_now id =
       let more = units_flush id old.flushes flush in
       let shown = deltas (λ m. same_kind m.kind Counter && not (is_gone m.life)) (metrics_of s) (number_at before.deltas.items) flush id shows.deltas in
@@ -127,8 +127,8 @@ module _ (old : StoreHistory) (book : BookHistory) (n : ℕ) (swept : Logged old
   flush_accounts = record {
     fits = fits_now;
     units = units_now;
-    words = subst (All (λ (reading : Reading). reading.word ≡ gauge_word reading.id.0 (work_in old))) (sym shows.gauges)
-        (reading_words before.words.items (λ id. gauge_word id (work_in old)) was.words (ids_not_gone Gauge s));
+    words = subst (All (λ (reading : Reading). reading.word ≡ gauge_word reading.id.0 old.counted)) (sym shows.gauges)
+        (reading_words before.words.items (λ id. gauge_word id old.counted) was.words (ids_not_gone Gauge s));
   }
 
   emptied_at : (id : ℕ) → delta_in after id ≡ 0
@@ -143,18 +143,17 @@ module _ (old : StoreHistory) (book : BookHistory) (n : ℕ) (swept : Logged old
 
   pub flushed_of_work : AreOfWork new after
   flushed_of_work = record {
-    worker = was.worker;
     units = λ id. (let now = units_now id in let none = emptied_at id in omega (arith, now, none));
     none_elsewhere = λ id none. emptied_at id;
     words = λ id. emptied.words id ∙ was.words id;
-    left = emptied.values ∙ sym (nothing_left (work_in old) old.flushes flush parts_of);
+    left = emptied.values ∙ sym (nothing_left old.counted old.flushes flush parts_of);
     none_merged = emptied.merged;
-    takes_less = less (work_in old) old.flushes flush parts_of was.takes_less;
-    fit = subst (λ (b : BookHistory). FitSoFar (rules_of b) b.log (work_in old ∷ []) (old.flushes ++ flush ∷ [])) (sym swept.logged)
-        (all_flush (rules_of old.worker.book) (old.worker.book.log ++ record { seat = 0; call = call.Sweep; reply = reply.Swept n } ∷ []) (work_in old ∷ []) old.flushes flush
-        (all_entries (rules_of old.worker.book) old.worker.book.log (record { seat = 0; call = call.Sweep; reply = reply.Swept n } ∷ []) (work_in old ∷ []) old.flushes was.fit)
+    takes_less = less old.counted old.flushes flush parts_of was.takes_less;
+    fit = subst (λ (b : BookHistory). FitSoFar (rules_of b) b.log (old.counted ∷ []) (old.flushes ++ flush ∷ [])) (sym swept.logged)
+        (all_flush (rules_of old.worker.book) (old.worker.book.log ++ record { seat = 0; call = call.Sweep; reply = reply.Swept n } ∷ []) (old.counted ∷ []) old.flushes flush
+        (all_entries (rules_of old.worker.book) old.worker.book.log (record { seat = 0; call = call.Sweep; reply = reply.Swept n } ∷ []) (old.counted ∷ []) old.flushes was.fit)
         (subst (λ (segs : List (List (ℕ × ℕ))). Fits (rules_of old.worker.book) (old.worker.book.log ++ record { seat = 0; call = call.Sweep; reply = reply.Swept n } ∷ []) false segs flush)
-        (sym (all (work_in old) old.flushes flush parts_of))
+        (sym (all old.counted old.flushes flush parts_of))
         (subst (λ (b : BookHistory). Fits (rules_of old.worker.book) b.log false (left ∷ []) flush) swept.logged fits_now)));
   }
 

@@ -1,6 +1,5 @@
 -- The sums stay those of the work.
 use Rattle.std.proofs.Common.{◌≡◌, ℕ, ◌==◌, Bool, true, false, cond, Option, Some, None, IfSome, List, [], ◌∷◌, ◌++◌, length, slice_get, option_to_list, append-nil, refl, ap, sym, ◌∙◌, subst, arith}
-use Rattle.std.specs.List.{zip}
 use Rattle.std.specs.Option.{IsSomeAnd}
 use Rattle.std.proofs.lemmas.Bool.Decides.{Decides-eqb}
 use Rattle.stat_defs.specs.Books.{BookHistory}
@@ -14,26 +13,26 @@ use Rattle.stat_defs.specs.declared.history.Verdict.TheVariants as verdict
 use Rattle.merge_round.specs.Halves.{HalfState}
 use Rattle.merge_round.specs.Rounds.{ParentsState}
 use Rattle.book_state.specs.State.{State, Row, is_gone}
-use Rattle.book_state.specs.Follows.{MakesAcked}
+use Rattle.book_state.specs.Follows.{Own}
 use Rattle.book_state.proofs.Lists.{true_false, within_some}
 use Rattle.stat_defs.specs.declared.configs.Config.{Config}
 use Rattle.stat_defs.specs.declared.events.Key.{Key}
 use Rattle.stat_book.specs.Calls.{rules_of, state_of, IsLegal}
 use Rattle.book_seat.specs.Naming.{NamesLive, NamesOwn}
-use Rattle.lone_worker.specs.Worker.{WorkerHistory, Decides}
-use Rattle.ledger.specs.Work.{Work, units_in, units_of, recording_in}
-use Rattle.ledger.specs.Gauges.{gauge_word, move_in}
-use Rattle.ledger.specs.Segments.{left_over, TakesLess}
+use Rattle.lone_worker.specs.Entries.{Adds}
+use Rattle.lone_worker.specs.Worker.{WorkerHistory}
+use Rattle.ledger.specs.Work.{units_in, recording_in}
+use Rattle.ledger.specs.Gauges.{move_in}
+use Rattle.ledger.specs.Segments.{left_over}
 use Rattle.ledger.specs.Flushes.{FitSoFar}
 use Rattle.ledger.specs.Laws.{word_after_any}
-use Rattle.ledger.proofs.WorkLists.{work_event}
 use Rattle.ledger.proofs.Sums.{units_event}
 use Rattle.ledger.proofs.Words.{word_event}
 use Rattle.ledger.proofs.Pieces.{left_event, less_event}
 use Rattle.ledger.proofs.FlushesFit.{all_event, all_entries}
 use Rattle.plain_store.specs.declared.sums.Sums.{Sums}
-use Rattle.plain_store.specs.Sums.{AreZero, IsMade, with_recording, SumsUp}
-use Rattle.plain_store.specs.Store.{StoreHistory, new_store, work_in}
+use Rattle.plain_store.specs.Sums.{AreZero, AreAlike, IsMade, with_recording, SumsUp}
+use Rattle.plain_store.specs.Store.{StoreHistory, new_store}
 use Rattle.plain_store.specs.StoreKept.{is_counter_there, AreOfWork}
 use Rattle.plain_store.proofs.CountersStay.{counters_stay, there_of_row}
 
@@ -64,49 +63,60 @@ recorded : (values : List (ℕ × ℕ)) (o : Option (ℕ × ℕ)) → with_recor
 recorded values None = sym (append-nil values)
 recorded values (Some r) = refl
 
-module _ (old : StoreHistory) (e : Event) (v : Verdict) (worker : WorkerHistory) (before after : Sums)
-    (decided : Decides old.worker e v worker) (each : length old.worker.verdicts ≡ length old.worker.events)
-    (legal : IsLegal worker.book) (named : NamesOwn (state_of worker.book) e v) (sums : SumsUp before (e, v) after)
-    (same_parents : after.parents ≡ before.parents) (was : AreOfWork old before) where
-  abbrev new : StoreHistory
-  new = record old { worker = worker }
+-- a counter that is gone behind what the worker adds was gone before it
+not_there : (old new : BookHistory) (P : List Own → Type 0) (adds : Adds old P new) → IsLegal new → (id : ℕ) → is_counter_there (state_of new) id ≡ false → is_counter_there (state_of old) id ≡ false
+not_there old new P adds legal id none = by_case (is_counter_there (state_of old) id) refl where
+  by_case : (t : Bool) → is_counter_there (state_of old) id ≡ t → t ≡ false
+  by_case true there = absurd (true_false (sym (counters_stay old new P adds legal id there) ∙ none))
+  by_case false there = refl
 
-  work_is : work_in new ≡ work_in old ++ (e, v) ∷ []
-  work_is = ap (λ (w : WorkerHistory). zip w.events w.verdicts) decided.decided ∙ work_event old.worker.events old.worker.verdicts e v each
+-- entries of the worker change no sum
+pub longer_of_work : (old : StoreHistory) (worker : WorkerHistory) (P : List Own → Type 0) (adds : Adds old.worker.book P worker.book) → IsLegal worker.book → (sums : Sums)
+    → AreOfWork old sums → AreOfWork (record old { worker = worker }) sums
+longer_of_work old worker P adds legal sums was = record {
+  units = was.units;
+  none_elsewhere = λ id none. was.none_elsewhere id (not_there old.worker.book worker.book P adds legal id none);
+  words = was.words;
+  left = was.left;
+  none_merged = was.none_merged;
+  takes_less = was.takes_less;
+  fit = subst (λ (b : BookHistory). FitSoFar (rules_of b) b.log (old.counted ∷ []) old.flushes) (sym adds.logged)
+      (all_entries (rules_of old.worker.book) old.worker.book.log adds.more (old.counted ∷ []) old.flushes was.fit);
+}
 
-  book_is : worker.book ≡ record old.worker.book { log = old.worker.book.log ++ decided.added.more }
-  book_is = decided.added.logged
+-- nor does want of memory
+pub alike_of_work : (store : StoreHistory) (before after : Sums) → AreAlike before after → after.parents ≡ before.parents → AreOfWork store before → AreOfWork store after
+alike_of_work store before after alike same_parents was = record {
+  units = λ id. (let same = alike.deltas id in let units = was.units id in omega (arith, same, units));
+  none_elsewhere = λ id none. alike.deltas id ∙ was.none_elsewhere id none;
+  words = λ id. alike.words id ∙ was.words id;
+  left = alike.values ∙ was.left;
+  none_merged = ap (λ (p : ParentsState). p.round) same_parents ∙ was.none_merged;
+  takes_less = was.takes_less;
+  fit = was.fit;
+}
 
-  pub applied_of_work : AreOfWork new after
-  applied_of_work = record {
-    worker = ap (λ (w : WorkerHistory). w.whole) decided.decided ∙ was.worker;
+-- an event is counted
+module _ (old : StoreHistory) (e : Event) (v : Verdict) (before after : Sums) (named : NamesOwn (state_of old.worker.book) e v)
+    (sums : SumsUp before (e, v) after) (same_parents : after.parents ≡ before.parents) (was : AreOfWork old before) where
+  pub counted_of_work : AreOfWork (record old { counted = old.counted ++ (e, v) ∷ [] }) after
+  counted_of_work = record {
     units = λ id. (
-        let grow = units_event id 0 (e, v) (work_in old ∷ []) (omega arith) in
-        let same = ap (λ (w : Work). units_of id (w ∷ [])) work_is in
+        let grow = units_event id 0 (e, v) (old.counted ∷ []) (omega arith) in
         let sum = sums.units id in let before = was.units id in
-        omega (arith, grow, same, sum, before));
+        omega (arith, grow, sum, before));
     none_elsewhere = λ id none. (
         let sum = sums.units id in
-        let added = no_units (state_of worker.book) e v id named none in
-        let kept = was.none_elsewhere id (not_there id none) in
+        let added = no_units (state_of old.worker.book) e v id named none in
+        let kept = was.none_elsewhere id none in
         omega (arith, sum, added, kept));
-    words = λ id. sums.words id ∙ (ap (λ (w : ℕ). word_after_any w (move_in id (e, v))) (was.words id)
-        ∙ (sym (word_event id (work_in old) (e, v)) ∙ ap (gauge_word id) (sym work_is)));
+    words = λ id. sums.words id ∙ (ap (λ (w : ℕ). word_after_any w (move_in id (e, v))) (was.words id) ∙ sym (word_event id old.counted (e, v)));
     left = sums.values ∙ (ap (λ values. with_recording values (recording_in (e, v))) was.left
-        ∙ (recorded (left_over 1 (work_in old) old.flushes) (recording_in (e, v))
-        ∙ (sym (left_event 1 (work_in old) (e, v) old.flushes was.takes_less) ∙ ap (λ (w : Work). left_over 1 w old.flushes) (sym work_is))));
+        ∙ (recorded (left_over 1 old.counted old.flushes) (recording_in (e, v)) ∙ sym (left_event 1 old.counted (e, v) old.flushes was.takes_less)));
     none_merged = ap (λ (p : ParentsState). p.round) same_parents ∙ was.none_merged;
-    takes_less = subst (λ (w : Work). TakesLess 1 w old.flushes) (sym work_is) (less_event 1 (work_in old) (e, v) old.flushes was.takes_less);
-    fit = subst (λ (b : BookHistory). FitSoFar (rules_of b) b.log (work_in new ∷ []) old.flushes) (sym book_is)
-        (subst (λ (w : Work). FitSoFar (rules_of old.worker.book) (old.worker.book.log ++ decided.added.more) (w ∷ []) old.flushes) (sym work_is)
-        (all_event (rules_of old.worker.book) (old.worker.book.log ++ decided.added.more) 0 (e, v) (work_in old ∷ []) old.flushes (was.takes_less, tt)
-        (all_entries (rules_of old.worker.book) old.worker.book.log decided.added.more (work_in old ∷ []) old.flushes was.fit)));
-  } where
-    not_there : (id : ℕ) → is_counter_there (state_of worker.book) id ≡ false → is_counter_there (state_of old.worker.book) id ≡ false
-    not_there id none = by_case (is_counter_there (state_of old.worker.book) id) refl where
-      by_case : (t : Bool) → is_counter_there (state_of old.worker.book) id ≡ t → t ≡ false
-      by_case true there = absurd (true_false (sym (counters_stay old.worker.book worker.book (MakesAcked 1 (state_of old.worker.book) e v) decided.added legal id there) ∙ none))
-      by_case false there = refl
+    takes_less = less_event 1 old.counted (e, v) old.flushes was.takes_less;
+    fit = all_event (rules_of old.worker.book) old.worker.book.log 0 (e, v) (old.counted ∷ []) old.flushes (was.takes_less, tt) was.fit;
+  }
 
 pub if_some : {X : Type 0} (o : Option X) (P Q : X → Type 0) → ((x : X) → P x → Q x) → IfSome o P → IfSome o Q
 if_some None P Q to is = is
@@ -127,7 +137,6 @@ made_live s made key verdict.NoRoom are named = tt
 -- before the first event
 pub first_of_work : (config : Config) (sums : Sums) → AreZero sums → AreOfWork (new_store config) sums
 first_of_work config sums nothing = record {
-  worker = refl;
   units = λ id. (let none = nothing.deltas id in omega (arith, none));
   none_elsewhere = λ id none. nothing.deltas id;
   words = nothing.words;

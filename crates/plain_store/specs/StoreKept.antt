@@ -13,10 +13,10 @@ use Rattle.ledger.specs.Flushes.{FitSoFar, flushed}
 use Rattle.plain_store.specs.declared.sums.Sums.{Sums}
 use Rattle.plain_store.specs.declared.store.PlainStore.TheInside.{Inside}
 use Rattle.plain_store.specs.Sums.{delta_in, word_in, value_count}
-use Rattle.plain_store.specs.Store.{StoreHistory, work_in}
+use Rattle.plain_store.specs.Store.{StoreHistory}
 
 abbrev pub shown : Inside → StoreHistory
-shown p = record { worker = p.worker; flushes = p.flushes.items; whole = p.whole }
+shown p = record { worker = p.worker; counted = p.counted.items; flushes = p.flushes.items; whole = p.whole }
 
 -- the metric of this number is a counter that is not gone
 abbrev pub is_counter_there : State → ℕ → Bool
@@ -28,23 +28,22 @@ pub record AreSmall (events : ℕ) (sums : Sums) : Type 0 where
   pub deltas : (id : ℕ) → delta_in sums id ≤ 2 ^ 32 * events
   pub values : value_count sums ≤ events
 
--- the sums are those of the work
+-- the sums are those of the events that were counted
 pub record AreOfWork (store : StoreHistory) (sums : Sums) : Type 0 where
-  pub worker : store.worker.whole ≡ true
   -- each unit is in one flush or in the deltas
-  pub units : (id : ℕ) → units_of id (work_in store ∷ []) ≡ flushed id store.flushes + delta_in sums id
+  pub units : (id : ℕ) → units_of id (store.counted ∷ []) ≡ flushed id store.flushes + delta_in sums id
   -- units wait for a flush only where it will show them
   pub none_elsewhere : (id : ℕ) → is_counter_there (state_of store.worker.book) id ≡ false → delta_in sums id ≡ 0
-  pub words : (id : ℕ) → word_in sums id ≡ gauge_word id (work_in store)
+  pub words : (id : ℕ) → word_in sums id ≡ gauge_word id store.counted
   -- each value is in one flush or in the half
-  pub left : sums.half.values ≡ left_over 1 (work_in store) store.flushes
+  pub left : sums.half.values ≡ left_over 1 store.counted store.flushes
   pub none_merged : sums.parents.round ≡ []
-  pub takes_less : TakesLess 1 (work_in store) store.flushes
-  pub fit : FitSoFar (rules_of store.worker.book) store.worker.book.log (work_in store ∷ []) store.flushes
+  pub takes_less : TakesLess 1 store.counted store.flushes
+  pub fit : FitSoFar (rules_of store.worker.book) store.worker.book.log (store.counted ∷ []) store.flushes
 
 pub record IsKept (p : Inside) : Type 0 where
   pub works : p.worker.ended ≡ false
   pub few_events : length p.worker.events ≤ MAX_EVENTS
   pub small : AreSmall (length p.worker.events) p.sums
-  -- said of a store none of whose calls was cut short
+  -- said of a store none of whose flushes was cut short
   pub exact : p.whole ≡ true → AreOfWork (shown p) p.sums

@@ -57,6 +57,12 @@ pub record SumsUp (old : Sums) (told : Event × Verdict) (new : Sums) : Type 0 w
   pub words : (id : ℕ) → word_in new id ≡ word_after_any (word_in old id) (move_in id told)
   pub values : new.half.values ≡ with_recording old.half.values (recording_in told)
 
+-- nothing was summed: the units that wait for a flush, the words of the gauges and the values are as they were
+pub record AreAlike (old new : Sums) : Type 0 where
+  pub deltas : (id : ℕ) → delta_in new id ≡ delta_in old id
+  pub words : (id : ℕ) → word_in new id ≡ word_in old id
+  pub values : new.half.values ≡ old.half.values
+
 -- an accepted verdict names one of so many metrics
 abbrev pub IsMade : ℕ → Verdict → Type 0
 IsMade made (verdict.Accepted id) = id.0 < made

@@ -1,17 +1,17 @@
 //! What one event adds to the sums.
-ghost use Rattle.std.specs.Prelude.{◌≡◌, ◌≤◌, ◌<◌, ◌+◌, ◌^◌, ℕ, IfSome, OnOk, length};
+ghost use Rattle.std.specs.Prelude.{◌≡◌, ◌≤◌, ◌<◌, ◌+◌, ◌^◌, ℕ, IfSome, OnOk, OnErr, length};
 ghost use Rattle.book_state.specs.Follows.{event_key};
 ghost use Rattle.stat_defs.specs.declared.history.Verdict.TheVariants as verdict;
 ghost use Rattle.stat_defs.specs.Borrowed.{event_of};
 ghost use Rattle.stat_defs.specs.Events.{IsLawfulEvent};
 ghost use Rattle.merge_round.specs.declared.half.TheConstants.{MAX_HALF_COUNT};
-ghost use Rattle.plain_store.specs.Sums.{delta_in, SumsUp, IsMade};
+ghost use Rattle.plain_store.specs.Sums.{delta_in, SumsUp, AreAlike, IsMade};
 
 use crate::sums::{Sums, add, move_word};
 use stat_defs::{EventRef, MetricId, NoMemory, Verdict};
 use std::alloc::Global;
 
-// Sums up an event that was accepted for a metric, one of so many.
+// Sums up an event that was accepted for a metric, one of so many. After want of memory nothing was summed.
 #[inline(always)]
 fn sum_accepted(
     sums: &mut Sums,
@@ -25,6 +25,7 @@ fn sum_accepted(
     requires small { (k : ℕ) → delta_in sums.old k + 2 ^ 32 ≤ 2 ^ 64 }
     requires half { length sums.old.half.values < MAX_HALF_COUNT }
     ensures ok { OnOk result (SumsUp sums.old (event_of event.now, verdict.Accepted id) sums.new) }
+    ensures err { OnErr result (AreAlike sums.old sums.new) }
     ensures units { (k : ℕ) → delta_in sums.new k ≤ delta_in sums.old k + 2 ^ 32 }
     ensures half { length sums.new.half.values ≤ length sums.old.half.values + 1 }
     ensures parents { sums.new.parents ≡ sums.old.parents }
@@ -37,7 +38,7 @@ fn sum_accepted(
     }
 }
 
-/// Sums up an event that was decided, where so many metrics were made.
+/// Sums up an event that was decided, where so many metrics were made. After want of memory nothing was summed.
 #[inline(always)]
 pub(crate) fn sum_up(
     sums: &mut Sums,
@@ -51,6 +52,7 @@ pub(crate) fn sum_up(
     requires small { (k : ℕ) → delta_in sums.old k + 2 ^ 32 ≤ 2 ^ 64 }
     requires half { length sums.old.half.values < MAX_HALF_COUNT }
     ensures ok { OnOk result (SumsUp sums.old (event_of event.now, verdict) sums.new) }
+    ensures err { OnErr result (AreAlike sums.old sums.new) }
     ensures units { (k : ℕ) → delta_in sums.new k ≤ delta_in sums.old k + 2 ^ 32 }
     ensures half { length sums.new.half.values ≤ length sums.old.half.values + 1 }
     ensures parents { sums.new.parents ≡ sums.old.parents }

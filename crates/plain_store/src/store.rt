@@ -1,10 +1,12 @@
 //! The store.
-ghost use Rattle.std.specs.Prelude.{◌≡◌, ◌<◌, length, IfOk, OnErr};
+ghost use Rattle.std.specs.Prelude.{◌≡◌, ◌<◌, ◌++◌, [], ◌∷◌, length, IfOk, OnErr};
 ghost use Rattle.stat_defs.specs.Configs.{IsConfig};
 ghost use Rattle.stat_defs.specs.Borrowed.{event_of};
 ghost use Rattle.stat_defs.specs.Events.{IsLawfulEvent};
+ghost use Rattle.stat_defs.specs.declared.events.Event.{Event as TheEvent};
+ghost use Rattle.stat_defs.specs.declared.history.Verdict.{Verdict as TheVerdict};
 ghost use Rattle.lone_worker.specs.declared.worker.TheConstants.{MAX_EVENTS};
-ghost use Rattle.plain_store.specs.Store.{new_store, Applied, IsCutShort, Flushes, Finishes};
+ghost use Rattle.plain_store.specs.Store.{new_store, Applied, IsCutShort, Flushes, FlushIsCutShort, Finishes};
 
 use crate::account::sum_up;
 use crate::last::finish_parts;
@@ -18,12 +20,13 @@ use std::alloc::Global;
 use std::marker::Model;
 use tag_rules::{Matcher, TagRules};
 
-/// A store with one worker. Contracts see it as its worker, with its events, their verdicts and the log, and the
-/// records of its flushes so far.
+/// A store with one worker. Contracts see it as its worker, with its events, their verdicts and the log; the events that
+/// were counted, which are those that `apply` gave a verdict of; and the records of its flushes so far.
 #[derive(Drop)]
 pub struct PlainStore {
     worker: LoneWorker,
     sums: Sums,
+    counted: GhostList<(Event, Verdict)>,
     flushes: GhostList<FlushRecord>,
     whole: bool,
 }
@@ -38,6 +41,20 @@ impl Model for PlainStore {
     ghost view = { shown };
 
     ghost invariant = { IsKept };
+}
+
+// The events that were counted, and behind them the one that is borrowed.
+#[inline(always)]
+fn with_counted(
+    counted: &GhostList<(Event, Verdict)>,
+    event: &EventRef<'_>,
+    verdict: Verdict,
+) -> GhostList<(Event, Verdict)>
+    ghost item: { TheEvent × TheVerdict }
+    requires { item ≡ (event_of event.now, verdict) }
+    ensures { result.items ≡ counted.now.items ++ (event_of event.now, verdict) ∷ [] }
+{
+    counted.and_for(&())
 }
 
 impl PlainStore {
@@ -75,18 +92,20 @@ impl PlainStore {
         Ok(PlainStore {
             worker,
             sums,
+            counted: GhostList::new(),
             flushes: GhostList::new(),
             whole: true,
         })
     }
 
     /// Decides an event, and sums up what it adds where it is accepted. An event on a key that is held, which is no
-    /// text, takes one look-up, and no memory where its histogram has a value of this store already.
+    /// text, takes one look-up, and no memory where its histogram has a value of this store already. After want of
+    /// memory the event is not counted, and each later flush shows what it would have shown.
     pub fn apply(&mut self, alloc: Global, event: &Event) -> Result<Verdict, NoMemory>
         requires lawful { IsLawfulEvent event.now }
         requires few { length self.old.worker.events < MAX_EVENTS }
         ensures ok { IfOk result (λ verdict. Applied self.old event.now verdict self.new) }
-        ensures err { OnErr result (IsCutShort self.old self.new) }
+        ensures err { OnErr result (IsCutShort self.old event.now self.new) }
     {
         self.apply_ref(alloc, &event.borrowed())
     }
@@ -97,24 +116,23 @@ impl PlainStore {
         requires lawful { IsLawfulEvent (event_of event.now) }
         requires few { length self.old.worker.events < MAX_EVENTS }
         ensures ok { IfOk result (λ verdict. Applied self.old (event_of event.now) verdict self.new) }
-        ensures err { OnErr result (IsCutShort self.old self.new) }
+        ensures err { OnErr result (IsCutShort self.old (event_of event.now) self.new) }
     {
-        let whole = self.whole;
-        self.whole = false;
+        let decided = self.worker.decide_ref(alloc, event);
         let _log = self.worker.log();
-        let verdict = self.worker.decide_ref(alloc, event)?;
-        let _longer_log = self.worker.log();
+        let verdict = decided?;
         let made = self.worker.made();
         sum_up(&mut self.sums, alloc, made, event, verdict)?;
-        self.whole = whole;
+        self.counted = with_counted(&self.counted, event, verdict);
         Ok(verdict)
     }
 
     /// A flush during the run. It sweeps, and shows every counter and gauge that was not gone before, and the values
-    /// recorded since the flush before. It takes time in the metrics that are not gone, and in the values.
+    /// recorded since the flush before. It takes time in the metrics that are not gone, and in the values. After want of
+    /// memory the store is safe to use, but what its later flushes owe is not said.
     pub fn flush(&mut self, alloc: Global) -> Result<FlushRecord, NoMemory>
         ensures ok { IfOk result (λ flush. Flushes self.old flush self.new) }
-        ensures err { OnErr result (IsCutShort self.old self.new) }
+        ensures err { OnErr result (FlushIsCutShort self.old self.new) }
     {
         let whole = self.whole;
         self.whole = false;
@@ -134,6 +152,7 @@ impl PlainStore {
         let PlainStore {
             worker,
             sums,
+            counted: _,
             flushes: _,
             whole: _,
         } = self;

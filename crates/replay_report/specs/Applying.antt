@@ -1,6 +1,6 @@
 -- A store to which events are applied one after another. This project's own.
 use Rattle.std.specs.Prelude.{◌≡◌, ◌==◌, true, List, [], ◌∷◌, ◌++◌, length}
-use Rattle.std.specs.List.{list_all}
+use Rattle.std.specs.List.{list_all, zip}
 use Rattle.stat_defs.specs.declared.events.Event.{Event}
 use Rattle.stat_defs.specs.declared.history.Entry.{Entry}
 use Rattle.stat_defs.specs.declared.history.Verdict.{Verdict}
@@ -15,10 +15,13 @@ with_decided worker events verdicts entries = record worker {
   verdicts = worker.verdicts ++ verdicts;
 }
 
--- a store with such a worker
+-- a store with such a worker, in which each of these events was counted
 abbrev pub with_applied : StoreHistory → List Event → List Verdict → List Entry → StoreHistory
 with_applied store events verdicts entries =
-    record store { worker = with_decided store.worker events verdicts entries }
+    record store {
+      worker = with_decided store.worker events verdicts entries;
+      counted = store.counted ++ zip events verdicts;
+    }
 
 -- these events were applied with these verdicts; they made entries of the worker alone, and no flush
 pub record AreApplied (old : StoreHistory) (events : List Event) (verdicts : List Verdict) (new : StoreHistory)

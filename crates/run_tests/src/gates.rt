@@ -2,7 +2,7 @@
 
 use run_gates::Gate;
 use std::sync::Wait;
-use std::sync::atomic::{AtomicBool, Ordering};
+use std::sync::atomic::{AtomicBool, AtomicU64, Ordering};
 use std::thread::yield_now;
 
 /// The maximum number of turns that a gate waits for a thread.
@@ -38,35 +38,93 @@ impl Patience {
         }
         self.lost.store(true, Ordering::SeqCst);
     }
+
+    // Waits until the count stands there.
+    fn wait_for_turn(&self, count: &AtomicU64, turn: u64) {
+        for _ in 0..TURNS {
+            if count.load(Ordering::SeqCst) == turn || self.is_lost() {
+                return;
+            }
+            yield_now();
+        }
+        self.lost.store(true, Ordering::SeqCst);
+    }
 }
 
-/// Holds worker 1 until worker 2 is done.
+/// Holds every other worker until this one is done.
 #[derive(Drop)]
-pub(crate) struct SecondFirst {
+pub(crate) struct OneFirst {
     pub(crate) patience: Patience,
-    second_done: AtomicBool,
+    first: u32,
+    first_done: AtomicBool,
 }
 
-impl SecondFirst {
-    pub(crate) fn new() -> SecondFirst {
-        SecondFirst {
+impl OneFirst {
+    pub(crate) fn new(first: u32) -> OneFirst {
+        OneFirst {
             patience: Patience::new(),
-            second_done: AtomicBool::new(false),
+            first,
+            first_done: AtomicBool::new(false),
         }
     }
 }
 
-impl Gate for SecondFirst {
+impl Gate for OneFirst {
     fn worker_at<R: Wait>(&self, _rt: &R, worker: u32, _event: u64) {
-        if worker == 1 {
-            self.patience.wait_for(&self.second_done);
+        if worker != self.first {
+            self.patience.wait_for(&self.first_done);
         }
     }
 
     fn worker_done<R: Wait>(&self, _rt: &R, worker: u32) {
-        if worker == 2 {
-            self.second_done.store(true, Ordering::SeqCst);
+        if worker == self.first {
+            self.first_done.store(true, Ordering::SeqCst);
         }
+    }
+
+    fn flusher_at<R: Wait>(&self, _rt: &R, _round: u32) {}
+
+    fn reader_at<R: Wait>(&self, _rt: &R, _round: u32) {}
+}
+
+/// The number of events that a worker does in one turn.
+const STRETCH: u64 = 10;
+
+/// Lets the workers, which all have the same number of events, do ten of them in turn. A thread that waits for its next
+/// event has done the one before.
+#[derive(Drop)]
+pub(crate) struct InTurn {
+    pub(crate) patience: Patience,
+    workers: u64,
+    turns: AtomicU64,
+}
+
+impl InTurn {
+    pub(crate) fn new(workers: u64) -> InTurn {
+        InTurn {
+            patience: Patience::new(),
+            workers,
+            turns: AtomicU64::new(0),
+        }
+    }
+}
+
+impl Gate for InTurn {
+    fn worker_at<R: Wait>(&self, _rt: &R, worker: u32, event: u64) {
+        let before = event.wrapping_sub(1);
+        if before % STRETCH != 0 {
+            return;
+        }
+        if before > 0 {
+            self.turns.fetch_add(1, Ordering::SeqCst);
+        }
+        let round = (before / STRETCH).wrapping_mul(self.workers);
+        let turn = round.wrapping_add(u64::from(worker)).wrapping_sub(1);
+        self.patience.wait_for_turn(&self.turns, turn);
+    }
+
+    fn worker_done<R: Wait>(&self, _rt: &R, _worker: u32) {
+        self.turns.fetch_add(1, Ordering::SeqCst);
     }
 
     fn flusher_at<R: Wait>(&self, _rt: &R, _round: u32) {}

@@ -1,5 +1,6 @@
-//! Tests of runs of files in real threads: `gates` hold the threads up, `rows` says what comes of it, and `hard_files`
-//! what comes of files that somebody made to be hard.
+//! Tests of runs of files in real threads: `gates` hold the threads up, `rows` says what comes of it, `schedules` that
+//! the same comes of four workers' events in whatever order, and `hard_files` what comes of files that somebody made to
+//! be hard.
 #![tactic(auto)]
 
 #[cfg(test)]
@@ -12,3 +13,5 @@ mod pulls;
 mod rows;
 #[cfg(test)]
 mod runs;
+#[cfg(test)]
+mod schedules;

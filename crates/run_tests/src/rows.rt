@@ -1,6 +1,6 @@
 //! Runs under gates. Each test asserts only what every schedule gives.
 
-use crate::gates::{FlushAmong, ReadingBetween, SecondFirst, WorkerFirst};
+use crate::gates::{FlushAmong, OneFirst, ReadingBetween, WorkerFirst};
 use crate::runs::{
     all_values, delta_of, file_of, file_with_faults, never_falls, repeated, run, units_of,
     values_in, word_of,
@@ -32,7 +32,7 @@ const FORTY_ROUNDS: &str = r#"{"stats_config":{"use_all_default_tags":false},
 #[test]
 fn workers_run_side_by_side(rt: HostRuntime) -> Result<(), Fail> {
     let alloc = rt.alloc();
-    let gate = SecondFirst::new();
+    let gate = OneFirst::new(2);
     let first = file_of(alloc, "inc root a 3\n")?;
     let second = file_of(alloc, "inc root a 4\n")?;
     let files = vec![in alloc; first, second]?;

@@ -8,3 +8,4 @@ pub mod CommandWords
 pub mod ValueWords
 pub mod Calls
 pub mod Table
+pub mod Causes

@@ -6,3 +6,4 @@ pub mod Command
 pub mod Outcome
 pub mod Replay
 pub mod Statuses
+pub mod Flawless

@@ -14,7 +14,7 @@ mod status;
 mod telling;
 
 pub use command::{Command, MAX_VALUES, command_of};
-pub use laws::calls_keep_the_table;
+pub use laws::{calls_fail_by_cause, calls_keep_the_table};
 pub use outcome::{Outcome, give_up, refuse_boot};
 pub use quiet::{quiet_stats, quiet_stats_with};
 pub use replay::{Recorded, tell};

@@ -1,14 +1,11 @@
 -- The parties of a store that came to its end account for what they did.
-use Rattle.std.proofs.Common.{◌≡◌, ◌≢◌, ◌==◌, ◌+◌, ◌<◌, ◌≤◌, ℕ, suc, cond, Bool, true, false, None, List, [], ◌∷◌, ◌++◌, map, length, refl, ap, sym, ◌∙◌, subst, arith, append-nil, append_assoc}
-use Rattle.std.specs.Prelude.{All}
-use Rattle.std.specs.List.{AllByRecursion, flat_map}
+use Rattle.std.proofs.Common.{◌≡◌, ◌==◌, ◌<◌, ◌≤◌, ℕ, suc, Bool, true, false, None, List, [], ◌∷◌, ◌++◌, map, length, refl, ap, sym, ◌∙◌, subst, arith, append-nil, append_assoc}
+use Rattle.std.specs.List.{AllByRecursion}
 use Rattle.std.specs.List.Sorted.{IsStrictlyIncreasing, IsNonDecreasing}
 use Rattle.std.proofs.lemmas.List.{length-map, length-append, map-append}
 use Rattle.std.proofs.lemmas.List.Elements.{recursion_from_All}
 use Rattle.std.proofs.lemmas.Simd.{map-map}
-use Rattle.seat_parts.specs.Parts.{total}
 use Rattle.stat_defs.specs.Books.{BookHistory}
-use Rattle.stat_defs.specs.declared.configs.Config.{Config}
 use Rattle.stat_defs.specs.declared.history.Call.TheVariants as call
 use Rattle.stat_defs.specs.declared.history.Reply.TheVariants as reply
 use Rattle.stat_defs.specs.declared.history.Entry.{Entry}
@@ -17,9 +14,7 @@ use Rattle.stat_defs.specs.declared.ids.MetricId.{MetricId}
 use Rattle.stat_defs.specs.declared.reports.Delta.{Delta}
 use Rattle.stat_defs.specs.declared.reports.FlushRecord.{FlushRecord}
 use Rattle.stat_defs.specs.declared.reports.LastFlush.{LastFlush}
-use Rattle.stat_defs.specs.declared.reports.Part.{Part}
 use Rattle.stat_defs.specs.declared.reports.ReadRecord.{ReadRecord}
-use Rattle.seat_history.specs.declared.known.LogKnown.{LogKnown}
 use Rattle.seat_history.specs.History.{SeatHistory, entries_by, past}
 use Rattle.book_state.specs.declared.limits.TheConstants.{MAX_METRICS}
 use Rattle.book_state.specs.State.{NameRules, State}
@@ -29,28 +24,23 @@ use Rattle.stat_book.specs.Calls.{rules_of, state_of, IsLegal, name_rules}
 use Rattle.book_lock.specs.History.{IsOneHistory}
 use Rattle.locked_book.specs.declared.listing.Listing.{Listing}
 use Rattle.locked_book.specs.Sharing.{first_of, seat_count, known_by}
-use Rattle.locked_book.specs.Lists.{SweepsListed, not_gone}
+use Rattle.locked_book.specs.Lists.{SweepsListed}
 use Rattle.locked_book.proofs.OfKind.{few_metrics}
 use Rattle.metric_words.specs.declared.counter_view.CountPart.{CountPart}
-use Rattle.metric_words.specs.declared.counter_view.CountStep.{CountStep}
 use Rattle.metric_words.specs.declared.gauge_view.GaugePart.{GaugePart}
-use Rattle.metric_words.specs.Counters.{firsts, latches}
+use Rattle.metric_words.specs.Counters.{latches}
 use Rattle.metric_words.specs.CounterLaws.{IsCounterEnd}
-use Rattle.metric_words.specs.CounterLedger.{worker_part}
-use Rattle.metric_words.specs.GaugeLedger.{gauge_part}
-use Rattle.flush_words.specs.Words.{after_latches}
 use Rattle.flush_cells.specs.Taken.{HalfValues}
 use Rattle.cells_end.specs.declared.end.CellEnd.{CellEnd}
 use Rattle.cells_end.specs.LastRound.{IsLastRound, halves_at_end}
 use Rattle.ledger.specs.Flushes.{ids_made, id_of_delta, id_of_reading, flushed}
 use Rattle.ledger.specs.Ledger.{plan_of}
 use Rattle.ledger.specs.Lists.{EachNumbered}
-use Rattle.ledger.proofs.Members.{all_as, all_both, all_mapped, all_parts, each_as, each_mapped}
+use Rattle.ledger.proofs.Members.{all_as, all_mapped, all_parts, each_as, each_mapped}
 use Rattle.run_ledger.specs.Told.{WorkerTold, FlushTold, ReadTold, RunTold, all_flushes, halves_of, halves_at}
 use Rattle.run_ledger.specs.Accounts.{RunAccounts, WorkerAccounts, FlushAccounts, ReadAccounts, CountersAccount, CounterAtEnd, IsLatched, IsLogOf, IsTold, LeftBy, listed}
 use Rattle.run_ledger.proofs.Grows.{run_grows}
 use Rattle.run_ledger.proofs.Ends.{run_ends}
-use Rattle.run_ledger.proofs.Readings.{found_few}
 use Rattle.store_parts.specs.declared.store.Store.{Store}
 use Rattle.recorder.specs.declared.ended.Ended.{Ended}
 use Rattle.recorder.specs.Ending.{told_at_end}
@@ -58,11 +48,11 @@ use Rattle.admin_side.specs.Reader.{ReaderKnown, ReaderAccounts}
 use Rattle.admin_side.proofs.Listed.{listed-is}
 use Rattle.flusher.proofs.Accounts.{are-latches}
 use Rattle.flusher.proofs.Rising.{rises-more}
-use Rattle.flusher.specs.Flusher.{FlusherKnown, FlusherAccounts, at_of, sweeps_of}
+use Rattle.flusher.specs.Flusher.{FlusherKnown, FlusherAccounts, sweeps_of}
 use Rattle.store_closing.specs.Closes.{HaveEnded, Closes, IsEmptied, told_of, plan_told, events_told, report_told}
 use Rattle.store_closing.specs.Pieces.{EndsCounters, seats_at_end, counts_at_end, gauges_at_end}
 use Rattle.store_closing.proofs.Reports.{apart_own, flushes_on, reads_on, each_and_last}
-use Rattle.store_closing.proofs.NeverMade.{never_added, never_pending}
+use Rattle.store_closing.proofs.Pending.{none_pending}
 use Rattle.store_closing.proofs.Parties.{workers_account}
 
 -- the sweep that the book logged last
@@ -100,7 +90,6 @@ module _ (store : Store) (ended : List Ended) (flusher : FlusherKnown) (reader :
       (new : first.log ≡ openings 0 first.config.scopes)
       (history : IsOneHistory first (seat_count store.book) (seats_at_end flusher.seat ended reader.seat) found)
       (last : BookHistory) (sweeps : SweepsListed listing 0 found last) (legal : IsLegal last)
-      (within : AllByRecursion (λ (id : MetricId). id.0 < MAX_METRICS) (ids_made Counter (state_of last)))
       (at : shown.at ≡ listing.at) (deltas : map id_of_delta shown.deltas ≡ ids_made Counter (state_of last))
       (counters : EndsCounters (counts_at_end ended) flusher.counters reader.counters shown.deltas)
       (gauges : map id_of_reading shown.gauges ≡ listing.gauges)
@@ -240,6 +229,10 @@ module _ (store : Store) (ended : List Ended) (flusher : FlusherKnown) (reader :
         (each_end (λ w (l : HalfValues). halves_of w flusher.flushes ++ halves_at round.halves w ≡ l) 1 ends ended same
         (round.whole (λ w. halves_of w flusher.flushes) fa.halves)))
 
+    -- the workers
+    each_account : EachNumbered (WorkerAccounts R W found.log) 1 told.workers
+    each_account = workers_account store found.log 1 ended have.each by_workers
+
     -- the counters
     abbrev counts : List CountPart
     counts = map (λ (w : WorkerTold). w.counts) told.workers
@@ -301,7 +294,7 @@ module _ (store : Store) (ended : List Ended) (flusher : FlusherKnown) (reader :
     accounts = record {
       told_is = told_is;
       log_is = log_is;
-      each_worker = subst (λ (n : ℕ). EachNumbered (WorkerAccounts R n found.log) 1 told.workers) (sym count) (workers_account store found.log 1 ended have.each by_workers);
+      each_worker = subst (λ (n : ℕ). EachNumbered (WorkerAccounts R n found.log) 1 told.workers) (sym count) each_account;
       each_flush = subst (λ (n : ℕ). EachNumbered (λ k f. FlushAccounts R n log (suc k == length (all_flushes told)) f) 0 (all_flushes told)) (sym count) each_flush;
       each_read = subst (λ (n : ℕ). AllByRecursion (ReadAccounts R n log) reader.reads) (sym count) each_read;
       halves = each_half;
@@ -309,34 +302,14 @@ module _ (store : Store) (ended : List Ended) (flusher : FlusherKnown) (reader :
       words = subst (λ (l : List GaugePart). AllByRecursion (λ r. LeftBy r.id.0 l r.word) shown.gauges) (sym (map-map (λ (w : WorkerTold). w.gauges) told_at_end ended)) words;
     }
 
-    emptied : AllByRecursion (IsEmptied told) (ids_made Counter (replay R W log))
-    emptied =
-        all_as (λ id. IsLatched counts told.flusher id × (id.0 < MAX_METRICS)) (IsEmptied told) (ids_made Counter (replay R W log))
-        (λ id both.
-        let is = at_end id.0 both.1 in
-        record {
-          value = is.value;
-          end = record {
-            firsts = is.end.firsts;
-            seconds = is.end.seconds;
-            latched = (let all = both.0 in let sum = is.end.seconds in omega (arith, all, sum));
-            loads = is.end.loads;
-          };
-        })
-        (all_both (IsLatched counts told.flusher) (λ id. id.0 < MAX_METRICS) (ids_made Counter (replay R W log)) all_latched
-        (subst (λ (s : State). AllByRecursion (λ (id : MetricId). id.0 < MAX_METRICS) (ids_made Counter s)) last_state within))
-
-    -- no counter was added to that the log did not make
-    never : (id : ℕ) → length (replay R W log).metrics ≤ id → id < MAX_METRICS → IsEmptied told (record { 0 = id })
-    never id above low =
-        let is = at_end id low in
-        let fewer = found_few R W found.log (sweep_entry found ∷ []) log refl in
-        let none = never_added store found.log id 1 ended (omega (arith, fewer, above)) have.each by_workers in
-        let same = ap (λ (l : List CountPart). total (λ (p : CountPart). firsts id p.steps) l) counts_are in
-        let empty = never_pending id counts told.flusher told.reader is.value is.pending (omega (arith, none, same)) is.end in
-        record { value = is.value; end = subst (λ (n : ℕ). IsCounterEnd id counts told.flusher told.reader is.value n) empty is.end }
+    -- nothing is pending under any number
+    emptied : (id : ℕ) → id < MAX_METRICS → IsEmptied told (record { 0 = id })
+    emptied id within =
+        let is = at_end id within in
+        let none = none_pending R first.config.scopes W found.log (sweep_entry found) refl told.workers told.flusher told.reader legal_log each_account all_latched id is.value is.pending is.end in
+        record { value = is.value; end = subst (λ (n : ℕ). IsCounterEnd id counts told.flusher told.reader is.value n) none is.end }
 
     pub closes : (lastflush : LastFlush) → lastflush ≡ record { last = shown; log = last.log } → Closes store ended flusher reader lastflush
     closes lastflush is =
         subst (λ (l : LastFlush). Closes store ended flusher reader l) (sym (is ∙ (λ i. record { last = shown; log = (last_is i).log })))
-        (record { flush = flush; shown = refl; accounts = accounts; emptied = emptied; never = never })
+        (record { flush = flush; shown = refl; accounts = accounts; emptied = emptied })

@@ -1,35 +1,32 @@
 -- What the parties of a store left is of that store.
-use Rattle.std.proofs.Common.{◌≡◌, ◌+◌, ◌<◌, ◌≤◌, ℕ, suc, zero, Some, List, [], ◌∷◌, ◌++◌, map, length, slice_get, refl, ap, sym, ◌∙◌, subst, arith, append_assoc}
+use Rattle.std.proofs.Common.{◌≡◌, ◌+◌, ℕ, suc, zero, List, [], ◌∷◌, ◌++◌, map, length, slice_get, refl, ap, sym, ◌∙◌, subst, arith, append_assoc}
 use Rattle.std.specs.Prelude.{All}
 use Rattle.std.specs.List.{AllByRecursion, flat_map}
 use Rattle.std.specs.Option.{IsSomeAnd}
-use Rattle.std.proofs.lemmas.List.{length-map, length-append, map-append}
+use Rattle.std.proofs.lemmas.List.{length-map, length-append}
 use Rattle.std.proofs.lemmas.List.Elements.{All-nil, All-cons, All-append, All-from_recursion}
 use Rattle.atomic_table.specs.Seated.{TableId}
 use Rattle.merge_round.specs.Halves.{HalfState}
-use Rattle.seat_parts.specs.Parts.{total}
 use Rattle.turn_cell.specs.declared.cell.TurnCell.{TurnCell}
-use Rattle.turn_cell.specs.Tokens.{cell_id, note_known, weight_of}
+use Rattle.turn_cell.specs.Tokens.{cell_id, note_known}
 use Rattle.locked_book.specs.declared.shared.LockedBook.{LockedBook}
-use Rattle.locked_book.specs.Sharing.{IsSeatOf, first_of, known_by, seat_count, AreAllSeats}
+use Rattle.locked_book.specs.Sharing.{IsSeatOf, first_of, AreAllSeats}
 use Rattle.metric_words.specs.declared.counter_seats.WorkerSeat.{WorkerSeat}
 use Rattle.metric_words.specs.declared.gauge_seats.GaugeSeat.{GaugeSeat}
 use Rattle.metric_words.specs.declared.gauge_view.GaugePart.{GaugePart}
 use Rattle.metric_words.specs.CounterLedger.{bank_id, worker_known}
 use Rattle.metric_words.specs.GaugeLedger.{gauges_id, gauge_known, gauge_part, gauge_all}
 use Rattle.flush_cells.specs.declared.tokens.FlushCell.{FlushCell}
-use Rattle.flush_cells.specs.Cells.{cell_known, cell_of}
+use Rattle.flush_cells.specs.Cells.{cell_of}
 use Rattle.flush_cells.specs.Taken.{HalfValues}
-use Rattle.cells_end.specs.declared.end.CellEnd.{CellEnd}
 use Rattle.cells_end.specs.Ends.{IsEnd, AreEnds}
 use Rattle.cells_end.specs.LastRound.{halves_at_end}
 use Rattle.ledger.specs.Lists.{EachNumbered}
 use Rattle.ledger.proofs.Members.{all_mapped, each_of}
-use Rattle.half_side.specs.Halves.{value_count}
 use Rattle.store_parts.specs.declared.store.Store.{Store}
 use Rattle.store_parts.specs.Ids.{StoreIds, ids_of, lock_of}
 use Rattle.recorder.specs.declared.ended.Ended.{Ended}
-use Rattle.recorder.specs.Ending.{told_at_end, side_of}
+use Rattle.recorder.specs.Ending.{told_at_end}
 use Rattle.recorder.specs.Tied.{HasEnded}
 use Rattle.store_closing.specs.Closes.{HaveEnded}
 use Rattle.store_closing.specs.Pieces.{gauges_at_end}

@@ -4,4 +4,6 @@ pub mod Composing
 pub mod Words
 pub mod OneByOne
 pub mod Gathered
-pub mod NeverMade
+pub mod AcceptedKinds
+pub mod OtherKinds
+pub mod Pending

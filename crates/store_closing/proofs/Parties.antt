@@ -1,5 +1,5 @@
 -- What each worker left accounts for what it did, in the log that the last sweep found.
-use Rattle.std.proofs.Common.{◌≡◌, ℕ, suc, List, [], ◌∷◌, map, ap, subst}
+use Rattle.std.proofs.Common.{ℕ, suc, List, [], ◌∷◌, map, ap, subst}
 use Rattle.std.specs.List.{AllByRecursion}
 use Rattle.stat_defs.specs.Books.{BookHistory}
 use Rattle.stat_defs.specs.declared.history.Entry.{Entry}

@@ -1,19 +1,15 @@
 -- The end of a store: the last flush, and the report that its parties make together (this project's own).
-use Rattle.std.specs.Prelude.{◌≡◌, ℕ, ◌<◌, ◌≤◌, [], List, length, map}
-use Rattle.std.specs.List.{AllByRecursion}
+use Rattle.std.specs.Prelude.{◌≡◌, ℕ, ◌<◌, [], List, length, map}
 use Rattle.stat_defs.specs.declared.configs.Config.{Config}
 use Rattle.stat_defs.specs.declared.events.Event.{Event}
 use Rattle.stat_defs.specs.declared.history.Entry.{Entry}
-use Rattle.stat_defs.specs.declared.ids.Kind.TheVariants.{Counter}
 use Rattle.stat_defs.specs.declared.ids.MetricId.{MetricId}
 use Rattle.stat_defs.specs.declared.reports.LastFlush.{LastFlush}
 use Rattle.stat_defs.specs.declared.reports.Report.{Report}
 use Rattle.book_state.specs.declared.limits.TheConstants.{MAX_METRICS}
-use Rattle.book_state.specs.Log.{replay}
 use Rattle.locked_book.specs.Sharing.{first_of}
 use Rattle.metric_words.specs.CounterLaws.{IsCounterEnd}
 use Rattle.flush_words.specs.Words.{after_latches}
-use Rattle.ledger.specs.Flushes.{ids_made}
 use Rattle.ledger.specs.Ledger.{RunPlan, plan_of}
 use Rattle.ledger.specs.Lists.{EachNumbered}
 use Rattle.ledger.specs.Work.{events_in, verdicts_in}
@@ -65,7 +61,7 @@ pub record IsEmptied (told : RunTold) (id : MetricId) : Type 0 where
   pub end : IsCounterEnd id.0 (map (λ worker. worker.counts) told.workers) told.flusher told.reader value 0
 
 -- The store came to its end with this last flush and this log. All its parties account for what they did, and nothing is
--- pending of any counter that was ever made, nor in a word that was never a metric's.
+-- pending in any word of the counters' bank, whether its number was a counter's, another metric's or none.
 pub record Closes (store : Store) (ended : List Ended) (flusher : FlusherKnown) (reader : ReaderKnown)
     (last : LastFlush) : Type 0 where
   pub flush : FlushTold
@@ -73,8 +69,4 @@ pub record Closes (store : Store) (ended : List Ended) (flusher : FlusherKnown) 
   pub accounts : RunAccounts (plan_told (first_of store.book).config (told_of ended flusher reader flush))
       (events_told (told_of ended flusher reader flush)) (told_of ended flusher reader flush)
       (report_told (told_of ended flusher reader flush) last.log)
-  pub emptied : AllByRecursion (IsEmptied (told_of ended flusher reader flush))
-      (ids_made Counter (replay (plan_of (first_of store.book).config).rules (first_of store.book).workers last.log))
-  pub never : (id : ℕ)
-      → length (replay (plan_of (first_of store.book).config).rules (first_of store.book).workers last.log).metrics ≤ id
-      → id < MAX_METRICS → IsEmptied (told_of ended flusher reader flush) (record { 0 = id })
+  pub emptied : (id : ℕ) → id < MAX_METRICS → IsEmptied (told_of ended flusher reader flush) (record { 0 = id })

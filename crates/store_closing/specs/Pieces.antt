@@ -1,5 +1,5 @@
 -- What the end of a store makes, piece by piece (this project's own).
-use Rattle.std.specs.Prelude.{◌≡◌, ℕ, ◌<◌, List, [], ◌∷◌, ◌++◌, map}
+use Rattle.std.specs.Prelude.{ℕ, ◌<◌, List, [], ◌∷◌, ◌++◌, map}
 use Rattle.std.specs.List.{AllByRecursion}
 use Rattle.stat_defs.specs.declared.reports.Delta.{Delta}
 use Rattle.seat_history.specs.declared.known.LogKnown.{LogKnown}

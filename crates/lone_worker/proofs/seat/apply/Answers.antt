@@ -12,7 +12,8 @@ poll-requires-clause-works c = works_own c.args.seat.now c.args.seat.now c.requi
 pub returns-in_err-poll-clause-err : goal.returns-in_err-poll-clause-err
 returns-in_err-poll-clause-err c =
     let a = c.args.seat.now in let m = c.poll.new.self in
-    err_so c.from_residual.result (CutsAlone a m) (vain_own a m c.requires.number c.in_err-poll.ensures.err)
+    let e = event_of c.args.event.now in
+    err_so c.from_residual.result (CutsAlone e a m) (vain_own a m c.requires.number e c.in_err-poll.ensures.err)
 
 pub decide-requires-clause-works : goal.decide-requires-clause-works
 decide-requires-clause-works c = c.in_ok-poll.ensures.polls.stays.works
@@ -31,5 +32,5 @@ returns-clause-applied c =
 pub returns-clause-err : goal.returns-clause-err
 returns-clause-err c =
     let a = c.args.seat.now in let m = c.poll.new.self in let b = c.decide.new.self in let e = event_of c.args.event.now in
-    on_err c.decide.result (CutsEvent e (owned_known m.number m.book) (owned_known b.number b.book)) (CutsAlone a b)
+    on_err c.decide.result (CutsEvent e (owned_known m.number m.book) (owned_known b.number b.book)) (CutsAlone e a b)
     (λ cuts. cuts_own a m b c.requires.number c.in_ok-poll.field-0 c.in_ok-poll.ensures.polls e cuts) c.decide.ensures.err

@@ -1,22 +1,17 @@
-use Rattle.std.proofs.Common.{◌≡◌, ◌+◌, ◌≤◌, ◌<◌, ℕ, None, Ok, IfOk, List, [], ◌∷◌, ◌++◌, length, map, refl, ap, sym, ◌∙◌, subst, arith, All}
-use Rattle.std.specs.List.{AllByRecursion, flat_map}
+use Rattle.std.proofs.Common.{◌≡◌, List, [], ◌∷◌, ◌++◌, length, map, refl, ap, sym, ◌∙◌, subst, arith, All}
+use Rattle.std.specs.List.{flat_map}
 use Rattle.std.proofs.lemmas.List.{length-map, map-append}
-use Rattle.std.proofs.lemmas.List.Elements.{recursion_from_All}
 use Rattle.std.proofs.lemmas.Simd.{map-map}
 use Rattle.atomic_table.specs.Seated.{TableId}
 use Rattle.stat_defs.specs.Books.{BookHistory}
-use Rattle.stat_defs.specs.declared.ids.MetricId.{MetricId}
-use Rattle.stat_defs.specs.declared.reports.Delta.{Delta}
 use Rattle.seat_history.specs.declared.known.LogKnown.{LogKnown}
-use Rattle.book_state.specs.declared.limits.TheConstants.{MAX_METRICS}
 use Rattle.locked_book.specs.declared.shared.LockedBook.{LockedBook}
 use Rattle.book_lock.specs.History.{IsOneHistory}
 use Rattle.locked_book.specs.Sharing.{AreAllSeats, known_by, first_of, seat_count}
 use Rattle.metric_words.specs.declared.counter_seats.WorkerSeat.{WorkerSeat}
 use Rattle.metric_words.specs.declared.counter_view.CountPart.{CountPart}
 use Rattle.metric_words.specs.declared.gauge_seats.GaugeSeat.{GaugeSeat}
-use Rattle.metric_words.specs.declared.gauge_view.GaugePart.{GaugePart}
-use Rattle.metric_words.specs.CounterLedger.{CounterKnown, worker_part, worker_known, flush_known, read_known, bank_id}
+use Rattle.metric_words.specs.CounterLedger.{CounterKnown, worker_part, worker_known, flush_known, bank_id}
 use Rattle.metric_words.specs.Gauges.{written}
 use Rattle.metric_words.specs.GaugeLedger.{GaugeKnown, gauge_known, gauge_part, gauge_all, gauges_id}
 use Rattle.merge_round.specs.Rounds.{ParentsState}
@@ -28,9 +23,7 @@ use Rattle.cells_end.specs.Ends.{AreEnds}
 use Rattle.cells_end.specs.LastRound.{IsLastRound, halves_at_end}
 use Rattle.store_parts.specs.Ids.{StoreIds, ids_of, lock_of}
 use Rattle.recorder.specs.declared.ended.Ended.{Ended}
-use Rattle.flusher.specs.Flusher.{FlusherKnown}
 use Rattle.store_closing.specs.Pieces.{EndsCounters, seats_at_end, counts_at_end, gauges_at_end}
-use Rattle.store_closing.specs.Sorting.{ends_of}
 use Rattle.store_closing.proofs.Gathered.{seats_gathered, counts_gathered, gauges_gathered, others_are, others_count, cells_gathered, halves_same}
 use Rattle.store_closing.proofs.Composing.{closes}
 use Rattle.store_closing.proofs.closing.close_store.Goals as goal
@@ -116,7 +109,6 @@ returns c =
     have c.requires.flusher.1 c.requires.flusher.0.number own_told.accounts reader.ensures.accounts (ap (λ (h : BookHistory). h.log) store.whole.new)
     (subst (λ (l : List LogKnown). IsOneHistory (first_of store.book) (seat_count store.book) l book.found) seats book.one)
     book.last.last book.last.sweeps book.last.legal
-    (recursion_from_All (λ (id : MetricId). id.0 < MAX_METRICS) _ (subst (λ (l : List MetricId). All (λ (id : MetricId). id.0 < MAX_METRICS) l) book.last.made book.last.metrics))
     refl (c.in_ok-deltas.ensures.ids ∙ (c.items.ensures ∙ book.last.made))
     (subst (λ (l : List CountPart). EndsCounters l c.args.flusher.counters c.args.admin.counters deltas) counts
     (subst (λ (k : CounterKnown). EndsCounters (map worker_part c.in_ok-sorted.sorted.counts.items) k c.args.admin.counters deltas) own_told.words.0

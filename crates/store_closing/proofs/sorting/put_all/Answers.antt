@@ -1,11 +1,11 @@
-use Rattle.std.proofs.Common.{arith, refl, ◌≡◌, ◌+◌, ◌≤◌, ℕ, List, [], ◌∷◌, ◌++◌, length, length-append, append-nil, sym, ap, subst, ◌∙◌}
+use Rattle.std.proofs.Common.{arith, ◌≡◌, ◌+◌, List, [], ◌∷◌, ◌++◌, length, length-append, append-nil, sym, ap, subst, ◌∙◌}
 use Rattle.std.specs.Vec.Iter.{into_iter_items}
 use Rattle.std.proofs.lemmas.List.{nil_from_length}
 use Rattle.merge_round.specs.Halves.{HalfState}
 use Rattle.turn_cell.specs.declared.cell.TurnCell.{TurnCell}
 use Rattle.flush_cells.proofs.ListLemmas.{taken_one}
 use Rattle.recorder.specs.declared.ended.Ended.{Ended}
-use Rattle.store_closing.specs.Sorting.{HasRoomFor, Sorts}
+use Rattle.store_closing.specs.Sorting.{Sorts}
 use Rattle.store_closing.proofs.OneByOne.{fewer_room, sorts_more, cell_for_each}
 use Rattle.store_closing.proofs.sorting.put_all.Goals as goal
 

@@ -1,5 +1,4 @@
-use Rattle.std.proofs.Common.{◌≡◌, ◌+◌, ◌<◌, ◌≤◌, length, arith, vec_len, vec_capacity}
-use Rattle.store_closing.specs.Sorting.{HasRoomFor}
+use Rattle.std.proofs.Common.{arith}
 use Rattle.store_closing.proofs.sorting.sort_left.Goals as goal
 
 pub push_reserved-requires-2 : goal.push_reserved-requires-2

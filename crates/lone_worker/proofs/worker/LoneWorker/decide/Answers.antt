@@ -3,8 +3,8 @@ use Rattle.stat_defs.specs.Events.{IsLawfulEvent}
 use Rattle.stat_defs.specs.declared.events.Event.{Event}
 use Rattle.stat_book.specs.Calls.{state_of}
 use Rattle.book_seat.specs.Naming.{NamesOwn}
-use Rattle.lone_worker.specs.Worker.{Decides}
-use Rattle.std.specs.Prelude.{IfOk}
+use Rattle.lone_worker.specs.Worker.{Decides, IsCutShort}
+use Rattle.std.specs.Prelude.{IfOk, OnErr}
 use Rattle.lone_worker.proofs.worker.LoneWorker.decide.Goals as goal
 
 pub decide_ref-requires-clause-lawful : goal.decide_ref-requires-clause-lawful
@@ -19,3 +19,8 @@ pub returns-clause-named : goal.returns-clause-named
 returns-clause-named c =
     subst (λ (e : Event). IfOk c.decide_ref.result (λ v. NamesOwn (state_of c.decide_ref.new.self.book) e v)) c.borrowed.ensures
     c.decide_ref.ensures.named
+
+pub returns-clause-err : goal.returns-clause-err
+returns-clause-err c =
+    subst (λ (e : Event). OnErr c.decide_ref.result (IsCutShort c.args.self.now e c.decide_ref.new.self)) c.borrowed.ensures
+    c.decide_ref.ensures.err

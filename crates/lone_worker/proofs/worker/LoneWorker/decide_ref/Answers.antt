@@ -63,5 +63,6 @@ pub returns-in_err-verdict-clause-err : goal.returns-in_err-verdict-clause-err
 returns-in_err-verdict-clause-err c =
     let w = c.self.inside in
     let new : WorkerHistory = record { book = c.apply.new.seat.book; events = w.events.items; verdicts = w.verdicts.items; ended = w.ended; whole = false } in
-    err_so c.from_residual.result (IsCutShort c.args.self.now new)
-    (subst (λ (v : WorkerHistory). IsCutShort v new) c.self.view_is (record { left = c.in_err-verdict.ensures.err.left; cut = refl }))
+    let e = event_of c.args.event.now in
+    err_so c.from_residual.result (IsCutShort c.args.self.now e new)
+    (subst (λ (v : WorkerHistory). IsCutShort v e new) c.self.view_is (record { left = c.in_err-verdict.ensures.err.left; cut = refl }))

@@ -1,5 +1,4 @@
-use Rattle.std.proofs.Common.{false, List, [], length, filter, refl, ap, sym, ◌∙◌, subst, arith, append-nil}
-use Rattle.stat_defs.specs.Books.{BookHistory}
+use Rattle.std.proofs.Common.{◌≡◌, inl, inr, false, List, length, filter, ap, sym, ◌∙◌, subst, arith}
 use Rattle.stat_defs.specs.declared.ids.Kind.TheVariants.{Counter, Gauge}
 use Rattle.stat_defs.specs.declared.history.Entry.{Entry}
 use Rattle.stat_defs.specs.declared.reports.FlushRecord.{FlushRecord}
@@ -9,10 +8,14 @@ use Rattle.lone_worker.specs.Worker.{WorkerHistory}
 use Rattle.book_seat.proofs.Results.{err_so}
 use Rattle.ledger.specs.Flushes.{ids_not_gone}
 use Rattle.plain_store.specs.Sums.{is_of_kind}
-use Rattle.plain_store.specs.Store.{StoreHistory, IsCutShort, Flushes}
+use Rattle.plain_store.specs.Store.{StoreHistory, FlushIsCutShort, Flushes}
 use Rattle.plain_store.specs.StoreKept.{shown, AreOfWork}
 use Rattle.plain_store.proofs.FlushLemmas.{names_within, kind_shown, shows_as, flush_accounts, flushed_of_work}
 use Rattle.plain_store.proofs.store.PlainStore.flush.Goals as goal
+
+-- a worker that has not changed has changed no more than its book
+only_book : (old new : WorkerHistory) → new ≡ old → new ≡ record old { book = new.book }
+only_book old new same = same ∙ λ i. record old { book = sym (ap (λ (w : WorkerHistory). w.book) same) i }
 
 pub take_flush-requires : goal.take_flush-requires
 take_flush-requires c =
@@ -71,8 +74,8 @@ invariant_of-self-2 c =
         values = (let small = c.self.invariant.small.values in omega (arith, small, values, events));
       };
       exact = λ whole.
-          subst (λ (w : WorkerHistory). AreOfWork (record { worker = w; flushes = c.and-self-inside.result.items; whole = p.whole }) c.take_flush.new.sums) (sym rest)
-          (subst (λ (fs : List FlushRecord). AreOfWork (record { worker = record p.worker { book = new }; flushes = fs; whole = p.whole }) c.take_flush.new.sums) (sym c.and-self-inside.ensures)
+          subst (λ (w : WorkerHistory). AreOfWork (record { worker = w; counted = p.counted.items; flushes = c.and-self-inside.result.items; whole = p.whole }) c.take_flush.new.sums) (sym rest)
+          (subst (λ (fs : List FlushRecord). AreOfWork (record { worker = record p.worker { book = new }; counted = p.counted.items; flushes = fs; whole = p.whole }) c.take_flush.new.sums) (sym c.and-self-inside.ensures)
           (flushed_of_work (shown p) new n logged c.log.ensures.one_worker p.sums c.take_flush.new.sums flush shows c.in_ok-flush.ensures.emptied (c.self.invariant.exact whole)));
     }
 
@@ -87,29 +90,27 @@ returns-clause-ok c =
     let shows = shows_as p.sums (length c.log.result.now) (length old.log) (filter (is_of_kind Counter (state_of new)) list) (ids_not_gone Counter (state_of old))
     (filter (is_of_kind Gauge (state_of new)) list) (ids_not_gone Gauge (state_of old)) flush (ap (λ (l : List Entry). length l) c.log.ensures.log)
     (kind_shown Counter old new n logged list are) (kind_shown Gauge old new n logged list are) c.in_ok-flush.ensures.shows in
-    let after : StoreHistory = record { worker = c.sweep.new.self; flushes = c.and-self-inside.result.items; whole = p.whole } in
+    let after : StoreHistory = record { worker = c.sweep.new.self; counted = p.counted.items; flushes = c.and-self-inside.result.items; whole = p.whole } in
     subst (λ (s : StoreHistory). Flushes s flush after) c.self.view_is
     (record {
       at = shows.place;
       swept = (n, logged);
-      rest = λ i. record { worker = c.in_ok-swept.ensures.rest i; flushes = c.and-self-inside.ensures i; whole = p.whole };
+      rest = λ i. record { worker = c.in_ok-swept.ensures.rest i; counted = p.counted.items; flushes = c.and-self-inside.ensures i; whole = p.whole };
       accounts = λ whole. flush_accounts (shown p) new n logged c.log.ensures.one_worker p.sums c.take_flush.new.sums flush shows c.in_ok-flush.ensures.emptied (c.self.invariant.exact whole);
     })
 
 pub returns-in_err-swept-clause-err : goal.returns-in_err-swept-clause-err
 returns-in_err-swept-clause-err c =
     let p = c.self.inside in let same = c.in_err-swept.ensures.err in
-    let after : StoreHistory = record { worker = c.sweep.new.self; flushes = p.flushes.items; whole = false } in
-    let events = ap (λ (w : WorkerHistory). length w.events) same in
-    err_so c.from_residual.result (IsCutShort c.args.self.now after)
-    (subst (λ (s : StoreHistory). IsCutShort s after) c.self.view_is
-    (record { front = ([], ap (λ (w : WorkerHistory). w.book) same ∙ λ i. record { config = p.worker.book.config; workers = p.worker.book.workers; log = sym (append-nil p.worker.book.log) i }); events = omega (arith, events); flushes = refl; whole = refl }))
+    let after : StoreHistory = record { worker = c.sweep.new.self; counted = p.counted.items; flushes = p.flushes.items; whole = false } in
+    err_so c.from_residual.result (FlushIsCutShort c.args.self.now after)
+    (subst (λ (s : StoreHistory). FlushIsCutShort s after) c.self.view_is
+    (record { sweep = inl (ap (λ (w : WorkerHistory). w.book) same); rest = ap (λ (w : WorkerHistory). record after { worker = w }) (only_book p.worker c.sweep.new.self same) }))
 
 pub returns-in_err-flush-clause-err : goal.returns-in_err-flush-clause-err
 returns-in_err-flush-clause-err c =
     let p = c.self.inside in let rest = c.in_ok-swept.ensures.rest in
-    let after : StoreHistory = record { worker = c.sweep.new.self; flushes = p.flushes.items; whole = false } in
-    let events = ap (λ (w : WorkerHistory). length w.events) rest in
-    err_so c.from_residual-in_err-flush.result (IsCutShort c.args.self.now after)
-    (subst (λ (s : StoreHistory). IsCutShort s after) c.self.view_is
-    (record { front = (_, c.in_ok-swept.ensures.step.logged); events = omega (arith, events); flushes = refl; whole = refl }))
+    let after : StoreHistory = record { worker = c.sweep.new.self; counted = p.counted.items; flushes = p.flushes.items; whole = false } in
+    err_so c.from_residual-in_err-flush.result (FlushIsCutShort c.args.self.now after)
+    (subst (λ (s : StoreHistory). FlushIsCutShort s after) c.self.view_is
+    (record { sweep = inr (length c.in_ok-swept.swept.gone, c.in_ok-swept.ensures.step); rest = ap (λ (w : WorkerHistory). record after { worker = w }) rest }))
