@@ -1,6 +1,6 @@
-//! Tests of runs of files in real threads: `gates` hold the threads up, `rows` says what comes of it, `schedules` that the
-//! same comes of four workers' events in whatever order, and `hard_files` what comes of files that somebody made to be
-//! hard.
+//! Tests of runs of files in real threads: `gates` hold the threads up, `rows` says what comes of it, `schedules` that
+//! the same comes of four workers' events in whatever order, and `hard_files` what comes of files that somebody made to
+//! be hard.
 #![tactic(auto)]
 
 #[cfg(test)]
