@@ -195,7 +195,8 @@ def rules_of(count, names):
     rules, patterns = [], []
     for at in range(64):
         word = "%02d" % at
-        rules.append({"tag_name": "t" + word, "regex": ("((a*)*" + "(?:a*)*" * 144 + "b" + word).ljust(1023, "c") + ")"})
+        regex = ("((a*)*" + "(?:a*)*" * 144 + "b" + word).ljust(1023, "c") + ")"
+        rules.append({"tag_name": "t" + word, "regex": regex})
     for at in range(32):
         patterns.append({"safe_regex": {"regex": ("(?:a*)*" * 145 + "b%02d" % at).ljust(1024, "d")}})
     config = {"use_all_default_tags": False, "stats_tags": rules,
@@ -407,7 +408,8 @@ def replaced(program, command):
             to.write("inc root p 1\n")
         out, err = process.communicate(timeout=LONGEST)
         os.chdir("/")
-    whole = b"# last\nenvoy.old:3|c\nenvoy.p:1|c\n# worker 1: 3 accepted, 0 dropped\n# worker 2: 1 accepted, 0 dropped\n"
+    whole = (b"# last\nenvoy.old:3|c\nenvoy.p:1|c\n"
+             b"# worker 1: 3 accepted, 0 dropped\n# worker 2: 1 accepted, 0 dropped\n")
     right = process.returncode == 0 and err == b"" and out == whole
     print("%-20s %-6s status %d%s" % ("replaced", command, process.returncode, "" if right else "; WRONG: %r" % out))
     return not right
