@@ -179,7 +179,7 @@ def warm_histograms():
         lines = ["rec root h%d %d" % (at % 1024, rng.randrange(1 << rng.randrange(1, 64))) for at in range(EVENTS)]
         files.append(put("f%d" % worker, lines))
     return Case(files, boot=boot, ends=lambda told: told == [(EVENTS, 0)] * 32,
-                slow="the tables of 1,024 histograms are more than the caches hold; with 16 it takes a quarter of the time")
+                slow="the tables of 1,024 histograms are more than the caches hold; with 16 it takes a quarter of it")
 
 
 def churn():
