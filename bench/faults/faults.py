@@ -21,9 +21,14 @@ STATUSES = {"alloc": {6}, "open": {4}, "read": {4}, "write": {5}}
 
 
 def run(program, shim, words, kind, at):
-    env = dict(os.environ, LD_PRELOAD=shim, FAIL_KIND=kind, FAIL_AT=str(at))
+    """Status, standard output and standard error, and whether the call failed: there may be fewer."""
+    seen = shim + ".seen"
+    env = dict(os.environ, LD_PRELOAD=shim, FAIL_KIND=kind, FAIL_AT=str(at), FAIL_SEEN=seen)
     done = subprocess.run([program] + words, env=env, capture_output=True)
-    return done.returncode, done.stdout, done.stderr
+    failed = os.path.exists(seen)
+    if failed:
+        os.remove(seen)
+    return done.returncode, done.stdout, done.stderr, failed
 
 
 def main():
@@ -41,7 +46,7 @@ def main():
             unfailed = 0
             at = 0
             while unfailed < 3:
-                status, out, err = run(program, shim, words, kind, at)
+                status, out, err, failed = run(program, shim, words, kind, at)
                 whole = status == 0 and out == WHOLE and err == b""
                 front = status in allowed and WHOLE.startswith(out) and err
                 # A file that could not be opened or read leaves the output without its events.
@@ -50,7 +55,7 @@ def main():
                     wrong += 1
                     print(f"wrong: {kind} {at}: status {status}, {out!r}, {err!r}")
                 seen[status, err.decode(errors="replace").strip()] += 1
-                unfailed = unfailed + 1 if whole else 0
+                unfailed = 0 if failed else unfailed + 1
                 at += 1
             told = ", ".join(f"{n} times status {s} ({e})" if s else f"{n} times status 0" for (s, e), n in seen.items())
             print(f"{kind}: {told}")

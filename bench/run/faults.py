@@ -133,7 +133,7 @@ def few_threads(program):
 
 
 def every_place(program):
-    """Each allocation, opening, read and write failing in turn, until three runs in a row have no fault."""
+    """Each allocation, opening, read and write failing in turn, until in three runs in a row there is no such call."""
     wrong = 0
     with tempfile.TemporaryDirectory() as place:
         shim = compile_shim(place, HERE.parent / "faults" / "fail.c")
@@ -141,12 +141,17 @@ def every_place(program):
         for kind in STATUSES:
             seen, at, unfailed = collections.Counter(), 0, 0
             while unfailed < 3:
-                status, out, err = run(program, place, 3, LD_PRELOAD=shim, FAIL_KIND=kind, FAIL_AT=str(at))
+                told = os.path.join(place, "seen")
+                status, out, err = run(program, place, 3, LD_PRELOAD=shim, FAIL_KIND=kind, FAIL_AT=str(at),
+                                       FAIL_SEEN=told)
+                failed = os.path.exists(told)
+                if failed:
+                    os.remove(told)
                 if not is_right(kind, status, out, err):
                     wrong += 1
                     print("wrong: %s %d: status %d, %r, %r" % (kind, at, status, out[:60], err))
                 seen[status, err.strip()] += 1
-                unfailed = unfailed + 1 if status == 0 else 0
+                unfailed = 0 if failed else unfailed + 1
                 at += 1
             print("%s: %s" % (kind, ", ".join("%d times status %d %s" % (n, *key) for key, n in seen.items())))
     return wrong
