@@ -32,19 +32,19 @@ zeros-at zero k = refl
 zeros-at (suc n) zero = refl
 zeros-at (suc n) (suc k) = zeros-at n k
 
-pub opens : (key : BankKey) (words : List ℕ) → words ≡ replicate (2 * key.size) 0 → key.workers * MAX_UNITS < 2 ^ 64 → Counted key (opening words [] (bank_view key))
+pub opens : (key : BankKey) (words : List ℕ) → words ≡ replicate (8 * key.size) 0 → key.workers * MAX_UNITS < 2 ^ 64 → Counted key (opening words [] (bank_view key))
 opens key words is narrow =
     let none : (f : CountPart → ℕ) → ((role : SeatRole) (seat : ℕ) → f (new_part role key.workers seat) ≡ 0) → parts_total f (bank_view key ∷ []) ≡ 0 =
     λ f z. let a = z Flusher 0 in let b = later-none f key.workers (z Worker) (z Reader) 1 key.workers in omega arith in
-    let zero-at : (k : ℕ) → get_or words k 0 ≡ 0 = λ k. ap (λ (l : List ℕ). get_or l k 0) is ∙ zeros-at (2 * key.size) k in
+    let zero-at : (k : ℕ) → get_or words k 0 ≡ 0 = λ k. ap (λ (l : List ℕ). get_or l k 0) is ∙ zeros-at (8 * key.size) k in
     let all : All (FitsBank key.workers words) (bank_view key).parts = All-cons (FitsBank key.workers words) (new_part Flusher key.workers 0) (later_parts key.workers 1 key.workers) (new-fits Flusher key.workers 0 words) (later-fits key.workers 1 key.workers words) in
     record {
-      wide = ap length is ∙ length-replicate (2 * key.size) 0;
+      wide = ap length is ∙ length-replicate (8 * key.size) 0;
       narrow = narrow;
       workers = (let w = later-workers key.workers 1 key.workers in omega arith);
       flusher = (let f = later-none (λ (p : CountPart). flusher_weight p.role) key.workers (λ _. refl) (λ _. refl) 1 key.workers in omega arith);
-      value = λ k. (let z = zero-at (2 * k) in let n = none (λ p. firsts k p.steps) (λ _ _. refl) in omega arith);
-      pending = λ k. (let z = zero-at (2 * k + 1) in let l = none (λ p. latches k p.steps) (λ _ _. refl) in let n = none (λ p. seconds k p.steps) (λ _ _. refl) in omega arith);
+      value = λ k. (let z = zero-at (8 * k) in let n = none (λ p. firsts k p.steps) (λ _ _. refl) in omega arith);
+      pending = λ k. (let z = zero-at (8 * k + 1) in let l = none (λ p. latches k p.steps) (λ _ _. refl) in let n = none (λ p. seconds k p.steps) (λ _ _. refl) in omega arith);
       each = All-cons (λ (v : View). All (FitsBank key.workers words) v.parts) (bank_view key) [] all (All-nil _);
     }
 

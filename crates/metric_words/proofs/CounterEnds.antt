@@ -32,12 +32,12 @@ place-push f xs all x n l below e here k h = ap (λ z. get_or z k 0) e ∙ dite 
     (λ i. ap (λ j. get_or (xs ++ x ∷ []) j 0) (i ∙ sym l) ∙ (get_or-append_seam xs x [] 0 ∙ (here ∙ ap f (sym i))))
     (λ ne. get_or_append_left xs (x ∷ []) 0 k (omega arith) ∙ below k (omega arith))
 
-pub words-push : (n : ℕ) (words vs ps vs' ps' : List ℕ) (x y : ℕ) → HasWords n words vs ps → vs' ≡ vs ++ x ∷ [] → ps' ≡ ps ++ y ∷ [] → get_elem? words (2 * n) ≡ some x → get_elem? words (2 * n + 1) ≡ some y → HasWords (n + 1) words vs' ps'
+pub words-push : (n : ℕ) (words vs ps vs' ps' : List ℕ) (x y : ℕ) → HasWords n words vs ps → vs' ≡ vs ++ x ∷ [] → ps' ≡ ps ++ y ∷ [] → get_elem? words (8 * n) ≡ some x → get_elem? words (8 * n + 1) ≡ some y → HasWords (n + 1) words vs' ps'
 words-push n words vs ps vs' ps' x y has e e' at at' = record {
   values_length = ap length e ∙ omega (arith, length-append vs (x ∷ []), has.values_length);
   pending_length = ap length e' ∙ omega (arith, length-append ps (y ∷ []), has.pending_length);
-  even = place-push (λ k. get_or words (2 * k) 0) vs vs' x n has.values_length has.even e (sym (at-or words (2 * n) x 0 at));
-  odd = place-push (λ k. get_or words (2 * k + 1) 0) ps ps' y n has.pending_length has.odd e' (sym (at-or words (2 * n + 1) y 0 at'));
+  value = place-push (λ k. get_or words (8 * k) 0) vs vs' x n has.values_length has.value e (sym (at-or words (8 * n) x 0 at));
+  left = place-push (λ k. get_or words (8 * k + 1) 0) ps ps' y n has.pending_length has.left e' (sym (at-or words (8 * n + 1) y 0 at'));
 }
 
 pub one-total : (f : CountPart → ℕ) (ps : List CountPart) → length ps ≡ 1 → let v : View = record { parts = ps } in total f ps ≡ f (own_part v)
@@ -71,7 +71,7 @@ worker-latches : (k : ℕ) (ws : List WorkerSeat) → total (λ (w : WorkerSeat)
 worker-latches k [] = refl
 worker-latches k (w ∷ ws) = omega (arith, w.kinds k, worker-latches k ws)
 
-own-rises : (workers : ℕ) (words : List ℕ) (ps : List CountPart) (k : ℕ) → All (FitsBank workers words) ps → let v : View = record { parts = ps } in Rises k (own_steps v) (get_or words (2 * k) 0)
+own-rises : (workers : ℕ) (words : List ℕ) (ps : List CountPart) (k : ℕ) → All (FitsBank workers words) ps → let v : View = record { parts = ps } in Rises k (own_steps v) (get_or words (8 * k) 0)
 own-rises workers words [] k e = tt
 own-rises workers words (p ∷ ps) k e = (All-head (FitsBank workers words) p ps e).loads k
 
@@ -84,32 +84,32 @@ module _ (key : BankKey) (id : ℕ) (v : View) (s : State (Unit {0}) View) (r : 
   flusher-here : parts_total (λ (p : CountPart). flusher_weight p.role) s.views ≤ total (λ (p : CountPart). flusher_weight p.role) v.parts
   flusher-here = let t = totals (λ p. flusher_weight p.role) in let o = seats.flusher.role in let w = r.flusher in omega arith
 
-  last-value : (k : ℕ) → get_or s.words (2 * k) 0 ≡ workers_total (λ p. firsts k p.steps) seats
+  last-value : (k : ℕ) → get_or s.words (8 * k) 0 ≡ workers_total (λ p. firsts k p.steps) seats
   last-value k =
       let one = one-view (λ (p : CountPart). firsts k p.steps) (λ (p : CountPart). worker_weight p.role) (FitsBank key.workers s.words) (λ p f z. no-firsts k p f z) s.views r.each id v at workers-here in
       let t = totals (λ p. firsts k p.steps) in let f = (seats.flusher.kinds k).0 in let d = (seats.reader.kinds k).0 in let e = r.value k in omega arith
 
-  last-pending : (k : ℕ) → get_or s.words (2 * k + 1) 0 + latches k (flush_steps seats) ≡ workers_total (λ p. seconds k p.steps) seats
+  last-pending : (k : ℕ) → get_or s.words (8 * k + 1) 0 + latches k (flush_steps seats) ≡ workers_total (λ p. seconds k p.steps) seats
   last-pending k =
       let one = one-view (λ (p : CountPart). seconds k p.steps) (λ (p : CountPart). worker_weight p.role) (FitsBank key.workers s.words) (λ p f z. no-seconds k p f z) s.views r.each id v at workers-here in
       let two = one-view (λ (p : CountPart). latches k p.steps) (λ (p : CountPart). flusher_weight p.role) (FitsBank key.workers s.words) (λ p f z. no-latches k p f z) s.views r.each id v at flusher-here in
       let t = totals (λ p. seconds k p.steps) in let u = totals (λ p. latches k p.steps) in let n = worker-latches k seats.workers.items in
       let f = (seats.flusher.kinds k).1 in let g = (seats.flusher.kinds k).2 in let d = (seats.reader.kinds k).1 in let l = (seats.reader.kinds k).2 in let e = r.pending k in omega arith
 
-  last-units : (k : ℕ) → get_or s.words (2 * k) 0 ≤ key.workers * MAX_UNITS
+  last-units : (k : ℕ) → get_or s.words (8 * k) 0 ≤ key.workers * MAX_UNITS
   last-units k =
       let b = parts_total-bound (λ (p : CountPart). firsts k p.steps) (λ p. worker_weight p.role) MAX_UNITS (FitsBank key.workers s.words) (firsts-cap key.workers s.words k) s.views r.each in
       let b' = subst (λ (n : ℕ). parts_total (λ (p : CountPart). firsts k p.steps) s.views ≤ n * MAX_UNITS) r.workers b in let e = r.value k in omega arith
 
-  last-loads : (k : ℕ) → own_steps v ≡ read_steps seats → Rises k (read_steps seats) (get_or s.words (2 * k) 0)
-  last-loads k e = subst (λ ss. Rises k ss (get_or s.words (2 * k) 0)) e (own-rises key.workers s.words v.parts k (all-at (λ (z : View). All (FitsBank key.workers s.words) z.parts) s.views id v r.each at))
+  last-loads : (k : ℕ) → own_steps v ≡ read_steps seats → Rises k (read_steps seats) (get_or s.words (8 * k) 0)
+  last-loads k e = subst (λ ss. Rises k ss (get_or s.words (8 * k) 0)) e (own-rises key.workers s.words v.parts k (all-at (λ (z : View). All (FitsBank key.workers s.words) z.parts) s.views id v r.each at))
 
 pub closes : (key : BankKey) (id : ℕ) (v : View) (words : List ℕ) (xs : List (Unit {0})) (size : ℕ) (bank : TableId) (seats : WordSeats) (values pending : List ℕ)
     → Final (Seen (Counted key) id v) words xs → AreAll bank key.workers seats → ((f : CountPart → ℕ) → total f v.parts ≡ seats_total f seats) → own_steps v ≡ read_steps seats
     → HasWords size words values pending → IsLedger size key.workers seats values pending
 closes key id v words xs size bank seats values pending (s, seen, is, _, _) all totals reader has =
-    let value : (k : ℕ) → k < size → get_or values k 0 ≡ get_or s.words (2 * k) 0 = λ k h. has.even k h ∙ ap (λ ws. get_or ws (2 * k) 0) (sym is) in
-    let left : (k : ℕ) → k < size → get_or pending k 0 ≡ get_or s.words (2 * k + 1) 0 = λ k h. has.odd k h ∙ ap (λ ws. get_or ws (2 * k + 1) 0) (sym is) in
+    let value : (k : ℕ) → k < size → get_or values k 0 ≡ get_or s.words (8 * k) 0 = λ k h. has.value k h ∙ ap (λ ws. get_or ws (8 * k) 0) (sym is) in
+    let left : (k : ℕ) → k < size → get_or pending k 0 ≡ get_or s.words (8 * k + 1) 0 = λ k h. has.left k h ∙ ap (λ ws. get_or ws (8 * k + 1) 0) (sym is) in
     let accepted : (k : ℕ) → k < size → get_or pending k 0 + latches k (flush_steps seats) ≡ workers_total (λ p. seconds k p.steps) seats =
     λ k h. ap (λ n. n + latches k (flush_steps seats)) (left k h) ∙ last-pending key id v s seen.0 seen.1 bank seats all totals k in
     let valued : (k : ℕ) → k < size → get_or values k 0 ≡ workers_total (λ p. firsts k p.steps) seats = λ k h. value k h ∙ last-value key id v s seen.0 seen.1 bank seats all totals k in

@@ -106,16 +106,16 @@ module _ (key : BankKey) (s : St) (r : Counted key s) where
   -- the seat id, whose own part is l, makes the step x, and the word i becomes y
   placed : (i y id : ℕ) (x : CountStep) (l : CountPart) (ls : List CountPart) (c : List (ℕ × Unit {0})) → get_elem? s.views id ≡ some (led_by l ls)
       → role_of x.kind ≡ l.role
-      → ((k : ℕ) → get_or (set s.words i y) (2 * k) 0 ≡ get_or s.words (2 * k) 0 + first_by k x)
-      → ((k : ℕ) → get_or (set s.words i y) (2 * k + 1) 0 + latch_by k x ≡ get_or s.words (2 * k + 1) 0 + second_by k x)
-      → ((k : ℕ) → (firsts k (x ∷ l.steps) ≤ MAX_UNITS) × (firsts k (x ∷ l.steps) ≡ seconds k (x ∷ l.steps) + first_by k x) × Rises k (x ∷ l.steps) (get_or (set s.words i y) (2 * k) 0))
+      → ((k : ℕ) → get_or (set s.words i y) (8 * k) 0 ≡ get_or s.words (8 * k) 0 + first_by k x)
+      → ((k : ℕ) → get_or (set s.words i y) (8 * k + 1) 0 + latch_by k x ≡ get_or s.words (8 * k + 1) 0 + second_by k x)
+      → ((k : ℕ) → (firsts k (x ∷ l.steps) ≤ MAX_UNITS) × (firsts k (x ∷ l.steps) ≡ seconds k (x ∷ l.steps) + first_by k x) × Rises k (x ∷ l.steps) (get_or (set s.words i y) (8 * k) 0))
       → Counted key (stepped s i y id c (led_by (longer x l) ls) keeps)
   placed i y id x l ls c at role hv hp hf =
       let q : CountPart = longer x l in let words : List ℕ = set s.words i y in
       let moved : (f : CountStep → ℕ) → parts_total (λ (p : CountPart). total f p.steps) (set s.views id (led_by q ls)) ≡ parts_total (λ (p : CountPart). total f p.steps) s.views + f x =
       λ f. let t = step-total (λ (p : CountPart). total f p.steps) s.views id l q ls at in omega arith in
       let up : (p : CountPart) → Whole p → FitsBank key.workers words p =
-      λ p f. record { knows = f.knows; kinds = f.kinds; units = f.units; ahead = f.ahead; loads = λ k. rises-mono k p.steps (get_or s.words (2 * k) 0) (get_or words (2 * k) 0) (let h = hv k in omega arith) (f.loads k) } in
+      λ p f. record { knows = f.knows; kinds = f.kinds; units = f.units; ahead = f.ahead; loads = λ k. rises-mono k p.steps (get_or s.words (8 * k) 0) (get_or words (8 * k) 0) (let h = hv k in omega arith) (f.loads k) } in
       let own : Whole l = own-fits Whole s.views id l ls at r.each in
       record {
         wide = length-set s.words i y ∙ r.wide;
@@ -128,83 +128,83 @@ module _ (key : BankKey) (s : St) (r : Counted key s) where
             record { knows = own.knows; kinds = All-cons (λ a. role_of a.kind ≡ l.role) x l.steps role own.kinds; units = λ k. (hf k).0; ahead = λ k. (hf k).1; loads = λ k. (hf k).2 };
       }
 
-  here : (k y : ℕ) → k < 2 * key.size → get_or (set s.words k y) k 0 ≡ y
+  here : (k y : ℕ) → k < 8 * key.size → get_or (set s.words k y) k 0 ≡ y
   here k y h = get_or-set_same s.words k y 0 (let w = r.wide in omega arith)
 
-  same-word : (i k : ℕ) → i < 2 * key.size → get_or (set s.words i (get_or s.words i 0)) k 0 ≡ get_or s.words k 0
+  same-word : (i k : ℕ) → i < 8 * key.size → get_or (set s.words i (get_or s.words i 0)) k 0 ≡ get_or s.words k 0
   same-word i k h = dite (ℕ_discrete k i) (λ e. subst (λ (j : ℕ). get_or (set s.words i (get_or s.words i 0)) j 0 ≡ get_or s.words j 0) (sym e) (here i (get_or s.words i 0) h)) (λ ne. get_or-set_other s.words i k (get_or s.words i 0) 0 ne)
 
   first-placed : (i n id : ℕ) (l : CountPart) (ls : List CountPart) (c : List (ℕ × Unit {0})) → get_elem? s.views id ≡ some (led_by l ls)
       → i < key.size → firsts i l.steps + n ≤ MAX_UNITS → worker_weight l.role ≡ 1 → ((k : ℕ) → firsts k l.steps ≡ seconds k l.steps)
-      → Counted key (stepped s (2 * i) ((get_or s.words (2 * i) 0 + n) % 2 ^ 64) id c (led_by (longer (step_of First i n (get_or s.words (2 * i) 0)) l) ls) keeps)
+      → Counted key (stepped s (8 * i) ((get_or s.words (8 * i) 0 + n) % 2 ^ 64) id c (led_by (longer (step_of First i n (get_or s.words (8 * i) 0)) l) ls) keeps)
   first-placed i n id l ls c at small units worker even =
-      let x : ℕ = get_or s.words (2 * i) 0 in let y : ℕ = (x + n) % 2 ^ 64 in let p : CountStep = step_of First i n x in
+      let x : ℕ = get_or s.words (8 * i) 0 in let y : ℕ = (x + n) % 2 ^ 64 in let p : CountStep = step_of First i n x in
       let own : Whole l = own-fits Whole s.views id l ls at r.each in let one = when-same i i n refl in
       let below = below-word (λ (a : CountPart). firsts i a.steps) (firsts-cap key.workers s.words i) id l p ls at
       (subst (λ (w : ℕ). firsts i (p ∷ l.steps) ≤ w * MAX_UNITS) (sym worker) (omega arith)) in
       let value = r.value i in
       let is : y ≡ x + n = omega arith in
-      let hv : (k : ℕ) → get_or (set s.words (2 * i) y) (2 * k) 0 ≡ get_or s.words (2 * k) 0 + first_by k p =
+      let hv : (k : ℕ) → get_or (set s.words (8 * i) y) (8 * k) 0 ≡ get_or s.words (8 * k) 0 + first_by k p =
       λ k. dite (ℕ_discrete i k)
-      (λ e. subst (λ (j : ℕ). get_or (set s.words (2 * i) y) (2 * j) 0 ≡ get_or s.words (2 * j) 0 + when (eqb i j) n) e (let a = here (2 * i) y (omega arith) in omega arith))
-      (λ ne. let a = get_or-set_other s.words (2 * i) (2 * k) y 0 (λ q. ne (omega arith)) in let b = when-other i k n ne in omega arith) in
-      placed (2 * i) y id p l ls c at (worker-role l.role worker) hv
-      (λ k. ap (λ (m : ℕ). m + 0) (get_or-set_other s.words (2 * i) (2 * k + 1) y 0 (λ q. omega arith)))
+      (λ e. subst (λ (j : ℕ). get_or (set s.words (8 * i) y) (8 * j) 0 ≡ get_or s.words (8 * j) 0 + when (eqb i j) n) e (let a = here (8 * i) y (omega arith) in omega arith))
+      (λ ne. let a = get_or-set_other s.words (8 * i) (8 * k) y 0 (λ q. ne (omega arith)) in let b = when-other i k n ne in omega arith) in
+      placed (8 * i) y id p l ls c at (worker-role l.role worker) hv
+      (λ k. ap (λ (m : ℕ). m + 0) (get_or-set_other s.words (8 * i) (8 * k + 1) y 0 (λ q. omega arith)))
       (λ k. let u = own.units k in let h = hv k in let e = even k in (
         dite (ℕ_discrete i k)
             (λ same. let units' : firsts k l.steps + n ≤ MAX_UNITS = subst (λ (j : ℕ). firsts j l.steps + n ≤ MAX_UNITS) same units in let b = when-same i k n same in omega arith)
             (λ ne. let b = when-other i k n ne in omega arith),
         omega arith,
-        (le_refl _, rises-mono k l.steps (get_or s.words (2 * k) 0) (get_or (set s.words (2 * i) y) (2 * k) 0) (omega arith) (own.loads k)),
+        (le_refl _, rises-mono k l.steps (get_or s.words (8 * k) 0) (get_or (set s.words (8 * i) y) (8 * k) 0) (omega arith) (own.loads k)),
       ))
 
   -- the step after the first step of the same add
   second-placed : (i n was id : ℕ) (before : CountPart) (ls : List CountPart) (c : List (ℕ × Unit {0})) → get_elem? s.views id ≡ some (led_by (longer (step_of First i n was) before) ls)
       → i < key.size → worker_weight before.role ≡ 1
-      → Counted key (stepped s (2 * i + 1) ((get_or s.words (2 * i + 1) 0 + n) % 2 ^ 64) id c (led_by (longer (step_of Second i n (get_or s.words (2 * i + 1) 0)) (longer (step_of First i n was) before)) ls) keeps)
+      → Counted key (stepped s (8 * i + 1) ((get_or s.words (8 * i + 1) 0 + n) % 2 ^ 64) id c (led_by (longer (step_of Second i n (get_or s.words (8 * i + 1) 0)) (longer (step_of First i n was) before)) ls) keeps)
   second-placed i n was id before ls c at small worker =
       let l : CountPart = longer (step_of First i n was) before in
-      let x : ℕ = get_or s.words (2 * i + 1) 0 in let y : ℕ = (x + n) % 2 ^ 64 in let p : CountStep = step_of Second i n x in
+      let x : ℕ = get_or s.words (8 * i + 1) 0 in let y : ℕ = (x + n) % 2 ^ 64 in let p : CountStep = step_of Second i n x in
       let own : Whole l = own-fits Whole s.views id l ls at r.each in let one = when-same i i n refl in let unit = own.units i in let ahead = own.ahead i in
       let below = below-word (λ (a : CountPart). seconds i a.steps) (seconds-cap key.workers s.words i) id l p ls at
       (subst (λ (w : ℕ). seconds i (p ∷ l.steps) ≤ w * MAX_UNITS) (sym worker) (omega arith)) in
       let pending = r.pending i in
       let is : y ≡ x + n = omega arith in
-      let hv : (k : ℕ) → get_or (set s.words (2 * i + 1) y) (2 * k) 0 ≡ get_or s.words (2 * k) 0 = λ k. get_or-set_other s.words (2 * i + 1) (2 * k) y 0 (λ q. omega arith) in
-      let hp : (k : ℕ) → get_or (set s.words (2 * i + 1) y) (2 * k + 1) 0 + 0 ≡ get_or s.words (2 * k + 1) 0 + when (eqb i k) n =
+      let hv : (k : ℕ) → get_or (set s.words (8 * i + 1) y) (8 * k) 0 ≡ get_or s.words (8 * k) 0 = λ k. get_or-set_other s.words (8 * i + 1) (8 * k) y 0 (λ q. omega arith) in
+      let hp : (k : ℕ) → get_or (set s.words (8 * i + 1) y) (8 * k + 1) 0 + 0 ≡ get_or s.words (8 * k + 1) 0 + when (eqb i k) n =
       λ k. dite (ℕ_discrete i k)
-      (λ e. subst (λ (j : ℕ). get_or (set s.words (2 * i + 1) y) (2 * j + 1) 0 + 0 ≡ get_or s.words (2 * j + 1) 0 + when (eqb i j) n) e (let a = here (2 * i + 1) y (omega arith) in omega arith))
-      (λ ne. let a = get_or-set_other s.words (2 * i + 1) (2 * k + 1) y 0 (λ q. ne (omega arith)) in let b = when-other i k n ne in omega arith) in
-      placed (2 * i + 1) y id p l ls c at (worker-role before.role worker) (λ k. let h = hv k in omega arith) hp
+      (λ e. subst (λ (j : ℕ). get_or (set s.words (8 * i + 1) y) (8 * j + 1) 0 + 0 ≡ get_or s.words (8 * j + 1) 0 + when (eqb i j) n) e (let a = here (8 * i + 1) y (omega arith) in omega arith))
+      (λ ne. let a = get_or-set_other s.words (8 * i + 1) (8 * k + 1) y 0 (λ q. ne (omega arith)) in let b = when-other i k n ne in omega arith) in
+      placed (8 * i + 1) y id p l ls c at (worker-role before.role worker) (λ k. let h = hv k in omega arith) hp
       (λ k. let u = own.units k in let a = own.ahead k in let h = hv k in (
         omega arith,
         omega arith,
-        (le_refl _, rises-mono k l.steps (get_or s.words (2 * k) 0) (get_or (set s.words (2 * i + 1) y) (2 * k) 0) (omega arith) (own.loads k)),
+        (le_refl _, rises-mono k l.steps (get_or s.words (8 * k) 0) (get_or (set s.words (8 * i + 1) y) (8 * k) 0) (omega arith) (own.loads k)),
       ))
 
   latch-placed : (i id : ℕ) (l : CountPart) (ls : List CountPart) (c : List (ℕ × Unit {0})) → get_elem? s.views id ≡ some (led_by l ls)
       → i < key.size → flusher_weight l.role ≡ 1
-      → Counted key (stepped s (2 * i + 1) 0 id c (led_by (longer (step_of Latch i 0 (get_or s.words (2 * i + 1) 0)) l) ls) keeps)
+      → Counted key (stepped s (8 * i + 1) 0 id c (led_by (longer (step_of Latch i 0 (get_or s.words (8 * i + 1) 0)) l) ls) keeps)
   latch-placed i id l ls c at small flusher =
-      let x : ℕ = get_or s.words (2 * i + 1) 0 in let p : CountStep = step_of Latch i 0 x in let role = flusher-role l.role flusher in
+      let x : ℕ = get_or s.words (8 * i + 1) 0 in let p : CountStep = step_of Latch i 0 x in let role = flusher-role l.role flusher in
       let own : Whole l = own-fits Whole s.views id l ls at r.each in
-      let hv : (k : ℕ) → get_or (set s.words (2 * i + 1) 0) (2 * k) 0 ≡ get_or s.words (2 * k) 0 = λ k. get_or-set_other s.words (2 * i + 1) (2 * k) 0 0 (λ q. omega arith) in
-      let hp : (k : ℕ) → get_or (set s.words (2 * i + 1) 0) (2 * k + 1) 0 + when (eqb i k) x ≡ get_or s.words (2 * k + 1) 0 + 0 =
+      let hv : (k : ℕ) → get_or (set s.words (8 * i + 1) 0) (8 * k) 0 ≡ get_or s.words (8 * k) 0 = λ k. get_or-set_other s.words (8 * i + 1) (8 * k) 0 0 (λ q. omega arith) in
+      let hp : (k : ℕ) → get_or (set s.words (8 * i + 1) 0) (8 * k + 1) 0 + when (eqb i k) x ≡ get_or s.words (8 * k + 1) 0 + 0 =
       λ k. dite (ℕ_discrete i k)
-      (λ e. subst (λ (j : ℕ). get_or (set s.words (2 * i + 1) 0) (2 * j + 1) 0 + when (eqb i j) x ≡ get_or s.words (2 * j + 1) 0 + 0) e
-      (let a = here (2 * i + 1) 0 (omega arith) in let b = when-same i i x refl in omega arith))
-      (λ ne. let a = get_or-set_other s.words (2 * i + 1) (2 * k + 1) 0 0 (λ q. ne (omega arith)) in let b = when-other i k x ne in omega arith) in
-      placed (2 * i + 1) 0 id p l ls c at role (λ k. let h = hv k in omega arith) hp
+      (λ e. subst (λ (j : ℕ). get_or (set s.words (8 * i + 1) 0) (8 * j + 1) 0 + when (eqb i j) x ≡ get_or s.words (8 * j + 1) 0 + 0) e
+      (let a = here (8 * i + 1) 0 (omega arith) in let b = when-same i i x refl in omega arith))
+      (λ ne. let a = get_or-set_other s.words (8 * i + 1) (8 * k + 1) 0 0 (λ q. ne (omega arith)) in let b = when-other i k x ne in omega arith) in
+      placed (8 * i + 1) 0 id p l ls c at role (λ k. let h = hv k in omega arith) hp
       (λ k. let u = own.units k in let h = hv k in let f = no-firsts k l own (ap worker_weight (sym role)) in let d = no-seconds k l own (ap worker_weight (sym role)) in (
         omega arith,
         omega arith,
-        (le_refl _, rises-mono k l.steps (get_or s.words (2 * k) 0) (get_or (set s.words (2 * i + 1) 0) (2 * k) 0) (omega arith) (own.loads k)),
+        (le_refl _, rises-mono k l.steps (get_or s.words (8 * k) 0) (get_or (set s.words (8 * i + 1) 0) (8 * k) 0) (omega arith) (own.loads k)),
       ))
 
   -- where the flusher's view has all workers, it has all second steps and all latches
   all-latched : (i id : ℕ) (l : CountPart) (ls : List CountPart) → get_elem? s.views id ≡ some (led_by l ls)
       → flusher_weight l.role ≡ 1 → total (λ (p : CountPart). worker_weight p.role) ls ≡ length ls → length ls ≡ l.workers
-      → latches i l.steps + get_or s.words (2 * i + 1) 0 ≡ total (λ (p : CountPart). seconds i p.steps) ls
+      → latches i l.steps + get_or s.words (8 * i + 1) 0 ≡ total (λ (p : CountPart). seconds i p.steps) ls
   all-latched i id l ls at flusher others count =
       let v : View = led_by l ls in let role = flusher-role l.role flusher in
       let all : All Whole (l ∷ ls) = all-at (λ (z : View). All Whole z.parts) s.views id v r.each at in
@@ -217,26 +217,26 @@ module _ (key : BankKey) (s : St) (r : Counted key s) where
       let own-seconds = no-seconds i l own (ap worker_weight (sym role)) in let pending = r.pending i in
       omega arith
 
-  load-rises : (i k : ℕ) (l : CountPart) → Rises k l.steps (get_or s.words (2 * k) 0) → Rises k (step_of Load i 0 (get_or s.words (2 * i) 0) ∷ l.steps) (get_or s.words (2 * k) 0)
-  load-rises i k l f = let x : ℕ = get_or s.words (2 * i) 0 in let top : ℕ = get_or s.words (2 * k) 0 in
-      let is : choose (eqb i k) x top ≡ top = dite (ℕ_discrete i k) (λ e. ap (λ b. choose b x top) (eq-eqb i k e) ∙ ap (λ (j : ℕ). get_or s.words (2 * j) 0) e) (λ ne. ap (λ b. choose b x top) (ne_eqb i k ne)) in
+  load-rises : (i k : ℕ) (l : CountPart) → Rises k l.steps (get_or s.words (8 * k) 0) → Rises k (step_of Load i 0 (get_or s.words (8 * i) 0) ∷ l.steps) (get_or s.words (8 * k) 0)
+  load-rises i k l f = let x : ℕ = get_or s.words (8 * i) 0 in let top : ℕ = get_or s.words (8 * k) 0 in
+      let is : choose (eqb i k) x top ≡ top = dite (ℕ_discrete i k) (λ e. ap (λ b. choose b x top) (eq-eqb i k e) ∙ ap (λ (j : ℕ). get_or s.words (8 * j) 0) e) (λ ne. ap (λ b. choose b x top) (ne_eqb i k ne)) in
       (subst (λ (z : ℕ). z ≤ top) (sym is) (le_refl top), subst (λ (z : ℕ). Rises k l.steps z) (sym is) f)
 
   load-placed : (i id : ℕ) (l : CountPart) (ls : List CountPart) (c : List (ℕ × Unit {0})) → get_elem? s.views id ≡ some (led_by l ls)
       → i < key.size → reader_weight l.role ≡ 1
-      → Counted key (stepped s (2 * i) (get_or s.words (2 * i) 0) id c (led_by (longer (step_of Load i 0 (get_or s.words (2 * i) 0)) l) ls) keeps)
+      → Counted key (stepped s (8 * i) (get_or s.words (8 * i) 0) id c (led_by (longer (step_of Load i 0 (get_or s.words (8 * i) 0)) l) ls) keeps)
   load-placed i id l ls c at small reader =
-      let x : ℕ = get_or s.words (2 * i) 0 in let p : CountStep = step_of Load i 0 x in let role = reader-role l.role reader in
+      let x : ℕ = get_or s.words (8 * i) 0 in let p : CountStep = step_of Load i 0 x in let role = reader-role l.role reader in
       let own : Whole l = own-fits Whole s.views id l ls at r.each in
-      let all : (k : ℕ) → get_or (set s.words (2 * i) x) k 0 ≡ get_or s.words k 0 = λ k. same-word (2 * i) k (omega arith) in
-      placed (2 * i) x id p l ls c at role (λ k. let h = all (2 * k) in omega arith) (λ k. let h = all (2 * k + 1) in omega arith)
+      let all : (k : ℕ) → get_or (set s.words (8 * i) x) k 0 ≡ get_or s.words k 0 = λ k. same-word (8 * i) k (omega arith) in
+      placed (8 * i) x id p l ls c at role (λ k. let h = all (8 * k) in omega arith) (λ k. let h = all (8 * k + 1) in omega arith)
       (λ k. let u = own.units k in let f = no-firsts k l own (ap worker_weight (sym role)) in let d = no-seconds k l own (ap worker_weight (sym role)) in (
         omega arith,
         omega arith,
-        subst (λ (z : ℕ). Rises k (p ∷ l.steps) z) (sym (all (2 * k))) (load-rises i k l (own.loads k)),
+        subst (λ (z : ℕ). Rises k (p ∷ l.steps) z) (sym (all (8 * k))) (load-rises i k l (own.loads k)),
       ))
 
-  own-rises : (i id : ℕ) (l : CountPart) (ls : List CountPart) → get_elem? s.views id ≡ some (led_by l ls) → Rises i l.steps (get_or s.words (2 * i) 0)
+  own-rises : (i id : ℕ) (l : CountPart) (ls : List CountPart) → get_elem? s.views id ≡ some (led_by l ls) → Rises i l.steps (get_or s.words (8 * i) 0)
   own-rises i id l ls at = (own-fits Whole s.views id l ls at r.each).loads i
 
 abbrev Sat : Type 0
@@ -245,57 +245,57 @@ Sat = Me (Unit {0}) View
 -- What the table asks of each step, of a seat that has a part of its own.
 module _ (key : BankKey) (slots id i : ℕ) where
   pub adds-first : (m : Sat) (n : ℕ) → 0 < length m.0.parts → length m.1 ≡ 0 → worker_weight (own_part m.0).role ≡ 1 → ((k : ℕ) → firsts k (own_steps m.0) ≡ seconds k (own_steps m.0)) → i < key.size → firsts i (own_steps m.0) + n ≤ MAX_UNITS
-      → Allows (Counted key) slots id m (2 * i) (λ x. (x + n) % 2 ^ 64) (FirstAdded (step slots (2 * i) n 0 none) m)
+      → Allows (Counted key) slots id m (8 * i) (λ x. (x + n) % 2 ^ 64) (FirstAdded (step slots (8 * i) n 0 none) m)
   adds-first m n a b role even small units = let t = led m a b in let l = t.0 in let ls = t.1 in
-      subst (λ (z : Sat). worker_weight (own_part z.0).role ≡ 1 → ((k : ℕ) → firsts k (own_steps z.0) ≡ seconds k (own_steps z.0)) → firsts i (own_steps z.0) + n ≤ MAX_UNITS → Allows (Counted key) slots id z (2 * i) (λ x. (x + n) % 2 ^ 64) (FirstAdded (step slots (2 * i) n 0 none) z)) (sym t.2)
+      subst (λ (z : Sat). worker_weight (own_part z.0).role ≡ 1 → ((k : ℕ) → firsts k (own_steps z.0) ≡ seconds k (own_steps z.0)) → firsts i (own_steps z.0) + n ≤ MAX_UNITS → Allows (Counted key) slots id z (8 * i) (λ x. (x + n) % 2 ^ 64) (FirstAdded (step slots (8 * i) n 0 none) z)) (sym t.2)
       (λ role even units s r _ at _. (
-        led_by (longer (step_of First i n (get_or s.words (2 * i) 0)) l) ls,
+        led_by (longer (step_of First i n (get_or s.words (8 * i) 0)) l) ls,
         keeps,
         tt,
         first-placed key s r i n id l ls [] at small units role even,
-        λ j e. let same : i ≡ j = omega arith in ap (λ (z : ℕ). (led_by (longer (step_of First z n (get_or s.words (2 * i) 0)) l) ls, [])) same,
+        λ j e. let same : i ≡ j = omega arith in ap (λ (z : ℕ). (led_by (longer (step_of First z n (get_or s.words (8 * i) 0)) l) ls, [])) same,
       )) role even units
 
   pub adds-second : (m m' : Sat) (n was : ℕ) → 0 < length m.0.parts → length m.1 ≡ 0 → worker_weight (own_part m.0).role ≡ 1 → m' ≡ (with_step (step_of First i n was) m.0, m.1) → i < key.size
-      → Allows (Counted key) slots id m' (2 * i + 1) (λ x. (x + n) % 2 ^ 64) (SecondAdded (step slots (2 * i + 1) n 0 none) m')
+      → Allows (Counted key) slots id m' (8 * i + 1) (λ x. (x + n) % 2 ^ 64) (SecondAdded (step slots (8 * i + 1) n 0 none) m')
   adds-second m m' n was a b role is small = let t = led m a b in let l = t.0 in let ls = t.1 in
       let is' : m' ≡ (led_by (longer (step_of First i n was) l) ls, []) = is ∙ ap (λ (z : Sat). (with_step (step_of First i n was) z.0, z.1)) t.2 in
       let role' : worker_weight l.role ≡ 1 = ap (λ (z : Sat). worker_weight (own_part z.0).role) (sym t.2) ∙ role in
-      subst (λ (z : Sat). Allows (Counted key) slots id z (2 * i + 1) (λ x. (x + n) % 2 ^ 64) (SecondAdded (step slots (2 * i + 1) n 0 none) z)) (sym is')
+      subst (λ (z : Sat). Allows (Counted key) slots id z (8 * i + 1) (λ x. (x + n) % 2 ^ 64) (SecondAdded (step slots (8 * i + 1) n 0 none) z)) (sym is')
       (λ s r _ at _. (
-        led_by (longer (step_of Second i n (get_or s.words (2 * i + 1) 0)) (longer (step_of First i n was) l)) ls,
+        led_by (longer (step_of Second i n (get_or s.words (8 * i + 1) 0)) (longer (step_of First i n was) l)) ls,
         keeps,
         tt,
         second-placed key s r i n was id l ls [] at small role',
-        λ j e. let same : i ≡ j = omega arith in ap (λ (z : ℕ). (led_by (longer (step_of Second z n (get_or s.words (2 * i + 1) 0)) (longer (step_of First i n was) l)) ls, [])) same,
+        λ j e. let same : i ≡ j = omega arith in ap (λ (z : ℕ). (led_by (longer (step_of Second z n (get_or s.words (8 * i + 1) 0)) (longer (step_of First i n was) l)) ls, [])) same,
       ))
 
   pub latches-one : (m : Sat) → 0 < length m.0.parts → length m.1 ≡ 0 → flusher_weight (own_part m.0).role ≡ 1 → total (λ (p : CountPart). worker_weight p.role) (taken_parts m.0) ≡ length (taken_parts m.0) → i < key.size
-      → Allows (Counted key) slots id m (2 * i + 1) (λ _. 0) (Latched (step slots (2 * i + 1) 0 0 none) m)
+      → Allows (Counted key) slots id m (8 * i + 1) (λ _. 0) (Latched (step slots (8 * i + 1) 0 0 none) m)
   latches-one m a b role others small = let t = led m a b in let l = t.0 in let ls = t.1 in
-      subst (λ (z : Sat). flusher_weight (own_part z.0).role ≡ 1 → total (λ (p : CountPart). worker_weight p.role) (taken_parts z.0) ≡ length (taken_parts z.0) → Allows (Counted key) slots id z (2 * i + 1) (λ _. 0) (Latched (step slots (2 * i + 1) 0 0 none) z)) (sym t.2)
+      subst (λ (z : Sat). flusher_weight (own_part z.0).role ≡ 1 → total (λ (p : CountPart). worker_weight p.role) (taken_parts z.0) ≡ length (taken_parts z.0) → Allows (Counted key) slots id z (8 * i + 1) (λ _. 0) (Latched (step slots (8 * i + 1) 0 0 none) z)) (sym t.2)
       (λ role others s r _ at _. (
-        led_by (longer (step_of Latch i 0 (get_or s.words (2 * i + 1) 0)) l) ls,
+        led_by (longer (step_of Latch i 0 (get_or s.words (8 * i + 1) 0)) l) ls,
         keeps,
         tt,
         latch-placed key s r i id l ls [] at small role,
         λ j e. let same : i ≡ j = omega arith in (
-          ap (λ (z : ℕ). (led_by (longer (step_of Latch z 0 (get_or s.words (2 * i + 1) 0)) l) ls, [])) same,
-          λ count. subst (λ (z : ℕ). latches z l.steps + get_or s.words (2 * i + 1) 0 ≡ total (λ (p : CountPart). seconds z p.steps) ls) same (all-latched key s r i id l ls at role others count),
+          ap (λ (z : ℕ). (led_by (longer (step_of Latch z 0 (get_or s.words (8 * i + 1) 0)) l) ls, [])) same,
+          λ count. subst (λ (z : ℕ). latches z l.steps + get_or s.words (8 * i + 1) 0 ≡ total (λ (p : CountPart). seconds z p.steps) ls) same (all-latched key s r i id l ls at role others count),
         ),
       )) role others
 
   pub loads-one : (m : Sat) → 0 < length m.0.parts → length m.1 ≡ 0 → reader_weight (own_part m.0).role ≡ 1 → i < key.size
-      → Allows (Counted key) slots id m (2 * i) (λ x. x) (Loaded (step slots (2 * i) 0 0 none) m)
+      → Allows (Counted key) slots id m (8 * i) (λ x. x) (Loaded (step slots (8 * i) 0 0 none) m)
   loads-one m a b role small = let t = led m a b in let l = t.0 in let ls = t.1 in
-      subst (λ (z : Sat). reader_weight (own_part z.0).role ≡ 1 → Allows (Counted key) slots id z (2 * i) (λ x. x) (Loaded (step slots (2 * i) 0 0 none) z)) (sym t.2)
+      subst (λ (z : Sat). reader_weight (own_part z.0).role ≡ 1 → Allows (Counted key) slots id z (8 * i) (λ x. x) (Loaded (step slots (8 * i) 0 0 none) z)) (sym t.2)
       (λ role s r _ at _. (
-        led_by (longer (step_of Load i 0 (get_or s.words (2 * i) 0)) l) ls,
+        led_by (longer (step_of Load i 0 (get_or s.words (8 * i) 0)) l) ls,
         keeps,
         tt,
         load-placed key s r i id l ls [] at small role,
         λ j e. let same : i ≡ j = omega arith in (
-          ap (λ (z : ℕ). (led_by (longer (step_of Load z 0 (get_or s.words (2 * i) 0)) l) ls, [])) same,
-          subst (λ (z : ℕ). Rises z l.steps (get_or s.words (2 * i) 0)) same (own-rises key s r i id l ls at),
+          ap (λ (z : ℕ). (led_by (longer (step_of Load z 0 (get_or s.words (8 * i) 0)) l) ls, [])) same,
+          subst (λ (z : ℕ). Rises z l.steps (get_or s.words (8 * i) 0)) same (own-rises key s r i id l ls at),
         ),
       )) role

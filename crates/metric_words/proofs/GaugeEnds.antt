@@ -1,5 +1,5 @@
 -- What joined seats of a gauge bank keep, and what its last words are.
-use Rattle.std.proofs.Common.{◌≡◌, ℕ, ◌+◌, ◌<◌, ◌≤◌, List, [], ◌∷◌, ◌++◌, length, map, get_or, sym, refl, ap, ◌∙◌, subst, arith, length-append}
+use Rattle.std.proofs.Common.{◌≡◌, ℕ, ◌+◌, ◌*◌, ◌<◌, ◌≤◌, List, [], ◌∷◌, ◌++◌, length, map, get_or, sym, refl, ap, ◌∙◌, subst, arith, length-append}
 use Rattle.std.specs.List.{flat_map}
 use Rattle.std.proofs.lemmas.List.{length-map, append-nil, append_assoc}
 use Rattle.std.proofs.lemmas.Grind.{flat_map-append}
@@ -36,10 +36,10 @@ gathered all xs g ps qs e is =
     ap (λ l. flat_map gauge_all xs ++ l) (is ∙ sym last) ∙ (sym (append_assoc (flat_map gauge_all xs) (flat_map gauge_all (g ∷ [])) ps)
     ∙ ap (λ l. l ++ ps) (sym (flat_map-append gauge_all xs (g ∷ [])) ∙ ap (flat_map gauge_all) (sym e)))
 
-pub words-push : (n : ℕ) (words copy copy' : List ℕ) (x : ℕ) → SameWords n words copy → copy' ≡ copy ++ x ∷ [] → get_elem? words n ≡ some x → SameWords (n + 1) words copy'
+pub words-push : (n : ℕ) (words copy copy' : List ℕ) (x : ℕ) → SameWords n words copy → copy' ≡ copy ++ x ∷ [] → get_elem? words (8 * n) ≡ some x → SameWords (n + 1) words copy'
 words-push n words copy copy' x has e at = (
   ap length e ∙ omega (arith, length-append copy (x ∷ []), has.0),
-  place-push (λ k. get_or words k 0) copy copy' x n has.0 has.1 e (sym (at-or words n x 0 at)),
+  place-push (λ k. get_or words (8 * k) 0) copy copy' x n has.0 has.1 e (sym (at-or words (8 * n) x 0 at)),
 )
 
 -- a seat with one part has its own alone
@@ -76,7 +76,7 @@ closes key id v words xs bank seats copy (s, seen, is, _, _) all parts has =
     let few : length v.parts ≤ key.workers + 2 = (let b = term-le (λ (z : View). total (λ (_ : GaugePart). 1) z.parts) s.views id v at in omega arith) in
     let own = all-own bank key.workers seats v.parts all parts few in
     let count : length v.parts ≡ key.workers + 2 = (let c = parts-count bank key.workers seats all in let e = ap length own in omega arith) in
-    let same : (k : ℕ) → k < key.size → get_or copy k 0 ≡ get_or s.words k 0 = λ k h. has.1 k h ∙ ap (λ ws. get_or ws k 0) (sym is) in
+    let same : (k : ℕ) → k < key.size → get_or copy k 0 ≡ get_or s.words (8 * k) 0 = λ k h. has.1 k h ∙ ap (λ ws. get_or ws (8 * k) 0) (sym is) in
     subst (λ ps. IsGaugeLedger key.size ps copy) own record {
       words_length = has.0;
       each = λ k h. subst (λ w. IsGaugeWord k v.parts w) (sym (same k h)) (all-steps key s r id v at count k);

@@ -89,12 +89,12 @@ flush_steps s = (flush_known s.flusher).own.steps
 abbrev pub read_steps : WordSeats → List CountStep
 read_steps s = (read_known s.reader).own.steps
 
--- the even words, and the odd ones
+-- the value and the pending word of each counter
 pub record HasWords (size : ℕ) (words values pending : List ℕ) : Type 0 where
   pub values_length : length values ≡ size
   pub pending_length : length pending ≡ size
-  pub even : (id : ℕ) → id < size → slice_index values id ≡ slice_index words (2 * id)
-  pub odd : (id : ℕ) → id < size → slice_index pending id ≡ slice_index words (2 * id + 1)
+  pub value : (id : ℕ) → id < size → slice_index values id ≡ slice_index words (8 * id)
+  pub left : (id : ℕ) → id < size → slice_index pending id ≡ slice_index words (8 * id + 1)
 
 -- The ledger at the end, for each counter: its value is the sum of the workers' first steps. What is pending and the
 -- latches are together the sum of their second steps, which is the same number.

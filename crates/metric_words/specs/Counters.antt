@@ -1,8 +1,9 @@
 -- The rule of a counter bank's words (this project's own, after the counters of Envoy's design note
 -- `source/docs/stats.md`, which have a value and a pending increment).
 --
--- The word 2 * id is the value of the counter `id`, and the word 2 * id + 1 is what of it is pending: accepted, and not
--- yet latched.
+-- Each counter has a cache line of eight words, of which it uses two, so that threads that add to different counters do
+-- not take the line away from each other. The word 8 * id is the value of the counter `id`, and the word 8 * id + 1 is
+-- what of it is pending: accepted, and not yet latched.
 -- A worker's add of n is two steps, first n to the value and then n to the pending word, where its units count as
 -- accepted. The flusher's latch swaps the pending word with 0.
 -- The reader's reading loads the value.
@@ -136,17 +137,17 @@ pub record FitsBank (workers : ℕ) (words : List ℕ) (p : CountPart) : Type 0 
   pub kinds : All (λ s. role_of s.kind ≡ p.role) p.steps
   pub units : (id : ℕ) → firsts id p.steps ≤ MAX_UNITS
   pub ahead : (id : ℕ) → firsts id p.steps ≡ seconds id p.steps + under_way id p.steps
-  pub loads : (id : ℕ) → Rises id p.steps (slice_index words (2 * id))
+  pub loads : (id : ℕ) → Rises id p.steps (slice_index words (8 * id))
 
 -- The rule. Each seat's steps stand in some view, and those of one worker or of the flusher in no two. The sums over
 -- all seats' first and second steps are the workers', and the latches are the flusher's.
 pub record Counted (key : BankKey) (s : State (Unit {0}) View) : Type 0 where
-  pub wide : length s.words ≡ 2 * key.size
+  pub wide : length s.words ≡ 8 * key.size
   pub narrow : key.workers * MAX_UNITS < 2 ^ 64
   pub workers : parts_total (λ p. worker_weight p.role) s.views ≡ key.workers
   pub flusher : parts_total (λ p. flusher_weight p.role) s.views ≡ 1
-  pub value : (id : ℕ) → slice_index s.words (2 * id) ≡ parts_total (λ p. firsts id p.steps) s.views
-  pub pending : (id : ℕ) → slice_index s.words (2 * id + 1) +
+  pub value : (id : ℕ) → slice_index s.words (8 * id) ≡ parts_total (λ p. firsts id p.steps) s.views
+  pub pending : (id : ℕ) → slice_index s.words (8 * id + 1) +
       parts_total (λ p. latches id p.steps) s.views ≡ parts_total (λ p. seconds id p.steps) s.views
   pub each : AllParts (FitsBank key.workers s.words) s.views
 
@@ -186,10 +187,10 @@ Sat = Me (Unit {0}) View
 
 -- What each kind of step leaves of its seat: its own list is longer by just that step.
 abbrev pub FirstAdded : Step (Unit {0}) → Sat → ℕ → Sat → Type 0
-FirstAdded st m r m' = (id : ℕ) → st.word ≡ 2 * id → m' ≡ (with_step (step_of First id st.first r) m.0, m.1)
+FirstAdded st m r m' = (id : ℕ) → st.word ≡ 8 * id → m' ≡ (with_step (step_of First id st.first r) m.0, m.1)
 
 abbrev pub SecondAdded : Step (Unit {0}) → Sat → ℕ → Sat → Type 0
-SecondAdded st m r m' = (id : ℕ) → st.word ≡ 2 * id + 1 → m' ≡ (with_step (step_of Second id st.first r) m.0, m.1)
+SecondAdded st m r m' = (id : ℕ) → st.word ≡ 8 * id + 1 → m' ≡ (with_step (step_of Second id st.first r) m.0, m.1)
 
 -- all seats of workers stand behind the own part
 abbrev pub HasAllWorkers : View → Type 0
@@ -198,11 +199,11 @@ HasAllWorkers v = length (taken_parts v) ≡ (own_part v).workers
 -- where the flusher has taken in all workers, its latches of this counter and the latch that finds r are together all
 -- second steps
 abbrev pub Latched : Step (Unit {0}) → Sat → ℕ → Sat → Type 0
-Latched st m r m' = (id : ℕ) → st.word ≡ 2 * id + 1 →
+Latched st m r m' = (id : ℕ) → st.word ≡ 8 * id + 1 →
     (m' ≡ (with_step (step_of Latch id 0 r) m.0, m.1))
     × (HasAllWorkers m.0 → latches id (own_steps m.0) + r ≡ total (λ p. seconds id p.steps) (taken_parts m.0))
 
 -- a load found at least what the loads before it found
 abbrev pub Loaded : Step (Unit {0}) → Sat → ℕ → Sat → Type 0
-Loaded st m r m' = (id : ℕ) → st.word ≡ 2 * id → (m' ≡ (with_step (step_of Load id 0 r) m.0, m.1))
+Loaded st m r m' = (id : ℕ) → st.word ≡ 8 * id → (m' ≡ (with_step (step_of Load id 0 r) m.0, m.1))
     × Rises id (own_steps m.0) r

@@ -1,5 +1,5 @@
 -- What clauses read of a gauge bank and of its seats, and what its words are at the end (this project's own).
-use Rattle.std.specs.Prelude.{◌≡◌, ℕ, ◌+◌, ◌<◌, ◌≤◌, List, [], ◌∷◌, ◌++◌, length, map, All, slice_index}
+use Rattle.std.specs.Prelude.{◌≡◌, ℕ, ◌+◌, ◌*◌, ◌<◌, ◌≤◌, List, [], ◌∷◌, ◌++◌, length, map, All, slice_index}
 use Rattle.std.specs.List.{range_with_len}
 use Rattle.atomic_table.specs.Seated.{TableId}
 use Rattle.metric_words.specs.declared.gauge_view.GaugeStep.{GaugeStep}
@@ -68,7 +68,7 @@ gauge_parts s = gauge_all s.flusher ++ (map gauge_part s.workers.items ++ gauge_
 
 -- the words of all gauges
 abbrev pub SameWords : ℕ → List ℕ → List ℕ → Type 0
-SameWords size words copy = (length copy ≡ size) × ((id : ℕ) → id < size → slice_index copy id ≡ slice_index words id)
+SameWords size words copy = (length copy ≡ size) × ((id : ℕ) → id < size → slice_index copy id ≡ slice_index words (8 * id))
 
 -- the words at the end: each is what all steps left
 pub record IsGaugeLedger (size : ℕ) (seats : List GaugePart) (words : List ℕ) : Type 0 where

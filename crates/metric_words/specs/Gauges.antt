@@ -1,7 +1,7 @@
 -- The rule of a gauge bank's words (this project's own, after the gauges of Envoy's design note `source/docs/stats.md`,
 -- which are added to, subtracted from and set).
 --
--- The word `id` is the gauge `id`, in two's complement. Each step is one atomic step on that word: an add, a
+-- The word 8 * id is the gauge `id`, in two's complement; each gauge has a cache line of eight words, as a counter has. Each step is one atomic step on that word: an add, a
 -- subtraction, a swap for a set, or a load.
 --
 -- What holds at every moment of every interleaving, of the words and of all seats' step lists, which are kept as those
@@ -12,7 +12,7 @@
 -- between. The seat that wrote last is some seat. Where its newest write is a set, the word is the number of that set;
 -- so where each seat that wrote has a set as its newest write, the word is the number of one of these.
 -- A seat that took all others in has the steps of all, so a load by it finds the word that all of them left.
-use Rattle.std.specs.Prelude.{◌≡◌, ℕ, zero, suc, ◌+◌, ◌-◌, ◌%◌, ◌^◌, ◌≤◌, Bool, true, false, ◌==◌, List, [], ◌∷◌, ◌⊎◌}
+use Rattle.std.specs.Prelude.{◌≡◌, ℕ, zero, suc, ◌+◌, ◌-◌, ◌*◌, ◌%◌, ◌^◌, ◌≤◌, Bool, true, false, ◌==◌, List, [], ◌∷◌, ◌⊎◌}
 use Rattle.std.specs.Prelude.{length, slice_index, All}
 use Rattle.std.specs.List.{Any}
 use Rattle.atomic_table.specs.Table.{State, Me, Step}
@@ -89,7 +89,7 @@ LastSet id (s ∷ ss) word = if_same (s.id == id) (set_or s.kind s.n word (LastS
 -- where this seat alone has written a gauge, which the number of writes of all seats tells, the word is the fold of its
 -- steps
 abbrev pub Alone : List ℕ → (ℕ → ℕ) → GaugePart → Type 0
-Alone words writes_of p = (id : ℕ) → writes_of id ≡ written id p.steps → slice_index words id ≡ fold_of id p.steps
+Alone words writes_of p = (id : ℕ) → writes_of id ≡ written id p.steps → slice_index words (8 * id) ≡ fold_of id p.steps
 
 -- this seat has written the gauge, and where its newest write is a set, the word is its number
 abbrev pub WroteLast : ℕ → ℕ → GaugePart → Type 0
@@ -105,13 +105,13 @@ pub record IsGaugeWord (id : ℕ) (seats : List GaugePart) (word : ℕ) : Type 0
   pub last : (total (λ p. written id p.steps) seats ≡ 0) ⊎ Any (WroteLast id word) seats
 
 pub record Gauged (key : GaugeKey) (s : State (Unit {0}) View) : Type 0 where
-  pub wide : length s.words ≡ key.size
+  pub wide : length s.words ≡ 8 * key.size
   pub seats : parts_total (λ _. 1) s.views ≡ key.workers + 2
   pub knows : AllParts (λ p. p.workers ≡ key.workers) s.views
-  pub value : (id : ℕ) → slice_index s.words id ≡ parts_total (λ p. net id p.steps) s.views % 2 ^ 64
+  pub value : (id : ℕ) → slice_index s.words (8 * id) ≡ parts_total (λ p. net id p.steps) s.views % 2 ^ 64
   pub alone : AllParts (Alone s.words (λ id. parts_total (λ p. written id p.steps) s.views)) s.views
   pub last : (id : ℕ) → (parts_total (λ p. written id p.steps) s.views ≡ 0)
-      ⊎ AnyPart (WroteLast id (slice_index s.words id)) s.views
+      ⊎ AnyPart (WroteLast id (slice_index s.words (8 * id))) s.views
 
 -- a seat that has made no step
 abbrev pub new_gauge : ℕ → ℕ → GaugePart
@@ -145,13 +145,13 @@ Sat = Me (Unit {0}) View
 
 -- What each kind of step leaves of its seat: its list is longer by just that step.
 abbrev pub Added : Step (Unit {0}) → Sat → ℕ → Sat → Type 0
-Added st m r m' = m' ≡ (with_gauge_step (gauge_step Add st.word st.first r) m.0, m.1)
+Added st m r m' = (id : ℕ) → st.word ≡ 8 * id → m' ≡ (with_gauge_step (gauge_step Add id st.first r) m.0, m.1)
 
 abbrev pub Subtracted : Step (Unit {0}) → Sat → ℕ → Sat → Type 0
-Subtracted st m r m' = m' ≡ (with_gauge_step (gauge_step Sub st.word st.first r) m.0, m.1)
+Subtracted st m r m' = (id : ℕ) → st.word ≡ 8 * id → m' ≡ (with_gauge_step (gauge_step Sub id st.first r) m.0, m.1)
 
 abbrev pub SetTo : Step (Unit {0}) → Sat → ℕ → Sat → Type 0
-SetTo st m r m' = m' ≡ (with_gauge_step (gauge_step Set st.word st.first r) m.0, m.1)
+SetTo st m r m' = (id : ℕ) → st.word ≡ 8 * id → m' ≡ (with_gauge_step (gauge_step Set id st.first r) m.0, m.1)
 
 -- all other seats stand behind the own part
 abbrev pub HasAllSeats : View → Type 0
@@ -159,5 +159,5 @@ HasAllSeats v = length (taken_gauges v) ≡ (own_gauge v).workers + 1
 
 -- a load by a seat that has taken in all others finds the word that all steps left
 abbrev pub Read : Step (Unit {0}) → Sat → ℕ → Sat → Type 0
-Read st m r m' = (m' ≡ (with_gauge_step (gauge_step Load st.word 0 r) m.0, m.1))
-    × (HasAllSeats m.0 → IsGaugeWord st.word m.0.parts r)
+Read st m r m' = (id : ℕ) → st.word ≡ 8 * id → (m' ≡ (with_gauge_step (gauge_step Load id 0 r) m.0, m.1))
+    × (HasAllSeats m.0 → IsGaugeWord id m.0.parts r)

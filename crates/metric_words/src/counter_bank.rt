@@ -10,6 +10,6 @@ use std::alloc::Global;
 #[derive(Drop)]
 pub struct CounterBank {
     pub(crate) table: Table<(), CountView, BankKey, Counting, Global>,
-    ghost sized: { (table.shared.table_id.words ≡ 2 * table.shared.key.size) × (table.shared.table_id.slots ≡ 0)
+    ghost sized: { (table.shared.table_id.words ≡ 8 * table.shared.key.size) × (table.shared.table_id.slots ≡ 0)
         × (0 < table.shared.key.size) },
 }

@@ -9,6 +9,7 @@ ghost use Rattle.metric_words.specs.CounterLedger.{HasWords};
 
 use crate::counter_bank::CounterBank;
 use crate::counter_seats::{FlushSeat, Place, ReadSeat, WordSeats, WorkerSeat};
+use crate::limits::LINE_WORDS;
 use atomic_table::Closed;
 use seat_parts::Merge;
 use stat_defs::{NoMemory, Words};
@@ -27,7 +28,7 @@ impl CounterBank {
         requires { AreAll (bank_id self) (workers_of self) seats }
         ensures { IfOk result (λ r. IsLedger (size_of self) (workers_of self) seats r.values r.pending) }
     {
-        let size = self.table.word_count() / 2;
+        let size = self.table.word_count() / LINE_WORDS;
         let mut values = Vec::with_capacity(alloc, size)?;
         let mut pending = Vec::with_capacity(alloc, size)?;
         let all = self.gather(seats);
@@ -66,13 +67,13 @@ impl CounterBank {
 }
 
 fn read_out(closed: &Closed<(), Global>, size: usize, values: &mut Vec<u64>, pending: &mut Vec<u64>)
-    requires words { IsFull closed.now.words × (slots_len closed.now.words ≡ 2 * size) }
+    requires words { IsFull closed.now.words × (slots_len closed.now.words ≡ 8 * size) }
     requires room { (values.old.items ≡ []) × (pending.old.items ≡ []) × (size ≤ vec_capacity values.old)
         × (size ≤ vec_capacity pending.old) }
     ensures { HasWords size (slots_items closed.now.words) values.new.items pending.new.items }
 {
     for id in 0..size {
-        values.push_reserved(closed.word(2 * id));
-        pending.push_reserved(closed.word(2 * id + 1));
+        values.push_reserved(closed.word(LINE_WORDS * id));
+        pending.push_reserved(closed.word(LINE_WORDS * id + 1));
     }
 }

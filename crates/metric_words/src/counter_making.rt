@@ -8,7 +8,7 @@ ghost use Rattle.std.specs.Prelude.{[]};
 use crate::counter_bank::CounterBank;
 use crate::counter_seats::{FlushSeat, Place, ReadSeat, WordSeats, WorkerSeat};
 use crate::counter_view::BankKey;
-use crate::limits::{MAX_SIZE, MAX_WORKERS};
+use crate::limits::{LINE_WORDS, MAX_SIZE, MAX_WORKERS};
 use atomic_table::Table;
 use seat_parts::Deal;
 use stat_defs::NoMemory;
@@ -22,7 +22,7 @@ impl CounterBank {
         ensures bank { IfOk result (λ r. (size_of r.0 ≡ size) × (workers_of r.0 ≡ workers)) }
         ensures seats { IfOk result (λ r. AreNew (bank_id r.0) workers r.1) }
     {
-        let words = vec![in alloc; 0u64; 2 * size as usize]?;
+        let words = vec![in alloc; 0u64; LINE_WORDS * size as usize]?;
         let key = BankKey {
             workers: workers as u64,
             size: size as u64,

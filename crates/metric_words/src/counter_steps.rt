@@ -10,6 +10,7 @@ ghost use Rattle.metric_words.specs.CounterLedger.{worker_part, after_step, Latc
 use crate::counter_bank::CounterBank;
 use crate::counter_plays::{AddFirst, AddSecond, Latching, Loading};
 use crate::counter_seats::{FlushSeat, ReadSeat, WorkerSeat};
+use crate::limits::LINE_WORDS;
 use seat_parts::Merge;
 use stat_defs::MetricId;
 
@@ -24,7 +25,7 @@ impl CounterBank {
         ensures { (x y : ℕ) × (worker_known seat.new
             ≡ after_step (step_of Second id.0 n y) (after_step (step_of First id.0 n x) (worker_known seat.old))) }
     {
-        let word = 2 * id.0 as usize;
+        let word = LINE_WORDS * id.0 as usize;
         let shared = &self.table.shared;
         shared.fetch_add::<AddFirst>(&mut seat.seat, word, n as u64);
         shared.fetch_add::<AddSecond>(&mut seat.seat, word + 1, n as u64);
@@ -38,7 +39,7 @@ impl CounterBank {
         ensures known { flush_known seat.new ≡ after_step (step_of Latch id.0 0 result) (flush_known seat.old) }
         ensures whole { LatchedAll id.0 (flush_known seat.new) }
     {
-        let word = 2 * id.0 as usize + 1;
+        let word = LINE_WORDS * id.0 as usize + 1;
         self.table.shared.swap::<Latching>(&mut seat.seat, word, 0)
     }
 
@@ -51,7 +52,7 @@ impl CounterBank {
         // no earlier load of the counter found more
         ensures rises { Rises id.0 (read_known seat.old).own.steps result }
     {
-        let word = 2 * id.0 as usize;
+        let word = LINE_WORDS * id.0 as usize;
         self.table.shared.load::<Loading>(&mut seat.seat, word)
     }
 

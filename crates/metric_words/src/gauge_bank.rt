@@ -1,5 +1,5 @@
 //! A bank of gauges, of one word each.
-ghost use Rattle.std.specs.Prelude.{◌≡◌, ◌<◌};
+ghost use Rattle.std.specs.Prelude.{◌≡◌, ◌*◌, ◌<◌};
 
 use crate::gauge_plays::Gauging;
 use crate::gauge_view::{GaugeKey, GaugeView};
@@ -10,7 +10,7 @@ use std::alloc::Global;
 #[derive(Drop)]
 pub struct GaugeBank {
     pub(crate) table: Table<(), GaugeView, GaugeKey, Gauging, Global>,
-    ghost sized: { (table.shared.table_id.words ≡ table.shared.key.size) × (table.shared.table_id.slots ≡ 0)
+    ghost sized: { (table.shared.table_id.words ≡ 8 * table.shared.key.size) × (table.shared.table_id.slots ≡ 0)
         × (0 < table.shared.key.size) },
 }
 

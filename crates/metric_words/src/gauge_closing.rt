@@ -1,11 +1,12 @@
 //! The end of a gauge bank.
-ghost use Rattle.std.specs.Prelude.{◌≡◌, ◌≤◌, [], ◌++◌, length, flat_map, IfOk, vec_capacity};
+ghost use Rattle.std.specs.Prelude.{◌≡◌, ◌*◌, ◌≤◌, [], ◌++◌, length, flat_map, IfOk, vec_capacity};
 ghost use Rattle.std.specs.Mem.Slots.{slots_items, slots_len, IsFull};
 ghost use Rattle.metric_words.specs.GaugeLedger.{gauges_id, gauges_size, gauges_workers, AreAllGauges};
 ghost use Rattle.metric_words.specs.GaugeLedger.{gauge_all, gauge_parts, IsGaugeLedger, SameWords};
 
 use crate::gauge_bank::{GaugeBank, GaugePlace};
 use crate::gauge_seats::{GaugeSeat, GaugeSeats};
+use crate::limits::LINE_WORDS;
 use atomic_table::Closed;
 use seat_parts::Merge;
 use stat_defs::{NoMemory, Words};
@@ -18,7 +19,7 @@ impl GaugeBank {
         requires { AreAllGauges (gauges_id self) (gauges_workers self) seats }
         ensures { IfOk result (λ r. IsGaugeLedger (gauges_size self) (gauge_parts seats) r) }
     {
-        let size = self.table.word_count();
+        let size = self.table.word_count() / LINE_WORDS;
         let mut words = Vec::with_capacity(alloc, size)?;
         let all = self.gather(seats);
         let GaugeBank { table } = self;
@@ -54,11 +55,11 @@ impl GaugeBank {
 }
 
 fn read_words(closed: &Closed<(), Global>, size: usize, words: &mut Vec<u64>)
-    requires words { IsFull closed.now.words × (slots_len closed.now.words ≡ size) }
+    requires words { IsFull closed.now.words × (slots_len closed.now.words ≡ 8 * size) }
     requires room { (words.old.items ≡ []) × (size ≤ vec_capacity words.old) }
     ensures { SameWords size (slots_items closed.now.words) words.new.items }
 {
     for id in 0..size {
-        words.push_reserved(closed.word(id));
+        words.push_reserved(closed.word(LINE_WORDS * id));
     }
 }

@@ -7,7 +7,7 @@ ghost use Rattle.metric_words.specs.GaugeLedger.{gauges_id, gauges_size, gauges_
 use crate::gauge_bank::{GaugeBank, GaugePlace};
 use crate::gauge_seats::{GaugeSeat, GaugeSeats};
 use crate::gauge_view::GaugeKey;
-use crate::limits::{MAX_SIZE, MAX_WORKERS};
+use crate::limits::{LINE_WORDS, MAX_SIZE, MAX_WORKERS};
 use atomic_table::Table;
 use seat_parts::Deal;
 use stat_defs::NoMemory;
@@ -21,7 +21,7 @@ impl GaugeBank {
         ensures bank { IfOk result (λ r. (gauges_size r.0 ≡ size) × (gauges_workers r.0 ≡ workers)) }
         ensures seats { IfOk result (λ r. AreNewGauges (gauges_id r.0) workers r.1) }
     {
-        let words = vec![in alloc; 0u64; size as usize]?;
+        let words = vec![in alloc; 0u64; LINE_WORDS * size as usize]?;
         let key = GaugeKey {
             workers: workers as u64,
             size: size as u64,

@@ -9,6 +9,7 @@ ghost use Rattle.metric_words.specs.GaugeLedger.{after_gauge_step, ReadsAll};
 use crate::gauge_bank::GaugeBank;
 use crate::gauge_plays::{Adding, Reading, Setting, Subtracting};
 use crate::gauge_seats::GaugeSeat;
+use crate::limits::LINE_WORDS;
 use seat_parts::Merge;
 use stat_defs::MetricId;
 
@@ -22,7 +23,7 @@ impl GaugeBank {
             × (gauge_known seat.new ≡ after_gauge_step (gauge_step Add id.0 n x) (gauge_known seat.old)) }
     {
         let shared = &self.table.shared;
-        shared.fetch_add::<Adding>(&mut seat.seat, id.0 as usize, n);
+        shared.fetch_add::<Adding>(&mut seat.seat, LINE_WORDS * id.0 as usize, n);
     }
 
     /// Subtracts `n`, modulo 2^64, by one atomic subtraction.
@@ -34,7 +35,7 @@ impl GaugeBank {
             × (gauge_known seat.new ≡ after_gauge_step (gauge_step Sub id.0 n x) (gauge_known seat.old)) }
     {
         let shared = &self.table.shared;
-        shared.fetch_sub::<Subtracting>(&mut seat.seat, id.0 as usize, n);
+        shared.fetch_sub::<Subtracting>(&mut seat.seat, LINE_WORDS * id.0 as usize, n);
     }
 
     /// Stores `n` by one atomic swap, and gives the word that it displaced.
@@ -45,7 +46,7 @@ impl GaugeBank {
         ensures { gauge_known seat.new ≡ after_gauge_step (gauge_step Set id.0 n result) (gauge_known seat.old) }
     {
         let shared = &self.table.shared;
-        shared.swap::<Setting>(&mut seat.seat, id.0 as usize, n)
+        shared.swap::<Setting>(&mut seat.seat, LINE_WORDS * id.0 as usize, n)
     }
 
     /// Reads the gauge by one atomic load.
@@ -57,7 +58,7 @@ impl GaugeBank {
         ensures whole { ReadsAll id.0 (gauge_known seat.old) result }
     {
         let shared = &self.table.shared;
-        shared.load::<Reading>(&mut seat.seat, id.0 as usize)
+        shared.load::<Reading>(&mut seat.seat, LINE_WORDS * id.0 as usize)
     }
 
     /// Joins another seat into a seat, which keeps its list under its number, behind those of the seats that it

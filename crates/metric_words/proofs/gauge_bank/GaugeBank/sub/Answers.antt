@@ -9,7 +9,7 @@ pub fetch_sub-requires : goal.fetch_sub-requires
 fetch_sub-requires c = let s = c.args.seat.now in (search rules, search rules, write-allowed _ _ _ _ Sub s.seat.me c.args.n refl s.leads.0 s.leads.1 c.requires.id (search rules))
 
 pub invariant_of-seat : goal.invariant_of-seat
-invariant_of-seat c = let a = gauge-after c.args.seat.now (gauge_step Sub c.args.id.0 c.args.n c.fetch_sub.result) _ c.fetch_sub.new.seat.me c.fetch_sub.ensures.0 c.fetch_sub.ensures.2 in record { leads = (a.1, a.2) }
+invariant_of-seat c = let a = gauge-after c.args.seat.now (gauge_step Sub c.args.id.0 c.args.n c.fetch_sub.result) _ c.fetch_sub.new.seat.me c.fetch_sub.ensures.0 (c.fetch_sub.ensures.2 c.args.id.0 refl) in record { leads = (a.1, a.2) }
 
 pub returns : goal.returns
-returns c = (c.fetch_sub.result, (gauge-after c.args.seat.now (gauge_step Sub c.args.id.0 c.args.n c.fetch_sub.result) _ c.fetch_sub.new.seat.me c.fetch_sub.ensures.0 c.fetch_sub.ensures.2).0)
+returns c = (c.fetch_sub.result, (gauge-after c.args.seat.now (gauge_step Sub c.args.id.0 c.args.n c.fetch_sub.result) _ c.fetch_sub.new.seat.me c.fetch_sub.ensures.0 (c.fetch_sub.ensures.2 c.args.id.0 refl)).0)
