@@ -28,8 +28,9 @@ fn with_digit(n: u64, digit: u64, most: u64) -> Option<u64>
     if sum > most { None } else { Some(sum) }
 }
 
-// The value of the digits that stand first, and how many they are, where it is at most `most`.
-#[inline(always)]
+// The value of the digits that stand first, and how many they are, where it is at most `most`. A function of its own:
+// inlined, each early return would write the whole empty event of its caller, once a digit.
+#[inline(never)]
 fn digits_first(text: &[u8], most: u64) -> Option<(u64, usize)>
     ensures { MatchOption result (HasMoreThan text.now most) (λ p. HasDigits text.now p.0 p.1 × (p.0 ≤ most)) }
 {
