@@ -1,4 +1,4 @@
-//! A bank of counters, of two words each.
+//! A bank of counters, of two words each, which have a cache line of their own.
 ghost use Rattle.std.specs.Prelude.{◌≡◌, ◌*◌, ◌<◌};
 
 use crate::counter_plays::Counting;

@@ -1,4 +1,4 @@
-//! A bank of gauges, of one word each.
+//! A bank of gauges, of one word each, which has a cache line of its own.
 ghost use Rattle.std.specs.Prelude.{◌≡◌, ◌*◌, ◌<◌};
 
 use crate::gauge_plays::Gauging;
