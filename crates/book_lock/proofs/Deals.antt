@@ -63,8 +63,8 @@ module _ {B : Type 0} (history_of : B → BookHistory) (first : BookHistory) (se
   abbrev L : St → Type 0
   L s = Locked history_of first seats s
 
-  pub opens : (book : B) (n : ℕ) (slots : List (Option B)) → history_of book ≡ first → n ≡ releases_in first.log → slots ≡ Some book ∷ [] → L (opening (0 ∷ n ∷ []) slots (lock_view first seats))
-  opens book n slots is count e = subst (λ (z : List (Option B)). L (opening (0 ∷ n ∷ []) z (lock_view first seats))) (sym e) (record {
+  pub opens : (book : B) (n : ℕ) (slots : List (Option B)) → history_of book ≡ first → n ≡ releases_in first.log → slots ≡ Some book ∷ [] → L (opening (0 ∷ 0 ∷ 0 ∷ 0 ∷ 0 ∷ 0 ∷ 0 ∷ 0 ∷ n ∷ []) slots (lock_view first seats))
+  opens book n slots is count e = subst (λ (z : List (Option B)). L (opening (0 ∷ 0 ∷ 0 ∷ 0 ∷ 0 ∷ 0 ∷ 0 ∷ 0 ∷ n ∷ []) z (lock_view first seats))) (sym e) (record {
     log = first.log;
     words = refl;
     slots = refl;

@@ -63,7 +63,7 @@ module _ {B : Type 0} (history_of : B → BookHistory) (first : BookHistory) (se
     placed : (i y id : ℕ) (p q : LockPart) (c : List (ℕ × Option B)) (a : Act (Option B)) (log : List Entry) → get_elem? s.views id ≡ some (led_by p [])
         → q.seat.number ≡ p.seat.number → GoesOn (λ e. e.seat < seats) r.log log
         → get_or (set s.words i y) 0 0 + holding p ≡ get_or s.words 0 0 + holding q → get_or (set s.words i y) 0 0 ≤ 1
-        → get_or (set s.words i y) 1 0 ≡ releases_in log
+        → get_or (set s.words i y) 8 0 ≡ releases_in log
         → length (homes_after s.homes c a) ≡ 1
         → (get_or (set s.words i y) 0 0 ≡ 0 → (book : B) × (get_elem? (homes_after s.homes c a) 0 ≡ some (some (Some book))) × (history_of book ≡ with_log log first))
         → ((x : LockPart) → F r.log x → x.seat.number ≢ p.seat.number → holding q + holding x ≤ 1 → F log x)
@@ -98,7 +98,7 @@ module _ {B : Type 0} (history_of : B → BookHistory) (first : BookHistory) (se
     held-le : (id : ℕ) (p : LockPart) → get_elem? s.views id ≡ some (led_by p []) → holding p ≤ get_or s.words 0 0
     held-le id p at = let t = term-le (λ (v : View). total holding v.parts) s.views id (led_by p []) at in let e = r.turn in omega arith
 
-    same-word : (i k : ℕ) → i < 2 → get_or (set s.words i (get_or s.words i 0)) k 0 ≡ get_or s.words k 0
+    same-word : (i k : ℕ) → i < 9 → get_or (set s.words i (get_or s.words i 0)) k 0 ≡ get_or s.words k 0
     same-word i k h = dite (ℕ_discrete k i)
         (λ e. subst (λ (j : ℕ). get_or (set s.words i (get_or s.words i 0)) j 0 ≡ get_or s.words j 0) (sym e) (get_or-set_same s.words i (get_or s.words i 0) 0 (let w = r.words in omega arith)))
         (λ ne. get_or-set_other s.words i k (get_or s.words i 0) 0 ne)
@@ -119,7 +119,7 @@ module _ {B : Type 0} (history_of : B → BookHistory) (first : BookHistory) (se
         let one-there : get_or (set s.words 0 1) 0 0 ≡ 1 = get_or-set_same s.words 0 1 0 (omega arith) in
         placed 0 1 id p (took log p) [] (takes 0 (Some book)) r.log at refl (goes-on-not (λ x. x.seat < seats) r.log)
         (omega arith) (omega arith)
-        (get_or-set_other s.words 0 1 1 0 (λ e'. omega arith) ∙ r.released)
+        (get_or-set_other s.words 0 8 1 0 (λ e'. omega arith) ∙ r.released)
         (length-set s.homes 0 none ∙ r.slots)
         (λ e'. absurd (omega arith))
         (λ x f _ _. f)
@@ -136,13 +136,13 @@ module _ {B : Type 0} (history_of : B → BookHistory) (first : BookHistory) (se
         })
 
     -- a step that changes no word, and leaves the seat without the turn or with it
-    same-words : (i id : ℕ) (p q : LockPart) (c : List (ℕ × Option B)) → get_elem? s.views id ≡ some (led_by p []) → i < 2 → q.seat.number ≡ p.seat.number → q.holds ≡ p.holds → F r.log q
+    same-words : (i id : ℕ) (p q : LockPart) (c : List (ℕ × Option B)) → get_elem? s.views id ≡ some (led_by p []) → i < 9 → q.seat.number ≡ p.seat.number → q.holds ≡ p.holds → F r.log q
         → L (stepped s i (get_or s.words i 0) id c (led_by q []) keeps)
     same-words i id p q c at small number holds fits = let x : ℕ = get_or s.words i 0 in let w = same-word i in let t = r.turn in let o = r.one in
         placed i x id p q c keeps r.log at number (goes-on-not (λ e. e.seat < seats) r.log)
         (let a = w 0 small in let b = ap bit holds in omega arith)
         (let a = w 0 small in omega arith)
-        (w 1 small ∙ r.released)
+        (w 8 small ∙ r.released)
         r.slots
         (λ e. r.home (sym (w 0 small) ∙ e))
         (λ x f _ _. f)
@@ -152,11 +152,11 @@ module _ {B : Type 0} (history_of : B → BookHistory) (first : BookHistory) (se
     misses id n p c at = let o = own id p at in let h = o.history in same-words 0 id p (missed n p) c at (omega arith) refl refl
         (record { number = o.number; history = record { made_with = h.made_with; known = h.known; made = h.made; seen = h.seen; fewest = h.fewest }; current = o.current })
 
-    sees : (id : ℕ) (p : LockPart) → get_elem? s.views id ≡ some (led_by p []) → p.seat.seen ≤ get_or s.words 1 0
+    sees : (id : ℕ) (p : LockPart) → get_elem? s.views id ≡ some (led_by p []) → p.seat.seen ≤ get_or s.words 8 0
     sees id p at = let o = (own id p at).history.seen in let e = r.released in omega arith
 
-    loads : (id : ℕ) (p : LockPart) (c : List (ℕ × Option B)) → get_elem? s.views id ≡ some (led_by p []) → L (stepped s 1 (get_or s.words 1 0) id c (led_by (counted (get_or s.words 1 0) p) []) keeps)
-    loads id p c at = let o = own id p at in let h = o.history in let e = r.released in same-words 1 id p (counted (get_or s.words 1 0) p) c at (omega arith) refl refl
+    loads : (id : ℕ) (p : LockPart) (c : List (ℕ × Option B)) → get_elem? s.views id ≡ some (led_by p []) → L (stepped s 8 (get_or s.words 8 0) id c (led_by (counted (get_or s.words 8 0) p) []) keeps)
+    loads id p c at = let o = own id p at in let h = o.history in let e = r.released in same-words 8 id p (counted (get_or s.words 8 0) p) c at (omega arith) refl refl
         (record { number = o.number; history = record { made_with = h.made_with; known = h.known; made = h.made; seen = omega arith; fewest = (let a = h.seen in let b = h.fewest in omega arith) }; current = o.current })
 
     -- to another seat the log that the holder leaves has further entries of the holder's number
@@ -177,17 +177,17 @@ module _ {B : Type 0} (history_of : B → BookHistory) (first : BookHistory) (se
         }
 
     publishes : (id : ℕ) (p : LockPart) (book : B) → get_elem? s.views id ≡ some (led_by p []) → p.holds ≡ true → MayLeave p.seat (history_of book)
-        → L (stepped s 1 (releases_in (history_of book).log) id ((0, Some book) ∷ []) (led_by (published (history_of book).log p) []) keeps)
+        → L (stepped s 8 (releases_in (history_of book).log) id ((0, Some book) ∷ []) (led_by (published (history_of book).log p) []) keeps)
     publishes id p book at holds may = let log : List Entry = (history_of book).log in let y : ℕ = releases_in log in let o = own id p at in let h = o.history in
         let w = r.words in let le = held-le id p at in let b = ap bit holds in let one-at-most = r.one in let t = r.turn in
         let more = may.log.0 in let all = may.log.2 in
         let is : log ≡ r.log ++ more = may.log.1 ∙ ap (λ xs. xs ++ more) (o.current holds) in
-        let other : get_or (set s.words 1 y) 0 0 ≡ get_or s.words 0 0 = get_or-set_other s.words 1 0 y 0 (λ e. omega arith) in
+        let other : get_or (set s.words 8 y) 0 0 ≡ get_or s.words 0 0 = get_or-set_other s.words 8 0 y 0 (λ e. omega arith) in
         let number = o.number in
-        placed 1 y id p (published log p) ((0, Some book) ∷ []) keeps log at refl
+        placed 8 y id p (published log p) ((0, Some book) ∷ []) keeps log at refl
         (more, is, All-weaker (λ e. e.seat ≡ p.seat.number) (λ e. e.seat < seats) (λ e own-of. omega arith) more all)
         (omega arith) (omega arith)
-        (get_or-set_same s.words 1 y 0 (omega arith))
+        (get_or-set_same s.words 8 y 0 (omega arith))
         r.slots
         (λ e. absurd (omega arith))
         (λ x f ne le'. others-keep p x log more is all f ne (omega arith))
@@ -212,7 +212,7 @@ module _ {B : Type 0} (history_of : B → BookHistory) (first : BookHistory) (se
         let as-first : history_of book ≡ with_log r.log first = whole-history (history_of book) first r.log (config ∙ ap (λ (z : BookHistory). z.config) h.made_with) (workers ∙ ap (λ (z : BookHistory). z.workers) h.made_with) (is ∙ o.current holds) in
         placed 0 0 id p (gave p) ((0, Some book) ∷ []) gives r.log at refl (goes-on-not (λ e. e.seat < seats) r.log)
         (omega arith) (omega arith)
-        (get_or-set_other s.words 0 1 0 0 (λ e. omega arith) ∙ r.released)
+        (get_or-set_other s.words 0 8 0 0 (λ e. omega arith) ∙ r.released)
         (length-set s.homes 0 (some (Some book)) ∙ r.slots)
         (λ _. (book, set_here s.homes 0 (some (Some book)) (omega arith), as-first))
         (λ x f _ _. f)
@@ -246,21 +246,21 @@ module _ {B : Type 0} (history_of : B → BookHistory) (first : BookHistory) (se
           ((λ hit. absurd (miss hit)), λ _. (one-of x (omega arith) miss, refl)),
         )))
 
-    pub allows-load : (m : Sat B) → length m.0.parts ≡ 1 → m.1 ≡ [] → Allows L slots id m 1 (λ x. x) (Loaded (step slots 1 0 0 none) m)
+    pub allows-load : (m : Sat B) → length m.0.parts ≡ 1 → m.1 ≡ [] → Allows L slots id m 8 (λ x. x) (Loaded (step slots 8 0 0 none) m)
     unfolding one
-    allows-load m alone free = let p = own_part m.0 in subst (λ (z : Sat B). Allows L slots id z 1 (λ x. x) (Loaded (step slots 1 0 0 none) z)) (sym (alone-as m [] alone free))
-        (λ s r _ at _. (led_by (counted (get_or s.words 1 0) p) [], keeps, tt, loads s r id p [] at, (refl, sees s r id p at)))
+    allows-load m alone free = let p = own_part m.0 in subst (λ (z : Sat B). Allows L slots id z 8 (λ x. x) (Loaded (step slots 8 0 0 none) z)) (sym (alone-as m [] alone free))
+        (λ s r _ at _. (led_by (counted (get_or s.words 8 0) p) [], keeps, tt, loads s r id p [] at, (refl, sees s r id p at)))
 
     pub allows-publish : (m : Sat B) (book : B) → length m.0.parts ≡ 1 → m.1 ≡ (0, Some book) ∷ [] → (own_part m.0).holds ≡ true → MayLeave (own_part m.0).seat (history_of book)
-        → (n : ℕ) → n ≡ releases_in (history_of book).log → Allows L slots id m 1 (λ _. n) (λ _. Published history_of (step slots 1 n 0 none) m n)
+        → (n : ℕ) → n ≡ releases_in (history_of book).log → Allows L slots id m 8 (λ _. n) (λ _. Published history_of (step slots 8 n 0 none) m n)
     unfolding one
     allows-publish m book alone out holds may n count = let p = own_part m.0 in let c : List (ℕ × Option B) = (0, Some book) ∷ [] in
-        subst (λ (z : Sat B). Allows L slots id z 1 (λ _. n) (λ _. Published history_of (step slots 1 n 0 none) z n)) (sym (alone-as m c alone out))
+        subst (λ (z : Sat B). Allows L slots id z 8 (λ _. n) (λ _. Published history_of (step slots 8 n 0 none) z n)) (sym (alone-as m c alone out))
         (λ s r _ at _. (
           led_by (published (history_of book).log p) [],
           keeps,
           tt,
-          subst (λ k. L (stepped s 1 k id c (led_by (published (history_of book).log p) []) keeps)) (sym count) (publishes s r id p book at holds may),
+          subst (λ k. L (stepped s 8 k id c (led_by (published (history_of book).log p) []) keeps)) (sym count) (publishes s r id p book at holds may),
           λ other e. ap (λ (b : B). one (published (history_of b).log p) c) (book-there book other e),
         ))
 

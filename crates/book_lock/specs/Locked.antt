@@ -1,10 +1,11 @@
 -- The rule of a lock's words and slot (this project's own).
 --
--- Word 0 is the turn, 1 while a seat has it. Word 1 is the number of releases in the log. The one slot has
--- the book while no seat has the turn.
+-- Word 0 is the turn, 1 while a seat has it. Word 8 is the number of releases in the log; the words between them are not
+-- used, so that the word which each event loads is not on the cache line of the turn, which each try writes. The one slot
+-- has the book while no seat has the turn.
 -- A seat takes the turn by a compare-and-exchange of 0 for 1, and takes the book out of the slot. It gives
 -- the book back into the slot, stores the number of its releases, and then stores 0 as the turn.
--- A seat that only wants the number of releases loads word 1.
+-- A seat that only wants the number of releases loads word 8.
 --
 -- Why there is one history at every moment of every interleaving. `Locked` is a fact of the words, of the
 -- book at home and of what all seats know. It holds when the lock is made, and a step is only allowed where
@@ -15,7 +16,7 @@
 -- other numbers, since no other seat may leave entries of this number, and no two seats have one number.
 -- The seat that holds makes the log longer at its publish: to all others it is then the log that they knew
 -- with further entries of the holder's number, and to the holder it is its own.
--- So word 1 is the number of releases of the log so far at every moment, and never falls: a load finds at
+-- So word 8 is the number of releases of the log so far at every moment, and never falls: a load finds at
 -- least what its seat saw before. No seat can tell that the book itself comes home a step later, at the
 -- give, since the turn is 1 until then.
 -- A split or a join moves parts from view to view, and no sum over all parts and no fact of each part can
@@ -63,12 +64,12 @@ in_box history_of boxed = history_of boxed.value
 pub record Locked {B : Type 0} (history_of : B → BookHistory) (first : BookHistory) (seats : ℕ)
     (s : State (Option B) View) : Type 0 where
   pub log : List Entry
-  pub words : length s.words ≡ 2
+  pub words : length s.words ≡ 9
   pub slots : length s.homes ≡ 1
   pub origin : GoesOn (λ entry. entry.seat < seats) first.log log
   pub turn : slice_index s.words 0 ≡ parts_total holding s.views
   pub one : parts_total holding s.views ≤ 1
-  pub released : slice_index s.words 1 ≡ releases_in log
+  pub released : slice_index s.words 8 ≡ releases_in log
   pub home : slice_index s.words 0 ≡ 0 → (book : B) × (get_elem? s.homes 0 ≡ some (some (Some book)))
       × (history_of book ≡ with_log log first)
   pub count : parts_total (λ _. 1) s.views ≡ seats

@@ -8,12 +8,12 @@ use atomic_table::Table;
 use stat_defs::Booked;
 use std::alloc::Global;
 
-/// A lock round a book. Word 0 of its table is the turn, 1 while a seat has it, and word 1 the number of
-/// releases; the slot has the book while no seat does.
+/// A lock round a book. Word 0 of its table is the turn, 1 while a seat has it, and word 8, which is on another cache
+/// line, the number of releases; the slot has the book while no seat does.
 #[derive(Drop)]
 pub struct BookLock<B: Booked> {
     pub(crate) table: Table<Option<Box<B>>, LockView, LockKey<B>, Locking, Global>,
-    ghost sized: { (table.shared.table_id.words ≡ 2) × (table.shared.table_id.slots ≡ 1)
+    ghost sized: { (table.shared.table_id.words ≡ 9) × (table.shared.table_id.slots ≡ 1)
         × (0 < table.shared.key.seats) },
 }
 

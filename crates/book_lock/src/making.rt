@@ -32,7 +32,7 @@ impl<B: Booked + Drop> BookLock<B> {
         let boxed = Box::new(alloc, book)?;
         let mut slots = Vec::with_capacity(alloc, 1)?;
         slots.push_reserved(Some(boxed));
-        match Table::new(alloc, &[0, releases], slots, &key) {
+        match Table::new(alloc, &[0, 0, 0, 0, 0, 0, 0, 0, releases], slots, &key) {
             Ok((table, seat)) => {
                 let lock = BookLock { table };
                 let list = lock.deal(alloc, seat, seats)?;

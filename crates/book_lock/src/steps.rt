@@ -10,13 +10,16 @@ use crate::view::{LockKey, LockView};
 use atomic_table::{Seat, Shared};
 use stat_defs::Booked;
 
+// The word of the number of releases: a cache line behind the turn, which is word 0.
+const RELEASES: usize = 8;
+
 pub(crate) type Place<B> = Seat<Option<Box<B>>, LockView>;
 
 pub(crate) type Top<B> = Shared<Option<Box<B>>, LockView, LockKey<B>, Locking>;
 
 // The book, where the turn was free, or the word that was found.
 pub(crate) fn take<B: Booked>(top: &Top<B>, place: &mut Place<B>) -> Result<Box<B>, u64>
-    requires table { (place.old.table_id ≡ top.now.table_id) × (top.now.table_id.words ≡ 2)
+    requires table { (place.old.table_id ≡ top.now.table_id) × (top.now.table_id.words ≡ 9)
         × (top.now.table_id.slots ≡ 1) }
     requires rests { (length place.old.me.0.parts ≡ 1) × (place.old.me.1 ≡ []) }
     ensures table { (place.new.table_id ≡ place.old.table_id) × (place.new.id ≡ place.old.id) }
@@ -35,7 +38,7 @@ pub(crate) fn take<B: Booked>(top: &Top<B>, place: &mut Place<B>) -> Result<Box<
 
 // The number of the book's releases is published before the turn goes back with it.
 pub(crate) fn give<B: Booked + Drop>(top: &Top<B>, place: &mut Place<B>, book: Box<B>)
-    requires table { (place.old.table_id ≡ top.now.table_id) × (top.now.table_id.words ≡ 2)
+    requires table { (place.old.table_id ≡ top.now.table_id) × (top.now.table_id.words ≡ 9)
         × (top.now.table_id.slots ≡ 1) }
     requires holds { (length place.old.me.0.parts ≡ 1) × (place.old.me.1 ≡ (0, None) ∷ [])
         × ((own_part place.old.me.0).holds ≡ true) }
@@ -45,17 +48,17 @@ pub(crate) fn give<B: Booked + Drop>(top: &Top<B>, place: &mut Place<B>, book: B
 {
     let releases = book.releases();
     drop(top.exchange(place, 0, Some(book)));
-    top.store::<Publishing>(place, 1, releases);
+    top.store::<Publishing>(place, RELEASES, releases);
     top.store::<Giving>(place, 0, 0);
 }
 
 // The number of releases.
 pub(crate) fn load<B: Booked>(top: &Top<B>, place: &mut Place<B>) -> u64
-    requires table { (place.old.table_id ≡ top.now.table_id) × (top.now.table_id.words ≡ 2) }
+    requires table { (place.old.table_id ≡ top.now.table_id) × (top.now.table_id.words ≡ 9) }
     requires rests { (length place.old.me.0.parts ≡ 1) × (place.old.me.1 ≡ []) }
     ensures table { (place.new.table_id ≡ place.old.table_id) × (place.new.id ≡ place.old.id) }
     ensures told { (place.new.me ≡ (own_changed (counted result) place.old.me.0, []))
         × ((own_part place.old.me.0).seat.seen ≤ result) }
 {
-    top.load::<Loading>(place, 1)
+    top.load::<Loading>(place, RELEASES)
 }
