@@ -165,7 +165,8 @@ first_failed one two old new (load.BadPattern path) h = refused_first one two pa
 first_failed one two old new load.NoMemory h = h
 first_failed one two old new load.TooBig h = h
 first_failed one two old new (load.Faulty fault) h = h
-first_failed one two old new load.ReadFailed h = h
+first_failed one two old new load.OpenFailed h = h
+first_failed one two old new (load.ReadFailed count) h = h
 
 pub later_failed : (one two : List Asked) (old mid new : Memory) (fault : LoadFault) → mid ≡ after_making (texts_of one) old
     → FailsToBuild two mid new fault → FailsToBuild (one ++ two) old new fault
@@ -174,4 +175,5 @@ later_failed one two old mid new load.NoMemory e h =
     record { count = h.count ∙ ap (λ (m : Memory). m.count) e; last = h.last ∙ ap (λ (m : Memory). m.last) e }
 later_failed one two old mid new load.TooBig e h = h
 later_failed one two old mid new (load.Faulty fault) e h = h
-later_failed one two old mid new load.ReadFailed e h = h
+later_failed one two old mid new load.OpenFailed e h = h
+later_failed one two old mid new (load.ReadFailed count) e h = h

@@ -1,5 +1,5 @@
 -- What is answered of bytes that are too many or faulty, and of a configuration whose patterns were built.
-use Rattle.std.proofs.Common.{ℕ, ◌≡◌, ◌≢◌, ◌≤◌, ◌+◌, max, List, [], ◌++◌, Option, Result, Ok, Err, ◌⊎◌, inl, inr, length, ap, subst, ◌∙◌, refl, arith}
+use Rattle.std.proofs.Common.{ℕ, ◌≡◌, ◌≢◌, ◌≤◌, ◌+◌, max, List, [], ◌++◌, Option, Result, Ok, Err, ◌⊎◌, inl, inr, length, codes, ap, sym, subst, ◌∙◌, refl, arith}
 use Rattle.tag_rules.specs.Making.{Memory}
 use Rattle.boot_file.specs.Boot.{boot}
 use Rattle.boot_values.specs.declared.fault.BootFault.{BootFault}
@@ -33,11 +33,17 @@ module _ {S : Type 0} (source : S → SourceState) (content : Option (List ℕ))
     few = omega (arith, few, ap length empty);
   }
 
-  -- it came to a fault
-  pub failed : Rose (source opened).faults (source after).faults → IsSourceFault source content name
+  -- it came to a fault, and counts this number
+  pub failed : name ≢ codes "-" → (count : ℕ) → count ≡ (source after).faults
+      → Rose (source opened).faults (source after).faults → IsSourceFault source content name count
   unfolding read_of
-  failed rose =
-      record { given = bytes; read = read_of; rose = subst (λ n. Rose n (source after).faults) new.no_faults rose }
+  failed file count counted rose = record {
+    file = file;
+    given = bytes;
+    read = read_of;
+    counted = sym counted;
+    rose = subst (λ n. Rose n count) new.no_faults (subst (λ n. Rose (source opened).faults n) (sym counted) rose);
+  }
 
 module _ {S : Type 0} (source : S → SourceState) (content : Option (List ℕ)) (name : List ℕ) (before after : ShelfState) where
   -- the bytes that were read say no configuration
@@ -54,7 +60,8 @@ module _ {S : Type 0} (source : S → SourceState) (content : Option (List ℕ))
         → Loads source content name before after old new (Err fault)
     not_read load.TooBig is same = (is, same)
     not_read (load.Faulty fault) is same = (is, same)
-    not_read load.ReadFailed is same = (is, same)
+    not_read load.OpenFailed is same = (is, same)
+    not_read (load.ReadFailed count) is same = (is, same)
     not_read load.NoMemory is same = record { count = ap (λ (m : Memory). m.count) same; last = ap (λ (m : Memory). m.last) same }
     not_read (load.BadPattern path) is same = absurd is
 
@@ -75,4 +82,5 @@ module _ {S : Type 0} (source : S → SourceState) (content : Option (List ℕ))
     loaded config (Err load.NoMemory) configured same built = built
     loaded config (Err load.TooBig) configured same built = absurd built
     loaded config (Err (load.Faulty fault)) configured same built = absurd built
-    loaded config (Err load.ReadFailed) configured same built = absurd built
+    loaded config (Err load.OpenFailed) configured same built = absurd built
+    loaded config (Err (load.ReadFailed count)) configured same built = absurd built

@@ -7,7 +7,8 @@ use Rattle.tag_rules.specs.declared.fault.TagFault.TheVariants as tag
 use Rattle.boot_load.specs.Asked.{Asked, texts_of}
 use Rattle.boot_load.specs.declared.loading.Boot.{Boot}
 use Rattle.boot_load.specs.declared.fault.LoadFault.{LoadFault}
-use Rattle.boot_load.specs.declared.fault.LoadFault.TheVariants.{TooBig, Faulty, BadPattern, ReadFailed, NoMemory}
+use Rattle.boot_load.specs.declared.fault.LoadFault.TheVariants.{TooBig, Faulty, BadPattern, OpenFailed}
+use Rattle.boot_load.specs.declared.fault.LoadFault.TheVariants.{ReadFailed, NoMemory}
 
 -- the patterns before one of these were made, and its text was refused
 pub record IsPatternRefused (all : List Asked) (path : List ℕ) (old new : Memory) : Type 0 where
@@ -29,7 +30,8 @@ FailsToBuild all old new (BadPattern path) = IsPatternRefused all path old new
 FailsToBuild all old new NoMemory = RefusesNone old new
 FailsToBuild all old new TooBig = ⊥
 FailsToBuild all old new (Faulty fault) = ⊥
-FailsToBuild all old new ReadFailed = ⊥
+FailsToBuild all old new OpenFailed = ⊥
+FailsToBuild all old new (ReadFailed count) = ⊥
 
 -- the patterns of all these are made in order, up to the first that is refused; what was built is seen as the setting
 abbrev pub BuildsAll : {A : Type 0} → List Asked → A → Memory → Memory → Result A LoadFault → Type 0

@@ -15,7 +15,8 @@ use Rattle.boot_load.specs.Asked.{asked, texts_of}
 use Rattle.boot_load.specs.Build.{IsPatternRefused, RefusesNone}
 use Rattle.boot_load.specs.declared.loading.Boot.{Boot}
 use Rattle.boot_load.specs.declared.fault.LoadFault.{LoadFault}
-use Rattle.boot_load.specs.declared.fault.LoadFault.TheVariants.{TooBig, Faulty, BadPattern, ReadFailed, NoMemory}
+use Rattle.boot_load.specs.declared.fault.LoadFault.TheVariants.{TooBig, Faulty, BadPattern, OpenFailed}
+use Rattle.boot_load.specs.declared.fault.LoadFault.TheVariants.{ReadFailed, NoMemory}
 use Rattle.boot_load.specs.declared.reading.TheConstants.{MAX_BOOT_BYTES}
 
 -- these are the bytes of the bootstrap: `-` stands for `{}`, and a file has these where its content is told
@@ -57,23 +58,23 @@ module _ {S : Type 0} (source : S → SourceState) (content : Option (List ℕ))
     pub read : IsRead given
     pub long : MAX_BOOT_BYTES < length given
 
-  -- a source that was opened under that name came to a fault behind these bytes
-  pub record IsSourceFault : Type 0 where
+  -- a pull of a source that was opened under that name failed behind these bytes, and this is the source's count of
+  -- faults
+  pub record IsSourceFault (count : ℕ) : Type 0 where
+    pub file : name ≢ codes "-"
     pub given : List ℕ
     pub read : IsRead given
-    pub rose : Rose 0 (source read.later).faults
+    pub counted : (source read.later).faults ≡ count
+    pub rose : Rose 0 count
 
 module _ {S : Type 0} (source : S → SourceState) (content : Option (List ℕ)) (name : List ℕ)
     (before after : ShelfState) where
-  -- the opening of the file failed, or a source of it
-  abbrev pub IsUnreadable : Type 0
-  IsUnreadable = (name ≢ codes "-") × (IsUnopened name before after ⊎ (IsSourceFault source content name × (after ≡ before)))
-
   -- why no configuration was read
   abbrev pub IsUnread : LoadFault → Type 0
   IsUnread TooBig = IsTooBig source content name × (after ≡ before)
   IsUnread (Faulty fault) = IsFaulty source content name fault × (after ≡ before)
-  IsUnread ReadFailed = IsUnreadable
+  IsUnread OpenFailed = (name ≢ codes "-") × IsUnopened name before after
+  IsUnread (ReadFailed count) = IsSourceFault source content name count × (after ≡ before)
   IsUnread NoMemory = Unit {0}
   IsUnread (BadPattern path) = ⊥
 
@@ -101,4 +102,5 @@ module _ {S : Type 0} (source : S → SourceState) (content : Option (List ℕ))
     Loads (Err NoMemory) = RefusesNone old new
     Loads (Err TooBig) = IsUnread TooBig × (new ≡ old)
     Loads (Err (Faulty fault)) = IsUnread (Faulty fault) × (new ≡ old)
-    Loads (Err ReadFailed) = IsUnread ReadFailed × (new ≡ old)
+    Loads (Err OpenFailed) = IsUnread OpenFailed × (new ≡ old)
+    Loads (Err (ReadFailed count)) = IsUnread (ReadFailed count) × (new ≡ old)

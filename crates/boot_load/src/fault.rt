@@ -14,8 +14,10 @@ pub enum LoadFault {
     Faulty(BootFault),
     /// The pattern at that path was refused.
     BadPattern(Txt),
-    /// The file could not be opened, or not be read to its end.
-    ReadFailed,
+    /// The file could not be opened.
+    OpenFailed,
+    /// A pull of the file's source failed. The number is how many faults the source has counted, at least one.
+    ReadFailed(u64),
     /// There was no memory.
     NoMemory,
 }
@@ -32,7 +34,7 @@ impl Display for LoadFault {
             LoadFault::TooBig => f.write_str("too big"),
             LoadFault::Faulty(fault) => fault.fmt(f),
             LoadFault::BadPattern(_) => f.write_str("bad pattern"),
-            LoadFault::ReadFailed => f.write_str("read failed"),
+            LoadFault::OpenFailed | LoadFault::ReadFailed(_) => f.write_str("read failed"),
             LoadFault::NoMemory => f.write_str("out of memory"),
         }
     }

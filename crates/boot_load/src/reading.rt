@@ -3,7 +3,7 @@ ghost use Rattle.std.specs.Prelude.{◌≡◌, ◌≢◌, ◌≤◌, ℕ, List, 
 ghost use Rattle.boot_load.specs.Load.{IsShortBoot, IsUnread};
 
 use crate::fault::LoadFault;
-use stats_io::{OpenFault, Pulled, Shelf, pull_up_to};
+use stats_io::{OpenFault, Pulled, Shelf, Source, pull_up_to};
 use std::alloc::Global;
 
 /// Maximum number of bytes of a bootstrap.
@@ -29,13 +29,13 @@ pub(crate) fn bytes_of<F: Shelf>(
 {
     let mut source = match shelf.open(alloc, name) {
         Ok(source) => source,
-        Err(OpenFault::Failed) => return Err(LoadFault::ReadFailed),
+        Err(OpenFault::Failed) => return Err(LoadFault::OpenFailed),
         Err(OpenFault::NoMemory) => return Err(LoadFault::NoMemory),
     };
     let mut bytes = Vec::new(alloc);
     match pull_up_to(alloc, &mut source, MAX_BOOT_BYTES, &mut bytes)? {
         Pulled::End => Ok(bytes),
-        Pulled::Failed => Err(LoadFault::ReadFailed),
+        Pulled::Failed => Err(LoadFault::ReadFailed(source.fault_count())),
         Pulled::TooMany => Err(LoadFault::TooBig),
     }
 }

@@ -43,7 +43,9 @@ pub fn boot_line(alloc: Global, fault: &LoadFault) -> Result<Vec<u8>, NoMemory>
         LoadFault::TooBig => Ok(b"boot: too big\n".to_vec(alloc)?),
         LoadFault::Faulty(fault) => faulty_line(alloc, fault),
         LoadFault::BadPattern(path) => line_with(alloc, "boot: bad pattern at ", path),
-        LoadFault::ReadFailed => Ok(b"boot: read failed\n".to_vec(alloc)?),
+        LoadFault::OpenFailed | LoadFault::ReadFailed(_) => {
+            Ok(b"boot: read failed\n".to_vec(alloc)?)
+        }
         LoadFault::NoMemory => Ok(b"out of memory\n".to_vec(alloc)?),
     }
 }

@@ -1,6 +1,5 @@
 -- A call of the program in which nothing went wrong has status 0, or memory was wanting.
-use Rattle.std.proofs.Common.{◌≡◌, ℕ, Option, Some, List, refl}
-use Rattle.stat_defs.specs.declared.reports.Report.{Report}
+use Rattle.std.proofs.Common.{◌≡◌, Some, refl}
 use Rattle.run_report.specs.RunReport.{IsRunOf}
 use Rattle.stats_commands.specs.Command.{Command, Run, Replay, Check, Bins, command}
 use Rattle.stats_commands.specs.World.{World, Sight}
@@ -9,16 +8,16 @@ use Rattle.stats_commands.proofs.Causes.{done_reports, done_quiet}
 use Rattle.envoy_stats.specs.Running.{ProgramFailsByCause}
 
 pub program_fails_by_cause : {K F S O E : Type 0} (see : Sight K F S O E) → ProgramFailsByCause see
-program_fails_by_cause see before after words status report is flawless = by flawless.said flawless.served flawless.named
+program_fails_by_cause see before after words outcome is flawless = by flawless.said flawless.served flawless.named
   where
-    by : (said : Command) → command words ≡ Some said → NamesFlawless see before after said → IsDoneOrWants status
+    by : (said : Command) → command words ≡ Some said → NamesFlawless see before after said → IsDoneOrWants outcome.status
     by (Run options boot names) e named =
         done_reports see before after (IsRunOf see.shelf see.source (see.holds before.shelf))
         (λ config names old new report comes. record { files = comes.files; are_files = comes.are_files; ends = comes.ends })
-        options boot names named.0 named.1 status report flawless.no_faults (is.ran options boot names e)
+        options boot names named.0 named.1 outcome flawless.no_faults (is.ran options boot names e)
     by (Replay options boot names) e named =
-        done_quiet see before after status report flawless.no_faults (Replay options boot names) (command words) is.call e refl named
+        done_quiet see before after outcome flawless.no_faults (Replay options boot names) (command words) is.call e refl named
     by (Check boot) e named =
-        done_quiet see before after status report flawless.no_faults (Check boot) (command words) is.call e refl named
+        done_quiet see before after outcome flawless.no_faults (Check boot) (command words) is.call e refl named
     by (Bins values) e named =
-        done_quiet see before after status report flawless.no_faults (Bins values) (command words) is.call e refl named
+        done_quiet see before after outcome flawless.no_faults (Bins values) (command words) is.call e refl named

@@ -1,6 +1,5 @@
 -- Each call of the program keeps the table of statuses.
-use Rattle.std.proofs.Common.{◌≡◌, ℕ, Option, Some, None, List, refl}
-use Rattle.stat_defs.specs.declared.reports.Report.{Report}
+use Rattle.std.proofs.Common.{◌≡◌, Option, Some, None, refl}
 use Rattle.run_report.specs.RunReport.{IsRunOf}
 use Rattle.stats_commands.specs.Command.{Command, Run, Replay, Check, Bins, command}
 use Rattle.stats_commands.specs.World.{World, Sight}
@@ -9,14 +8,14 @@ use Rattle.stats_commands.proofs.Table.{of_quiet, of_refused, of_reports}
 use Rattle.envoy_stats.specs.Running.{ProgramKeepsTable}
 
 pub program_keeps : {K F S O E : Type 0} (see : Sight K F S O E) → ProgramKeepsTable see
-program_keeps see before after words status report is = by (command words) refl
+program_keeps see before after words outcome is = by (command words) refl
   where
-    by : (said : Option Command) → command words ≡ said → KeepsTable see before after (command words) status report
-    by None e = of_refused see before after status report (command words) is.call e
+    by : (said : Option Command) → command words ≡ said → KeepsTable see before after (command words) outcome.status outcome.report
+    by None e = of_refused see before after outcome (command words) is.call e
     by (Some (Run options boot names)) e =
         of_reports see before after (command words) (IsRunOf see.shelf see.source (see.holds before.shelf)) options boot names
-        status report (is.ran options boot names e)
+        outcome.status outcome.report outcome.boot_faults (is.ran options boot names e)
     by (Some (Replay options boot names)) e =
-        of_quiet see before after status report (Replay options boot names) (command words) is.call e refl
-    by (Some (Check boot)) e = of_quiet see before after status report (Check boot) (command words) is.call e refl
-    by (Some (Bins values)) e = of_quiet see before after status report (Bins values) (command words) is.call e refl
+        of_quiet see before after outcome (Replay options boot names) (command words) is.call e refl
+    by (Some (Check boot)) e = of_quiet see before after outcome (Check boot) (command words) is.call e refl
+    by (Some (Bins values)) e = of_quiet see before after outcome (Bins values) (command words) is.call e refl

@@ -36,6 +36,8 @@ const ROWS: &str = "\
 5 |  | ?\n
 f1 f2 | {} | inc root a 4/ | f1 0
 4 |  | boot: read failed/\n
+f1 f2 | {} | inc root a 4/ | f1 1
+4 |  | boot: read failed/\n
 f1 f2 | {} | inc root a 4/ | open 0
 4 |  | boot: read failed/\n
 f1 f2 | {} | inc root a 4/ | open 1
@@ -166,6 +168,9 @@ fn assert_row<R: Threads + Wait + Sync + Abort>(
         },
     };
     assert_played(rt, row.as_bytes(), &played, wanted);
+    // The bootstrap's source counts its one failed pull; an opening is counted by the shelf.
+    let boot_fails = case.starts_with("f1 f2") && !case.contains("open");
+    assert_eq!(rt; played.outcome.boot_faults, u64::from(boot_fails), "{row}");
     Ok(())
 }
 

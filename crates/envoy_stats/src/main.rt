@@ -3,11 +3,10 @@
 //! values.
 #![tactic(auto)]
 
-ghost use Rattle.std.specs.Prelude.{◌≡◌, Option, IfOk, IfErr, map, string_bytes};
-ghost use Rattle.stat_defs.specs.declared.reports.Report.{Report};
+ghost use Rattle.std.specs.Prelude.{◌≡◌, IfOk, IfErr, map, string_bytes};
 ghost use Rattle.stats_commands.specs.World.{world, sight};
 ghost use Rattle.stats_commands.specs.Outcome.{IsUnreadable};
-ghost use Rattle.envoy_stats.specs.Running.{IsProgramCall};
+ghost use Rattle.envoy_stats.specs.Running.{Serves};
 
 #[cfg(test)]
 mod example_texts;
@@ -70,10 +69,9 @@ fn serve<R: Threads + Wait + Sync, K: PatternMaker, F: Shelf, O: Sink, E: Sink>(
     out: &mut O,
     err: &mut E,
 ) -> u8
-    ensures called { IfOk words (λ read. (report : Option Report)
-        × IsProgramCall (sight K.memory F.holds F.state F.S.state O.state E.state)
+    ensures called { IfOk words (λ read. Serves (sight K.memory F.holds F.state F.S.state O.state E.state)
         (world maker.old shelf.old out.old err.old) (world maker.new shelf.new out.new err.new)
-        (map string_bytes read.items) result report) }
+        (map string_bytes read.items) result) }
     ensures unread { IfErr words (λ fault. (maker.new ≡ maker.old) × (shelf.new ≡ shelf.old) × (out.new ≡ out.old)
         × IsUnreadable (E.state err.old) (E.state err.new) fault result) }
 {

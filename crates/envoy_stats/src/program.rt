@@ -51,7 +51,7 @@ pub fn envoy_stats_with<R: Threads + Wait + Sync, K: PatternMaker, F: Shelf, O: 
 ) -> Outcome
     ensures { IsProgramCall (sight K.memory F.holds F.state F.S.state O.state E.state)
         (world maker.old shelf.old out.old err.old) (world maker.new shelf.new out.new err.new)
-        (map string_bytes words.now) result.status result.report }
+        (map string_bytes words.now) result }
 {
     match run_asked(words) {
         Some(asked) => run(rt, alloc, key, asked, maker, shelf, out, err),
@@ -71,7 +71,7 @@ pub fn envoy_stats<R: Threads + Wait + Sync, K: PatternMaker, F: Shelf, O: Sink,
 ) -> Outcome
     ensures { IsProgramCall (sight K.memory F.holds F.state F.S.state O.state E.state)
         (world maker.old shelf.old out.old err.old) (world maker.new shelf.new out.new err.new)
-        (map string_bytes words.now) result.status result.report }
+        (map string_bytes words.now) result }
 {
     envoy_stats_with(rt, alloc, HashKey::fixed(), words, maker, shelf, out, err)
 }

@@ -62,7 +62,7 @@ pub fn run<R: Threads + Wait + Sync, K: PatternMaker, F: Shelf, O: Sink, E: Sink
 ) -> Outcome
     ensures { Runs (sight K.memory F.holds F.state F.S.state O.state E.state)
         (world maker.old shelf.old out.old err.old) (world maker.new shelf.new out.new err.new)
-        asked.entry.options asked.entry.boot.now (map string_bytes asked.entry.files.now) result.status result.report }
+        asked.entry.options asked.entry.boot.now (map string_bytes asked.entry.files.now) result }
 {
     match load(alloc, asked.boot, maker, shelf) {
         Ok(boot) => match record(rt, alloc, key, boot, asked.files, shelf) {

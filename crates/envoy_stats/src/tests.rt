@@ -381,6 +381,33 @@ fn a_missing_bootstrap(rt: HostRuntime) -> Result<(), Fail> {
     assert_call(&rt, alloc, "replay b f1", shelf, wanted)
 }
 
+// The status of a call, and how many faults the source of its bootstrap counted: whichever pull of it fails is its first
+// fault. A failed opening and an event file's source are counted elsewhere.
+#[test]
+fn the_count_of_a_bootstrap_whose_source_fails(rt: HostRuntime) -> Result<(), Fail> {
+    let alloc = rt.alloc();
+    let boot = br#"{"stats_config":{"use_all_default_tags":false}}"#;
+    for (words, failing_pull, status, boot_faults) in [
+        ("check f1", 0, 4, 1),
+        ("check f1", 2, 4, 1),
+        ("check f1", 999, 0, 0),
+        ("check f9", 999, 4, 0),
+        ("replay f1 f1", 2, 4, 1),
+        ("replay f1 f1", 999, 3, 0),
+        ("replay - f1", 0, 4, 0),
+    ] {
+        let shelf = shelf_of(alloc, boot, failing_pull)?;
+        let played = play_over(alloc, words, shelf, 100, 999)?;
+        assert_eq!(rt; played.outcome.status, status, "{words}");
+        assert_eq!(rt;
+            played.outcome.boot_faults,
+            boot_faults,
+            "{words} {failing_pull}"
+        );
+    }
+    Ok(())
+}
+
 #[test]
 fn a_refused_pattern(rt: HostRuntime) -> Result<(), Fail> {
     let alloc = rt.alloc();

@@ -1,4 +1,4 @@
-//! How much of a file is taken when its first event comes.
+//! How much of a file is taken when its first event comes, and that it is not read on behind its end.
 ghost use Rattle.stats_io.specs.MemSource.{as_sure_source};
 
 use crate::runs::{repeated, run};
@@ -18,20 +18,28 @@ const LINE_BYTES: u64 = 14;
 // The bytes of a line but one, and those of a pull.
 const MOST_AT_FIRST: u64 = 4_109;
 
-/// A source that adds what is taken of it to a word.
+/// A source that adds what is taken of it to a word, and the pulls behind its end to another.
 #[derive(Drop)]
 struct Metered<'a> {
     source: SureSource,
+    has_ended: bool,
     taken: &'a AtomicU64,
+    late: &'a AtomicU64,
 }
 
 impl<'a> Source for Metered<'a> {
     ghost state = { λ metered. as_sure_source metered.source };
 
     fn pull(&mut self, into: &mut [u8]) -> Pull {
+        if self.has_ended {
+            self.late.fetch_add(1, Ordering::SeqCst);
+        }
         let pull = self.source.pull(into);
-        if let Pull::Bytes(count) = pull {
-            self.taken.fetch_add(count as u64, Ordering::SeqCst);
+        match pull {
+            Pull::Bytes(count) => {
+                self.taken.fetch_add(count as u64, Ordering::SeqCst);
+            }
+            Pull::End | Pull::Failed => self.has_ended = true,
         }
         pull
     }
@@ -63,11 +71,13 @@ impl<'a> Gate for FirstLook<'a> {
     fn reader_at<R: Wait>(&self, _rt: &R, _round: u32) {}
 }
 
-// A worker applies an event before it reads on: a body that gathers the events first has taken the whole file.
+// A worker applies an event before it reads on: a body that gathers the events first has taken the whole file. At the
+// end it is done with the source: a body that pulls it once more has the same contract.
 #[test]
 fn an_event_is_applied_before_the_file_is_read_on(rt: HostRuntime) -> Result<(), Fail> {
     let alloc = rt.alloc();
     let taken = AtomicU64::new(0);
+    let late = AtomicU64::new(0);
     let gate = FirstLook {
         taken: &taken,
         at_first: AtomicU64::new(0),
@@ -75,7 +85,9 @@ fn an_event_is_applied_before_the_file_is_read_on(rt: HostRuntime) -> Result<(),
     let bytes = repeated(alloc, LINE, LINES)?.into_bytes();
     let source = Metered {
         source: SureSource::new(String::new(alloc), bytes, 100_000),
+        has_ended: false,
         taken: &taken,
+        late: &late,
     };
     let files = vec![in alloc; Given::Opened(source)]?;
     let report = run(&rt, alloc, &gate, "{}", files)?;
@@ -85,6 +97,7 @@ fn an_event_is_applied_before_the_file_is_read_on(rt: HostRuntime) -> Result<(),
         "{at_first} bytes were taken when the first event came"
     );
     assert!(rt; taken.load(Ordering::SeqCst) == 98_000);
+    assert!(rt; late.load(Ordering::SeqCst) == 0);
     assert!(rt; report.verdicts.items().len() == 1);
     for told in report.verdicts.items() {
         assert!(rt; told.items().len() == 7_000);

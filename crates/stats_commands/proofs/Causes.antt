@@ -19,16 +19,17 @@ use Rattle.event_script.proofs.OneReading.{file_single}
 use Rattle.file_reading.specs.WorkerEnd.{HasCause}
 use Rattle.file_reading.specs.FileRead.{FileRead, AreFiles}
 use Rattle.boot_file.specs.Boot.{boot}
-use Rattle.boot_load.specs.Load.{IsBoot, Loads, IsTooBig, IsUnreadable}
+use Rattle.boot_load.specs.Load.{IsBoot, Loads, IsTooBig}
 use Rattle.boot_load.specs.declared.fault.LoadFault.{LoadFault}
 use Rattle.boot_load.specs.declared.fault.LoadFault.TheVariants as unloaded
 use Rattle.report_text.specs.declared.options.OutputOptions.{OutputOptions}
 use Rattle.replay_report.specs.ReplayReport.{IsReplayOf}
 use Rattle.stats_commands.specs.declared.status.TheConstants.{DONE}
+use Rattle.stats_commands.specs.declared.outcome.Outcome.{Outcome}
 use Rattle.stats_commands.specs.Command.{Command, Run, Replay, Check, Bins, command, without_threads, quiet_command}
 use Rattle.stats_commands.specs.World.{World, Sight}
 use Rattle.stats_commands.specs.BinLines.{bin_lines}
-use Rattle.stats_commands.specs.Outcome.{IsWritten, Prints, IsBootFault, Checks, Reports, IsCall, ends_of, status_of_all}
+use Rattle.stats_commands.specs.Outcome.{IsWritten, Prints, IsBootFault, Checks, Reports, IsCall, ends_of, status_of_all, boot_faults_of}
 use Rattle.stats_commands.specs.Flawless.{IsToldBoot, IsFlawlessBoot, IsFlawlessFile, EndsWithoutFaults, HasNoFaults, NamesFlawless, IsDoneOrWants, CallsFailByCause}
 
 -- bytes that stand at the front of others are no more than these
@@ -48,7 +49,7 @@ one_boot content name told bytes (inr a) (inr b) =
     sym (subst (λ (c : Option (List ℕ)). MayBe c bytes) a.1 b.1)
 
 module _ {S : Type 0} (source : S → SourceState) (content : Option (List ℕ)) (name : List ℕ)
-    (flawless : IsFlawlessBoot source content name) where
+    (flawless : IsFlawlessBoot content name) where
   not_too_big : IsTooBig source content name → ⊥
   not_too_big is = by flawless.told
     where
@@ -102,31 +103,29 @@ module _ {F S : Type 0} (shelf : F → ShelfState) (source : S → SourceState) 
       are.1.0.run are.1.0.cause)
       (files_done ns are.0 after fs are.1.1 flawless.1 none.1)
 
-module _ {K F S O E : Type 0} (see : Sight K F S O E) (before after : World K F O E) (report : Option Report)
-    (none : HasNoFaults see before after report) where
-  no_boot_fault : (name : List ℕ) (status : ℕ) → IsFlawlessBoot see.source (see.holds before.shelf name) name
-      → IsBootFault see before after name status → ⊥
-  no_boot_fault name status flawless is = by is.fault is.no_want is.cause
+module _ {K F S O E : Type 0} (see : Sight K F S O E) (before after : World K F O E) (outcome : Outcome)
+    (none : HasNoFaults see before after outcome) where
+  no_boot_fault : (name : List ℕ) (status : ℕ) → IsFlawlessBoot (see.holds before.shelf name) name
+      → IsBootFault see before after name status outcome.boot_faults → ⊥
+  no_boot_fault name status flawless is = by is.fault is.no_want is.boot_faults_are is.cause
     where
-      unread : IsUnreadable see.source (see.holds before.shelf name) name (see.shelf before.shelf) (see.shelf after.shelf) → ⊥
-      unread (file, inl unopened) = none.shelf unopened.rose
-      unread (file, inr fault) = flawless.readable file fault.0
-
-      by : (fault : LoadFault) → fault ≢ unloaded.NoMemory
+      by : (fault : LoadFault) → fault ≢ unloaded.NoMemory → outcome.boot_faults ≡ boot_faults_of fault
           → Loads see.source (see.holds before.shelf name) name (see.shelf before.shelf) (see.shelf after.shelf)
           (see.maker before.maker) (see.maker after.maker) (Err fault)
           → ⊥
-      by unloaded.TooBig some cause = not_too_big see.source (see.holds before.shelf name) name flawless cause.0.0
-      by (unloaded.Faulty fault) some cause =
+      by unloaded.TooBig some are cause = not_too_big see.source (see.holds before.shelf name) name flawless cause.0.0
+      by (unloaded.Faulty fault) some are cause =
           let found = cause.0.0 in
           let same : found.bytes ≡ flawless.bytes =
           one_boot (see.holds before.shelf name) name flawless.bytes found.bytes flawless.told found.is_boot.bytes_are in
           let both : Ok flawless.config ≡ Err fault =
           sym flawless.says ∙ (ap (λ (bs : List ℕ). boot bs) (sym same) ∙ found.says) in
           absurd cc
-      by (unloaded.BadPattern path) some cause = none.maker cause.refused.refused.0
-      by unloaded.ReadFailed some cause = unread cause.0
-      by unloaded.NoMemory some cause = some refl
+      by (unloaded.BadPattern path) some are cause = none.maker cause.refused.refused.0
+      by unloaded.OpenFailed some are cause = none.shelf cause.0.1.rose
+      by (unloaded.ReadFailed count) some are cause =
+          none.boot_source (subst (λ (n : ℕ). Rose 0 n) (sym are) cause.0.0.rose)
+      by unloaded.NoMemory some are cause = some refl
 
   written_whole : (text : List ℕ) (whole status : ℕ)
       → IsWritten (see.out before.out) (see.out after.out) text whole status → status ≡ whole
@@ -138,11 +137,11 @@ module _ {K F S O E : Type 0} (see : Sight K F S O E) (before after : World K F 
   done_printed text status (inl is) = inl (written_whole text DONE status is.written)
   done_printed text status (inr up) = inr up.status_is
 
-  done_checks : (boot : List ℕ) (status : ℕ) → IsFlawlessBoot see.source (see.holds before.shelf boot) boot
-      → Checks see before after boot status → IsDoneOrWants status
-  done_checks boot status flawless (inl is) = inl (written_whole _ DONE status is.printed.written)
+  done_checks : (boot : List ℕ) (status : ℕ) → IsFlawlessBoot (see.holds before.shelf boot) boot
+      → Checks see before after boot status outcome.boot_faults → IsDoneOrWants status
+  done_checks boot status flawless (inl is) = inl (written_whole _ DONE status is.1.printed.written)
   done_checks boot status flawless (inr (inl is)) = absurd (no_boot_fault boot status flawless is)
-  done_checks boot status flawless (inr (inr up)) = inr up.status_is
+  done_checks boot status flawless (inr (inr up)) = inr up.1.status_is
 
 -- what is said of a report that came of files, by a run or a replay
 pub record TellsFiles {F S : Type 0} (shelf : F → ShelfState) (source : S → SourceState)
@@ -158,7 +157,7 @@ module _ {K F S O E : Type 0} (see : Sight K F S O E) (before after : World K F 
     → Comes config names old new report
     → TellsFiles see.shelf see.source (see.holds before.shelf) names old new report)
     (options : OutputOptions) (boot : List ℕ) (names : List (List ℕ))
-    (flawless : IsFlawlessBoot see.source (see.holds before.shelf boot) boot)
+    (flawless : IsFlawlessBoot (see.holds before.shelf boot) boot)
     (all : AllByRecursion (λ name. IsFlawlessFile (see.holds before.shelf name)) names) where
   report_done : (report : Report) (old new : F)
       → TellsFiles see.shelf see.source (see.holds before.shelf) names old new report
@@ -168,29 +167,35 @@ module _ {K F S O E : Type 0} (see : Sight K F S O E) (before after : World K F 
       (subst (AllByRecursion (λ (end : WorkerEnd). ¬ Rose end.faults_before end.faults_after)) is.ends none) in
       ap (λ (ends : List WorkerEnd). status_of_all (map (λ (end : WorkerEnd). end.end) ends)) is.ends ∙ done
 
-  pub done_reports : (status : ℕ) (report : Option Report) → HasNoFaults see before after report
-      → Reports see before after Comes options boot names status report → IsDoneOrWants status
-  done_reports status None none (inl fault) = absurd (no_boot_fault see before after None none boot status flawless fault)
-  done_reports status None none (inr up) = inr up.status_is
-  done_reports status (Some report) none is =
-      inl (written_whole see before after (Some report) none _ (status_of_all (ends_of report)) status is.written
-      ∙ report_done report is.over.between after.shelf
-      (tells is.loaded.config names is.over.between after.shelf report is.over.comes) none.ends)
+  pub done_reports : (outcome : Outcome) → HasNoFaults see before after outcome
+      → Reports see before after Comes options boot names outcome.status outcome.report outcome.boot_faults
+      → IsDoneOrWants outcome.status
+  done_reports outcome none is = by outcome.report none.ends is
+    where
+      by : (report : Option Report) → EndsWithoutFaults report
+          → Reports see before after Comes options boot names outcome.status report outcome.boot_faults
+          → IsDoneOrWants outcome.status
+      by None ends (inl fault) = absurd (no_boot_fault see before after outcome none boot outcome.status flawless fault)
+      by None ends (inr up) = inr up.1.status_is
+      by (Some report) ends (read, is) =
+          inl (written_whole see before after outcome none _ (status_of_all (ends_of report)) outcome.status is.written
+          ∙ report_done report is.over.between after.shelf
+          (tells is.loaded.config names is.over.between after.shelf report is.over.comes) ends)
 
 -- a command that starts no thread
-module _ {K F S O E : Type 0} (see : Sight K F S O E) (before after : World K F O E) (status : ℕ) (report : Option Report)
-    (none : HasNoFaults see before after report) where
-  pub done_quiet : (said : Command) (says : Option Command) → IsCall see before after says status report → says ≡ Some said
-      → without_threads said ≡ Some said → NamesFlawless see before after said → IsDoneOrWants status
+module _ {K F S O E : Type 0} (see : Sight K F S O E) (before after : World K F O E) (outcome : Outcome)
+    (none : HasNoFaults see before after outcome) where
+  pub done_quiet : (said : Command) (says : Option Command) → IsCall see before after says outcome → says ≡ Some said
+      → without_threads said ≡ Some said → NamesFlawless see before after said → IsDoneOrWants outcome.status
   done_quiet (Run options boot names) says is e quiet named = absurd cc
   done_quiet (Replay options boot names) says is e quiet named =
       done_reports see before after (IsReplayOf see.shelf see.source (see.holds before.shelf))
       (λ config names old new report comes. record { files = comes.files; are_files = comes.are_files; ends = comes.ends })
-      options boot names named.0 named.1 status report none (is.replayed options boot names e)
+      options boot names named.0 named.1 outcome none (is.replayed options boot names e)
   done_quiet (Check boot) says is e quiet named =
-      done_checks see before after report none boot status named (is.checked boot e).1
+      done_checks see before after outcome none boot outcome.status named (is.checked boot e).1
   done_quiet (Bins values) says is e quiet named =
-      done_printed see before after report none (bin_lines values) status (is.binned values e).1.printed
+      done_printed see before after outcome none (bin_lines values) outcome.status (is.binned values e).2.printed
 
 -- a command that is served where no thread may be started is none that starts one
 quiet_is : (all : Option Command) (said : Command) → option_and_then without_threads all ≡ Some said
@@ -208,6 +213,6 @@ quiet_is (Some (Bins values)) said e =
     subst (λ (c : Command). without_threads c ≡ Some c) same refl
 
 pub calls_fail_by_cause : {K F S O E : Type 0} (see : Sight K F S O E) → CallsFailByCause see
-calls_fail_by_cause see before after words status report is flawless =
-    done_quiet see before after status report flawless.no_faults flawless.said (quiet_command words) is flawless.served
+calls_fail_by_cause see before after words outcome is flawless =
+    done_quiet see before after outcome flawless.no_faults flawless.said (quiet_command words) is flawless.served
     (quiet_is (command words) flawless.said flawless.served) flawless.named

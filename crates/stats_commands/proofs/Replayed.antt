@@ -87,12 +87,13 @@ ends_with sink ob oa eb ea text report (Err NoMemory) status told is how =
 module _ {K F S O E : Type 0} (see : Sight K F S O E) (before after : World K F O E) (Comes : Config → List (List ℕ) → F → F → Report → Type 0)
     (options : OutputOptions) (boot : List ℕ) (names : List (List ℕ)) where
   -- no report has the status of words that are no command
-  pub report_is_no_usage : (status : ℕ) (report : Option Report) → Reports see before after Comes options boot names status report → status ≢ NO_COMMAND
-  report_is_no_usage status None (inl fault) e = boot_is_no_usage fault.fault (sym fault.status_is ∙ e)
-  report_is_no_usage status None (inr up) e = absurd (omega (arith, up.status_is, e))
-  report_is_no_usage status (Some report) is e = by is.written
+  pub report_is_no_usage : (status : ℕ) (report : Option Report) (boot_faults : ℕ)
+      → Reports see before after Comes options boot names status report boot_faults → status ≢ NO_COMMAND
+  report_is_no_usage status None boot_faults (inl fault) e = boot_is_no_usage fault.fault (sym fault.status_is ∙ e)
+  report_is_no_usage status None boot_faults (inr up) e = absurd (omega (arith, up.1.status_is, e))
+  report_is_no_usage status (Some report) boot_faults is e = by is.1.written
     where
-      by : IsWritten (see.out before.out) (see.out after.out) (report_text options is.loaded.config report) (status_of_all (ends_of report)) status → ⊥
+      by : IsWritten (see.out before.out) (see.out after.out) (report_text options is.1.loaded.config report) (status_of_all (ends_of report)) status → ⊥
       by (inl whole) = status_all_is_no_usage (ends_of report) (sym whole.0 ∙ e)
       by (inr cut) = absurd (omega (arith, cut.0, e))
 
@@ -106,24 +107,31 @@ module _ {K F S O E : Type 0} (see : Sight K F S O E) (before after : World K F 
     text_of_loaded : report_text options recorded.config recorded.report ≡ report_text options loaded.config recorded.report
     text_of_loaded = ap (λ (c : Config). report_text options c recorded.report) is.config_is
 
-    pub reports_of : (status : ℕ) (report : Option Report)
+    pub reports_of : (status : ℕ) (report : Option Report) (boot_faults : ℕ) → boot_faults ≡ 0
         → EndsWith see.out before.out after.out (see.err before.err) (see.err after.err) (report_text options recorded.config recorded.report) recorded.report status report
-        → Reports see before after Comes options boot names status report
-    reports_of status None (is_status, inl none, said) = inr (record { status_is = is_status; written = inl none; said = said })
-    reports_of status None (is_status, inr front, said) = inr (record {
-      status_is = is_status;
-      written = inr (record {
+        → Reports see before after Comes options boot names status report boot_faults
+    reports_of status None boot_faults read (is_status, inl none, said) =
+        inr (read, record { status_is = is_status; written = inl none; said = said })
+    reports_of status None boot_faults read (is_status, inr front, said) = inr (
+      read,
+      record {
+        status_is = is_status;
+        written = inr (record {
+          loaded = loaded;
+          report = recorded.report;
+          over = report_over;
+          front = subst (AppendsFront (see.out before.out).written (see.out after.out).written) text_of_loaded front;
+        });
+        said = said;
+      },
+    )
+    reports_of status (Some report) boot_faults read done = (
+      read,
+      record {
         loaded = loaded;
-        report = recorded.report;
-        over = report_over;
-        front = subst (AppendsFront (see.out before.out).written (see.out after.out).written) text_of_loaded front;
-      });
-      said = said;
-    })
-    reports_of status (Some report) done = record {
-      loaded = loaded;
-      over = subst (IsReportOver see before after Comes options boot names loaded) (sym done.0) report_over;
-      written = rw done.0 (subst (λ (text : List ℕ). IsWritten (see.out before.out) (see.out after.out) text (status_of_all (ends_of recorded.report)) status)
-          text_of_loaded done.1);
-      said = rw done.0 done.2;
-    }
+        over = subst (IsReportOver see before after Comes options boot names loaded) (sym done.0) report_over;
+        written = rw done.0 (subst (λ (text : List ℕ). IsWritten (see.out before.out) (see.out after.out) text (status_of_all (ends_of recorded.report)) status)
+            text_of_loaded done.1);
+        said = rw done.0 done.2;
+      },
+    )

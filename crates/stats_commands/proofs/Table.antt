@@ -17,6 +17,7 @@ use Rattle.stats_commands.specs.FaultLines.{out_of_memory, said_of}
 use Rattle.stats_commands.specs.Outcome.{IsSaid, IsWritten, IsPrinted, IsUnstarted, Prints, IsRefused, IsBootFault, Checks, IsCutShort, IsGivenUp, Reports, IsBinned, IsCall}
 use Rattle.stats_commands.specs.Outcome.{ends_of, status_of_all, status_of_boot}
 use Rattle.stats_commands.specs.Statuses.{WritesText, BreaksOff, WritesLittle, IsUnloaded, IsOfFiles, KeepsTable, CallsKeepTable}
+use Rattle.stats_commands.specs.declared.outcome.Outcome.{Outcome}
 use Rattle.stats_commands.specs.declared.status.TheConstants.{DONE, NO_COMMAND, BAD_BOOT, BAD_FILE, UNREADABLE, UNWRITTEN, NO_MEMORY}
 
 all_is : (ends : List FileEnd) → (status_of_all ends ≡ DONE) ⊎ ((status_of_all ends ≡ BAD_FILE) ⊎ (status_of_all ends ≡ UNREADABLE))
@@ -33,7 +34,8 @@ boot_is : (fault : LoadFault) → fault ≢ unloaded.NoMemory → (status_of_boo
 boot_is unloaded.TooBig some = inl refl
 boot_is (unloaded.Faulty fault) some = inl refl
 boot_is (unloaded.BadPattern path) some = inl refl
-boot_is unloaded.ReadFailed some = inr refl
+boot_is unloaded.OpenFailed some = inr refl
+boot_is (unloaded.ReadFailed count) some = inr refl
 boot_is unloaded.NoMemory some = absurd (some refl)
 
 module _ {K F S O E : Type 0} (see : Sight K F S O E) (before after : World K F O E) (says : Option Command) (report : Option Report) (status : ℕ) where
@@ -129,8 +131,8 @@ module _ {K F S O E : Type 0} (see : Sight K F S O E) (before after : World K F 
   pub of_unstarted : report ≡ None → IsUnstarted before.out after.out (see.err before.err) (see.err after.err) status → Table
   of_unstarted no_report is = at_no_memory is.status_is no_report (inl is.unwritten) is.said
 
-  pub of_boot : (boot : List ℕ) → report ≡ None → IsBootFault see before after boot status → Table
-  of_boot boot no_report is = by (boot_is is.fault is.no_want)
+  pub of_boot : (boot : List ℕ) (boot_faults : ℕ) → report ≡ None → IsBootFault see before after boot status boot_faults → Table
+  of_boot boot boot_faults no_report is = by (boot_is is.fault is.no_want)
     where
       unloaded_as : (k : ℕ) → status_of_boot is.fault ≡ k → IsUnloaded see before after k
       unloaded_as k e = record { fault = is.fault; no_want = is.no_want; status_is = e; unwritten = is.unwritten; said = is.said }
@@ -147,10 +149,10 @@ module _ {K F S O E : Type 0} (see : Sight K F S O E) (before after : World K F 
       by (inl whole) = at_done whole.0 (text, whole.1) (inl no_report)
       by (inr cut) = at_unwritten cut.0 (text, cut.1)
 
-  pub of_checks : (boot : List ℕ) → report ≡ None → Checks see before after boot status → Table
-  of_checks boot no_report (inl is) = of_printed _ no_report is.printed
-  of_checks boot no_report (inr (inl is)) = of_boot boot no_report is
-  of_checks boot no_report (inr (inr is)) = of_unstarted no_report is
+  pub of_checks : (boot : List ℕ) (boot_faults : ℕ) → report ≡ None → Checks see before after boot status boot_faults → Table
+  of_checks boot boot_faults no_report (inl is) = of_printed _ no_report is.1.printed
+  of_checks boot boot_faults no_report (inr (inl is)) = of_boot boot boot_faults no_report is
+  of_checks boot boot_faults no_report (inr (inr is)) = of_unstarted no_report is.1
 
   pub of_binned : (values : List ℕ) → report ≡ None → IsBinned see before after values status → Table
   of_binned values no_report is = by is.printed
@@ -192,43 +194,45 @@ module _ {K F S O E : Type 0} (see : Sight K F S O E) (before after : World K F 
       by (inl none) = inl none
       by (inr cut) = inr (_, cut.front)
 
-  pub of_reports : (status : ℕ) (report : Option Report) → Reports see before after Comes options boot names status report
+  pub of_reports : (status : ℕ) (report : Option Report) (boot_faults : ℕ)
+      → Reports see before after Comes options boot names status report boot_faults
       → KeepsTable see before after says status report
-  of_reports status None (inl fault) = of_boot see before after says None status boot refl fault
-  of_reports status None (inr up) = given_up status up
-  of_reports status (Some report) is = of_written see before after says (Some report) status report _ refl is.written is.said
+  of_reports status None boot_faults (inl fault) = of_boot see before after says None status boot boot_faults refl fault
+  of_reports status None boot_faults (inr up) = given_up status up.1
+  of_reports status (Some report) boot_faults is =
+      of_written see before after says (Some report) status report _ refl is.1.written is.1.said
 
 -- a command that starts no thread
-module _ {K F S O E : Type 0} (see : Sight K F S O E) (before after : World K F O E) (status : ℕ) (report : Option Report) where
-  pub of_quiet : (said : Command) (says : Option Command) → IsCall see before after says status report → says ≡ Some said
-      → without_threads said ≡ Some said → KeepsTable see before after says status report
+module _ {K F S O E : Type 0} (see : Sight K F S O E) (before after : World K F O E) (outcome : Outcome) where
+  pub of_quiet : (said : Command) (says : Option Command) → IsCall see before after says outcome → says ≡ Some said
+      → without_threads said ≡ Some said → KeepsTable see before after says outcome.status outcome.report
   of_quiet (Run options boot names) says is e quiet = absurd cc
   of_quiet (Replay options boot names) says is e quiet =
-      of_reports see before after says (IsReplayOf see.shelf see.source (see.holds before.shelf)) options boot names status report
-      (is.replayed options boot names e)
+      of_reports see before after says (IsReplayOf see.shelf see.source (see.holds before.shelf)) options boot names outcome.status
+      outcome.report outcome.boot_faults (is.replayed options boot names e)
   of_quiet (Check boot) says is e quiet =
       let checked = is.checked boot e in
-      of_checks see before after says report status boot checked.0 checked.1
+      of_checks see before after says outcome.report outcome.status boot outcome.boot_faults checked.0 checked.1
   of_quiet (Bins values) says is e quiet =
       let binned = is.binned values e in
-      of_binned see before after says report status values binned.0 binned.1
+      of_binned see before after says outcome.report outcome.status values binned.0 binned.2
 
-  pub of_refused : (says : Option Command) → IsCall see before after says status report → says ≡ None
-      → KeepsTable see before after says status report
+  pub of_refused : (says : Option Command) → IsCall see before after says outcome → says ≡ None
+      → KeepsTable see before after says outcome.status outcome.report
   of_refused says is none =
       let refused = is.refused none in
-      at_no_command see before after says report status (is.usage_status.1 none) none refused.0 refused.1
+      at_no_command see before after says outcome.report outcome.status (is.usage_status.1 none) none refused.0 refused.2
 
 pub calls_keep : {K F S O E : Type 0} (see : Sight K F S O E) → CallsKeepTable see
-calls_keep see before after words status report is = by (command words) refl
+calls_keep see before after words outcome is = by (command words) refl
   where
-    by : (said : Option Command) → command words ≡ said → KeepsTable see before after (quiet_command words) status report
-    by None e = of_refused see before after status report (quiet_command words) is (ap (λ said. option_and_then without_threads said) e)
+    by : (said : Option Command) → command words ≡ said → KeepsTable see before after (quiet_command words) outcome.status outcome.report
+    by None e = of_refused see before after outcome (quiet_command words) is (ap (λ said. option_and_then without_threads said) e)
     by (Some (Run options boot names)) e =
-        of_refused see before after status report (quiet_command words) is (ap (λ said. option_and_then without_threads said) e)
+        of_refused see before after outcome (quiet_command words) is (ap (λ said. option_and_then without_threads said) e)
     by (Some (Replay options boot names)) e =
-        of_quiet see before after status report (Replay options boot names) (quiet_command words) is (ap (λ said. option_and_then without_threads said) e) refl
+        of_quiet see before after outcome (Replay options boot names) (quiet_command words) is (ap (λ said. option_and_then without_threads said) e) refl
     by (Some (Check boot)) e =
-        of_quiet see before after status report (Check boot) (quiet_command words) is (ap (λ said. option_and_then without_threads said) e) refl
+        of_quiet see before after outcome (Check boot) (quiet_command words) is (ap (λ said. option_and_then without_threads said) e) refl
     by (Some (Bins values)) e =
-        of_quiet see before after status report (Bins values) (quiet_command words) is (ap (λ said. option_and_then without_threads said) e) refl
+        of_quiet see before after outcome (Bins values) (quiet_command words) is (ap (λ said. option_and_then without_threads said) e) refl

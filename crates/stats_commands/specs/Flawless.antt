@@ -7,12 +7,11 @@ use Rattle.stat_defs.specs.declared.configs.Config.{Config}
 use Rattle.stat_defs.specs.declared.events.Event.{Event}
 use Rattle.stat_defs.specs.declared.reports.FileEnd.TheVariants.{Whole}
 use Rattle.stat_defs.specs.declared.reports.Report.{Report}
-use Rattle.stats_io.specs.States.{SourceState}
 use Rattle.event_script.specs.Script.{File}
 use Rattle.boot_file.specs.Boot.{boot}
-use Rattle.boot_load.specs.Load.{IsSourceFault}
 use Rattle.boot_load.specs.declared.reading.TheConstants.{MAX_BOOT_BYTES}
 use Rattle.stats_commands.specs.declared.status.TheConstants.{DONE, NO_MEMORY}
+use Rattle.stats_commands.specs.declared.outcome.Outcome.{Outcome}
 use Rattle.stats_commands.specs.Command.{Command, Run, Replay, Check, Bins, quiet_command}
 use Rattle.stats_commands.specs.World.{World, Sight}
 use Rattle.stats_commands.specs.Outcome.{IsCall}
@@ -22,15 +21,13 @@ abbrev pub IsToldBoot : Option (List ℕ) → List ℕ → List ℕ → Type 0
 IsToldBoot content name bytes =
     ((name ≡ codes "-") × (bytes ≡ codes "{}")) ⊎ ((name ≢ codes "-") × (content ≡ Some bytes))
 
--- the bootstrap of that name is within its limit and says a configuration, and no source of its file comes to a fault
-pub record IsFlawlessBoot {S : Type 0} (source : S → SourceState) (content : Option (List ℕ)) (name : List ℕ)
-    : Type 0 where
+-- the bootstrap of that name is within its limit and says a configuration
+pub record IsFlawlessBoot (content : Option (List ℕ)) (name : List ℕ) : Type 0 where
   pub bytes : List ℕ
   pub told : IsToldBoot content name bytes
   pub short : length bytes ≤ MAX_BOOT_BYTES
   pub config : Config
   pub says : boot bytes ≡ Ok config
-  pub readable : name ≢ codes "-" → ¬ IsSourceFault source content name
 
 -- the content of the file is told, and is read whole
 pub record IsFlawlessFile (content : Option (List ℕ)) : Type 0 where
@@ -45,28 +42,30 @@ EndsWithoutFaults None = Unit {0}
 EndsWithoutFaults (Some report) = AllByRecursion (λ end. ¬ Rose end.faults_before end.faults_after) report.ends
 
 module _ {K F S O E : Type 0} (see : Sight K F S O E) (before after : World K F O E) where
-  -- no count of faults rose: not the maker's, not the shelf's, not that of `out`, and none that the report tells
-  pub record HasNoFaults (report : Option Report) : Type 0 where
+  -- no count of faults rose: not the maker's, not the shelf's, not that of `out`, and none that the outcome tells,
+  -- neither that of the bootstrap's source nor one of its report
+  pub record HasNoFaults (outcome : Outcome) : Type 0 where
     pub maker : ¬ Rose (see.maker before.maker).count (see.maker after.maker).count
     pub shelf : ¬ Rose (see.shelf before.shelf).faults (see.shelf after.shelf).faults
     pub out : ¬ Rose (see.out before.out).faults (see.out after.out).faults
-    pub ends : EndsWithoutFaults report
+    pub boot_source : ¬ Rose 0 outcome.boot_faults
+    pub ends : EndsWithoutFaults outcome.report
 
   -- the bootstrap and the files that the command names are faultless
   abbrev pub NamesFlawless : Command → Type 0
-  NamesFlawless (Run options boot names) = IsFlawlessBoot see.source (see.holds before.shelf boot) boot
+  NamesFlawless (Run options boot names) = IsFlawlessBoot (see.holds before.shelf boot) boot
       × AllByRecursion (λ name. IsFlawlessFile (see.holds before.shelf name)) names
-  NamesFlawless (Replay options boot names) = IsFlawlessBoot see.source (see.holds before.shelf boot) boot
+  NamesFlawless (Replay options boot names) = IsFlawlessBoot (see.holds before.shelf boot) boot
       × AllByRecursion (λ name. IsFlawlessFile (see.holds before.shelf name)) names
-  NamesFlawless (Check boot) = IsFlawlessBoot see.source (see.holds before.shelf boot) boot
+  NamesFlawless (Check boot) = IsFlawlessBoot (see.holds before.shelf boot) boot
   NamesFlawless (Bins values) = Unit {0}
 
-  -- nothing went wrong in a call that the words say, which came to this report
-  pub record IsFlawless (says : Option Command) (report : Option Report) : Type 0 where
+  -- nothing went wrong in a call that the words say, which came to this outcome
+  pub record IsFlawless (says : Option Command) (outcome : Outcome) : Type 0 where
     pub said : Command
     pub served : says ≡ Some said
     pub named : NamesFlawless said
-    pub no_faults : HasNoFaults report
+    pub no_faults : HasNoFaults outcome
 
 -- it did what it was asked to, or memory was wanting
 abbrev pub IsDoneOrWants : ℕ → Type 0
@@ -74,7 +73,7 @@ IsDoneOrWants status = (status ≡ DONE) ⊎ (status ≡ NO_MEMORY)
 
 -- Nothing fails without a cause: a call without threads in which nothing went wrong has status 0, or 6.
 abbrev pub CallsFailByCause : {K F S O E : Type 0} → Sight K F S O E → Type 0
-CallsFailByCause {K} {F} {S} {O} {E} see = (before after : World K F O E) (words : List (List ℕ)) (status : ℕ) (report : Option Report)
-    → IsCall see before after (quiet_command words) status report
-    → IsFlawless see before after (quiet_command words) report
-    → IsDoneOrWants status
+CallsFailByCause {K} {F} {S} {O} {E} see = (before after : World K F O E) (words : List (List ℕ)) (outcome : Outcome)
+    → IsCall see before after (quiet_command words) outcome
+    → IsFlawless see before after (quiet_command words) outcome
+    → IsDoneOrWants outcome.status

@@ -23,6 +23,7 @@ use Rattle.report_text.specs.ReportText.{report_text}
 use Rattle.report_text.specs.declared.options.OutputOptions.{OutputOptions}
 use Rattle.stats_commands.specs.declared.status.TheConstants.{DONE, NO_COMMAND, BAD_BOOT, BAD_FILE, UNREADABLE, UNWRITTEN}
 use Rattle.stats_commands.specs.declared.status.TheConstants.{NO_MEMORY}
+use Rattle.stats_commands.specs.declared.outcome.Outcome.{Outcome}
 use Rattle.stats_commands.specs.Command.{Command, Replay, Check, Bins}
 use Rattle.stats_commands.specs.World.{World, Sight}
 use Rattle.stats_commands.specs.BinLines.{bin_lines}
@@ -49,8 +50,18 @@ abbrev pub status_of_boot : LoadFault → ℕ
 status_of_boot unloaded.TooBig = BAD_BOOT
 status_of_boot (unloaded.Faulty fault) = BAD_BOOT
 status_of_boot (unloaded.BadPattern path) = BAD_BOOT
-status_of_boot unloaded.ReadFailed = UNREADABLE
+status_of_boot unloaded.OpenFailed = UNREADABLE
+status_of_boot (unloaded.ReadFailed count) = UNREADABLE
 status_of_boot unloaded.NoMemory = NO_MEMORY
+
+-- how many faults the source of a bootstrap that was not loaded has counted: 0 where no pull failed
+abbrev pub boot_faults_of : LoadFault → ℕ
+boot_faults_of unloaded.TooBig = 0
+boot_faults_of (unloaded.Faulty fault) = 0
+boot_faults_of (unloaded.BadPattern path) = 0
+boot_faults_of unloaded.OpenFailed = 0
+boot_faults_of (unloaded.ReadFailed count) = count
+boot_faults_of unloaded.NoMemory = 0
 
 -- how the files of a report ended
 abbrev pub ends_of : Report → List FileEnd
@@ -94,12 +105,13 @@ module _ {K F S O E : Type 0} (see : Sight K F S O E) (before after : World K F 
 
   module _ (boot : List ℕ) where
     -- the bootstrap was not loaded, and nothing was written; for `-` no file was opened
-    pub record IsBootFault (status : ℕ) : Type 0 where
+    pub record IsBootFault (status boot_faults : ℕ) : Type 0 where
       pub fault : LoadFault
       pub cause : Loads see.source (see.holds before.shelf boot) boot (see.shelf before.shelf) (see.shelf after.shelf)
           (see.maker before.maker) (see.maker after.maker) (Err fault)
       pub no_want : fault ≢ unloaded.NoMemory
       pub status_is : status ≡ status_of_boot fault
+      pub boot_faults_are : boot_faults ≡ boot_faults_of fault
       pub unwritten : after.out ≡ before.out
       pub usual : boot ≡ codes "-" → after.shelf ≡ before.shelf
       pub said : IsSaid (see.err before.err) (see.err after.err) (boot_line fault)
@@ -115,9 +127,9 @@ module _ {K F S O E : Type 0} (see : Sight K F S O E) (before after : World K F 
           (loaded_line loaded.config) status
 
     -- the bootstrap was loaded, or it was not, or memory was wanting
-    abbrev pub Checks : ℕ → Type 0
-    Checks status = IsChecked status
-        ⊎ (IsBootFault status ⊎ IsUnstarted before.out after.out (see.err before.err) (see.err after.err) status)
+    abbrev pub Checks : ℕ → ℕ → Type 0
+    Checks status boot_faults = ((boot_faults ≡ 0) × IsChecked status) ⊎ (IsBootFault status boot_faults
+        ⊎ ((boot_faults ≡ 0) × IsUnstarted before.out after.out (see.err before.err) (see.err after.err) status))
 
   -- A run and a replay: `Comes` says which report comes of these files under a configuration, between two states of the
   -- shelf.
@@ -153,14 +165,14 @@ module _ {K F S O E : Type 0} (see : Sight K F S O E) (before after : World K F 
       pub said : IsSaid (see.err before.err) (see.err after.err) out_of_memory
 
     -- a report comes where the bootstrap was loaded and memory was there
-    abbrev pub Reports : ℕ → Option Report → Type 0
-    Reports status None = IsBootFault boot status ⊎ IsGivenUp status
-    Reports status (Some report) = IsReported status report
+    abbrev pub Reports : ℕ → Option Report → ℕ → Type 0
+    Reports status None boot_faults = IsBootFault boot status boot_faults ⊎ ((boot_faults ≡ 0) × IsGivenUp status)
+    Reports status (Some report) boot_faults = (boot_faults ≡ 0) × IsReported status report
 
   -- the files were replayed, one after another
-  abbrev pub Replays : OutputOptions → List ℕ → List (List ℕ) → ℕ → Option Report → Type 0
-  Replays options boot names status report =
-      Reports (IsReplayOf see.shelf see.source (see.holds before.shelf)) options boot names status report
+  abbrev pub Replays : OutputOptions → List ℕ → List (List ℕ) → Outcome → Type 0
+  Replays options boot names outcome = Reports (IsReplayOf see.shelf see.source (see.holds before.shelf)) options boot
+      names outcome.status outcome.report outcome.boot_faults
 
   -- the bins of these values were told; no file was opened and no pattern made
   pub record IsBinned (values : List ℕ) (status : ℕ) : Type 0 where
@@ -169,14 +181,17 @@ module _ {K F S O E : Type 0} (see : Sight K F S O E) (before after : World K F 
     pub printed : Prints see.out before.out after.out (see.err before.err) (see.err after.err) (bin_lines values) status
 
   -- What a call does whose words say this command, or none. Status 1 is that of words that are no command, and each
-  -- command that starts no thread has what it comes to; a report comes of a replay alone.
-  pub record IsCall (says : Option Command) (status : ℕ) (report : Option Report) : Type 0 where
-    pub usage_status : (status ≡ NO_COMMAND) ↔ (says ≡ None)
-    pub refused : says ≡ None → (report ≡ None) × IsRefused
+  -- command that starts no thread has what it comes to; a report comes of a replay alone, and faults of the bootstrap's
+  -- source of a command that has one.
+  pub record IsCall (says : Option Command) (outcome : Outcome) : Type 0 where
+    pub usage_status : (outcome.status ≡ NO_COMMAND) ↔ (says ≡ None)
+    pub refused : says ≡ None → (outcome.report ≡ None) × (outcome.boot_faults ≡ 0) × IsRefused
     pub replayed : (options : OutputOptions) (boot : List ℕ) (names : List (List ℕ))
-        → says ≡ Some (Replay options boot names) → Replays options boot names status report
-    pub checked : (boot : List ℕ) → says ≡ Some (Check boot) → (report ≡ None) × Checks boot status
-    pub binned : (values : List ℕ) → says ≡ Some (Bins values) → (report ≡ None) × IsBinned values status
+        → says ≡ Some (Replay options boot names) → Replays options boot names outcome
+    pub checked : (boot : List ℕ) → says ≡ Some (Check boot)
+        → (outcome.report ≡ None) × Checks boot outcome.status outcome.boot_faults
+    pub binned : (values : List ℕ) → says ≡ Some (Bins values)
+        → (outcome.report ≡ None) × (outcome.boot_faults ≡ 0) × IsBinned values outcome.status
 
 -- the words could not be read: for want of memory, or since one of them is no text
 abbrev pub IsUnreadable : SinkState → SinkState → Error → ℕ → Type 0

@@ -16,7 +16,7 @@ use Rattle.stats_commands.specs.declared.status.TheConstants.{UNWRITTEN, NO_MEMO
 use Rattle.stats_commands.specs.declared.outcome.Outcome.{Outcome}
 use Rattle.stats_commands.specs.declared.replay.Recorded.{Recorded}
 use Rattle.stats_commands.specs.FaultLines.{out_of_memory, said_of}
-use Rattle.stats_commands.specs.Outcome.{IsSaid, IsWritten, ends_of, status_of_all, status_of_boot}
+use Rattle.stats_commands.specs.Outcome.{IsSaid, IsWritten, ends_of, status_of_all, status_of_boot, boot_faults_of}
 
 -- the patterns of a bootstrap are those of its configuration
 pub record IsBuilt (boot : Boot) : Type 0 where
@@ -63,5 +63,7 @@ module _ {O : Type 0} (sink : O → SinkState) (out_before out_after : O) (err_b
 -- why the bootstrap was not loaded was said, or that memory was wanting
 abbrev pub RefusesBoot : SinkState → SinkState → LoadFault → Outcome → Type 0
 RefusesBoot before after fault outcome =
-    ((outcome ≡ record { status = status_of_boot fault; report = None }) × IsSaid before after (boot_line fault))
-    ⊎ ((outcome ≡ record { status = NO_MEMORY; report = None }) × IsSaid before after out_of_memory)
+    ((outcome ≡ record { status = status_of_boot fault; report = None; boot_faults = boot_faults_of fault })
+    × IsSaid before after (boot_line fault))
+    ⊎ ((outcome ≡ record { status = NO_MEMORY; report = None; boot_faults = 0 })
+    × IsSaid before after out_of_memory)

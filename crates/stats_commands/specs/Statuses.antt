@@ -7,6 +7,7 @@ use Rattle.boot_load.specs.declared.fault.LoadFault.TheVariants as unloaded
 use Rattle.boot_load.specs.BootLine.{boot_line}
 use Rattle.stats_commands.specs.declared.status.TheConstants.{DONE, NO_COMMAND, BAD_BOOT, BAD_FILE, UNREADABLE, UNWRITTEN}
 use Rattle.stats_commands.specs.declared.status.TheConstants.{NO_MEMORY}
+use Rattle.stats_commands.specs.declared.outcome.Outcome.{Outcome}
 use Rattle.stats_commands.specs.Command.{Command, quiet_command}
 use Rattle.stats_commands.specs.World.{World, Sight}
 use Rattle.stats_commands.specs.FaultLines.{out_of_memory, said_of}
@@ -60,6 +61,6 @@ module _ {K F S O E : Type 0} (see : Sight K F S O E) (before after : World K F 
 
 -- a call without threads keeps the table
 abbrev pub CallsKeepTable : {K F S O E : Type 0} → Sight K F S O E → Type 0
-CallsKeepTable {K} {F} {S} {O} {E} see = (before after : World K F O E) (words : List (List ℕ)) (status : ℕ) (report : Option Report)
-    → IsCall see before after (quiet_command words) status report
-    → KeepsTable see before after (quiet_command words) status report
+CallsKeepTable {K} {F} {S} {O} {E} see = (before after : World K F O E) (words : List (List ℕ)) (outcome : Outcome)
+    → IsCall see before after (quiet_command words) outcome
+    → KeepsTable see before after (quiet_command words) outcome.status outcome.report

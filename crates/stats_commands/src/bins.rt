@@ -61,6 +61,7 @@ fn lines_of(alloc: Global, words: &[String]) -> Result<Vec<u8>, NoMemory>
 /// Tells the bins of the values that the words say.
 pub fn bins<O: Sink, E: Sink>(alloc: Global, words: &[String], out: &mut O, err: &mut E) -> Outcome
     ensures report { result.report ≡ None }
+    ensures boot_faults { result.boot_faults ≡ 0 }
     ensures printed { Prints O.state out.old out.new (E.state err.old) (E.state err.new)
         (bin_lines (filter_map value_in (map string_bytes words.now))) result.status }
 {
@@ -68,6 +69,7 @@ pub fn bins<O: Sink, E: Sink>(alloc: Global, words: &[String], out: &mut O, err:
         Ok(text) => Outcome {
             status: print(&text, out, err),
             report: None,
+            boot_faults: 0,
         },
         Err(NoMemory) => give_up(err),
     }

@@ -54,6 +54,7 @@ fn loaded_line(alloc: Global, config: &Config) -> Result<String, NoMemory>
 // Writes the line on a bootstrap that was loaded.
 fn tell<O: Sink, E: Sink>(alloc: Global, config: &Config, out: &mut O, err: &mut E) -> Outcome
     ensures report { result.report ≡ None }
+    ensures boot_faults { result.boot_faults ≡ 0 }
     ensures printed { Prints O.state out.old out.new (E.state err.old) (E.state err.new)
         (loaded_line config.now) result.status }
 {
@@ -61,6 +62,7 @@ fn tell<O: Sink, E: Sink>(alloc: Global, config: &Config, out: &mut O, err: &mut
         Ok(line) => Outcome {
             status: print(line.as_bytes(), out, err),
             report: None,
+            boot_faults: 0,
         },
         Err(NoMemory) => give_up(err),
     }
@@ -78,7 +80,7 @@ pub fn check<K: PatternMaker, F: Shelf, O: Sink, E: Sink>(
     ensures report { result.report ≡ None }
     ensures checked { Checks (sight K.memory F.holds F.state F.S.state O.state E.state)
         (world maker.old shelf.old out.old err.old) (world maker.new shelf.new out.new err.new)
-        boot.now result.status }
+        boot.now result.status result.boot_faults }
 {
     match load(alloc, boot, maker, shelf) {
         Ok(loaded) => tell(alloc, &loaded.config, out, err),

@@ -2,7 +2,7 @@
 ghost use Rattle.std.specs.Prelude.{◌≡◌, ◌≢◌, None};
 ghost use Rattle.boot_load.specs.declared.fault.LoadFault.TheVariants as unloaded;
 ghost use Rattle.stats_commands.specs.FaultLines.{out_of_memory};
-ghost use Rattle.stats_commands.specs.Outcome.{IsSaid, IsPrinted, status_of_boot};
+ghost use Rattle.stats_commands.specs.Outcome.{IsSaid, IsPrinted, status_of_boot, boot_faults_of};
 ghost use Rattle.stats_commands.specs.Replay.{RefusesBoot};
 ghost use Rattle.stats_commands.specs.declared.status.TheConstants as statuses;
 
@@ -13,22 +13,25 @@ use stat_defs::{NoMemory, Report};
 use stats_io::{Sink, WriteFault, push_all};
 use std::alloc::Global;
 
-/// How a call ended: its status, and what it recorded where it got so far.
+/// How a call ended: its status, what it recorded where it got so far, and how many faults the source of the bootstrap
+/// counted where a pull of it failed, else 0.
 #[derive(Drop, Debug)]
 pub struct Outcome {
     pub status: u8,
     pub report: Option<Report>,
+    pub boot_faults: u64,
 }
 
 /// Says that memory was wanting.
 pub fn give_up<E: Sink>(err: &mut E) -> Outcome
-    ensures outcome { result ≡ record { status = statuses.NO_MEMORY; report = None } }
+    ensures outcome { result ≡ record { status = statuses.NO_MEMORY; report = None; boot_faults = 0 } }
     ensures said { IsSaid (E.state err.old) (E.state err.new) out_of_memory }
 {
     say(err, OUT_OF_MEMORY);
     Outcome {
         status: status::NO_MEMORY,
         report: None,
+        boot_faults: 0,
     }
 }
 
@@ -37,8 +40,19 @@ fn status_of_boot(fault: &LoadFault) -> u8
 {
     match fault {
         LoadFault::TooBig | LoadFault::Faulty(_) | LoadFault::BadPattern(_) => status::BAD_BOOT,
-        LoadFault::ReadFailed => status::UNREADABLE,
+        LoadFault::OpenFailed | LoadFault::ReadFailed(_) => status::UNREADABLE,
         LoadFault::NoMemory => status::NO_MEMORY,
+    }
+}
+
+// How many faults the source of the bootstrap has counted.
+fn boot_faults_of(fault: &LoadFault) -> u64
+    ensures { result ≡ boot_faults_of fault.now }
+{
+    match fault {
+        LoadFault::ReadFailed(count) => *count,
+        LoadFault::TooBig | LoadFault::Faulty(_) | LoadFault::BadPattern(_) => 0,
+        LoadFault::OpenFailed | LoadFault::NoMemory => 0,
     }
 }
 
@@ -53,6 +67,7 @@ pub fn refuse_boot<E: Sink>(alloc: Global, fault: &LoadFault, err: &mut E) -> Ou
             Outcome {
                 status: status_of_boot(fault),
                 report: None,
+                boot_faults: boot_faults_of(fault),
             }
         }
         Err(NoMemory) => give_up(err),

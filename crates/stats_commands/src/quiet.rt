@@ -20,13 +20,14 @@ use tag_rules::PatternMaker;
 
 // Says that the words are no command.
 fn refuse_words<E: Sink>(err: &mut E) -> Outcome
-    ensures outcome { result ≡ record { status = statuses.NO_COMMAND; report = None } }
+    ensures outcome { result ≡ record { status = statuses.NO_COMMAND; report = None; boot_faults = 0 } }
     ensures said { IsSaid (E.state err.old) (E.state err.new) usage }
 {
     say(err, USAGE);
     Outcome {
         status: status::NO_COMMAND,
         report: None,
+        boot_faults: 0,
     }
 }
 
@@ -60,7 +61,7 @@ pub fn quiet_stats_with<K: PatternMaker, F: Shelf, O: Sink, E: Sink>(
     // Status 1 is that of words that are no command, and what comes of each command is told by one relation each.
     ensures { IsCall (sight K.memory F.holds F.state F.S.state O.state E.state)
         (world maker.old shelf.old out.old err.old) (world maker.new shelf.new out.new err.new)
-        (quiet_command (map string_bytes words.now)) result.status result.report }
+        (quiet_command (map string_bytes words.now)) result }
 {
     let Some(command) = command_of(words) else {
         return refuse_words(err);
@@ -85,7 +86,7 @@ pub fn quiet_stats<K: PatternMaker, F: Shelf, O: Sink, E: Sink>(
     // Status 1 is that of words that are no command, and what comes of each command is told by one relation each.
     ensures { IsCall (sight K.memory F.holds F.state F.S.state O.state E.state)
         (world maker.old shelf.old out.old err.old) (world maker.new shelf.new out.new err.new)
-        (quiet_command (map string_bytes words.now)) result.status result.report }
+        (quiet_command (map string_bytes words.now)) result }
 {
     quiet_stats_with(alloc, HashKey::fixed(), words, maker, shelf, out, err)
 }

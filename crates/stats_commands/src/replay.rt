@@ -69,7 +69,8 @@ fn end_as<E: Sink>(
     err: &mut E,
 ) -> Outcome
     requires { faults.now ≡ fault_lines 1 (ends_of report) }
-    ensures { EndsAs (E.state err.old) (E.state err.new) report written result.status result.report }
+    ensures ends { EndsAs (E.state err.old) (E.state err.new) report written result.status result.report }
+    ensures boot_faults { result.boot_faults ≡ 0 }
 {
     match written {
         Ok(()) => {
@@ -77,6 +78,7 @@ fn end_as<E: Sink>(
             Outcome {
                 status: status_of_all(report.ends.items()),
                 report: Some(report),
+                boot_faults: 0,
             }
         }
         Err(TextFault::WriteFault) => {
@@ -85,6 +87,7 @@ fn end_as<E: Sink>(
             Outcome {
                 status: status::UNWRITTEN,
                 report: Some(report),
+                boot_faults: 0,
             }
         }
         Err(TextFault::NoMemory) => give_up(err),
@@ -100,8 +103,9 @@ pub fn tell<O: Sink, E: Sink>(
     err: &mut E,
 ) -> Outcome
     requires { IsRecorded recorded }
-    ensures { EndsWith O.state out.old out.new (E.state err.old) (E.state err.new)
+    ensures ends { EndsWith O.state out.old out.new (E.state err.old) (E.state err.new)
         (report_text options recorded.config recorded.report) recorded.report result.status result.report }
+    ensures boot_faults { result.boot_faults ≡ 0 }
 {
     let Recorded {
         report,
@@ -130,7 +134,7 @@ pub fn replay<K: PatternMaker, F: Shelf, O: Sink, E: Sink>(
 ) -> Outcome
     ensures { Replays (sight K.memory F.holds F.state F.S.state O.state E.state)
         (world maker.old shelf.old out.old err.old) (world maker.new shelf.new out.new err.new)
-        asked.entry.options asked.entry.boot.now (map string_bytes asked.entry.files.now) result.status result.report }
+        asked.entry.options asked.entry.boot.now (map string_bytes asked.entry.files.now) result }
 {
     match load(alloc, asked.boot, maker, shelf) {
         Ok(boot) => match record(alloc, key, boot, asked.files, shelf) {

@@ -8,5 +8,5 @@ returns-in-Some g c =
     let see = sight g.K.PatternMaker.memory g.F.Shelf.holds g.F.Shelf.state g.F.S.Source.state g.O.Sink.state g.E.Sink.state in
     let before = world c.args.maker.now c.args.shelf.now c.args.out.now c.args.err.now in
     let after = world c.run.new.maker c.run.new.shelf c.run.new.out c.run.new.err in
-    program_runs see before after (map string_bytes c.args.words.now) c.run.result.status c.run.result.report c.in-Some.asked.options c.in-Some.asked.boot.now
+    program_runs see before after (map string_bytes c.args.words.now) c.run.result c.in-Some.asked.options c.in-Some.asked.boot.now
     (map string_bytes c.in-Some.asked.files.now) c.in-Some.ensures.asked c.run.ensures

@@ -10,7 +10,8 @@ returns-in-Ok-clause-checked g c =
     let see = sight g.K.PatternMaker.memory g.F.Shelf.holds g.F.Shelf.state g.F.S.Source.state g.O.Sink.state g.E.Sink.state in
     let before = world c.args.maker.now c.args.shelf.now c.args.out.now c.args.err.now in
     let after = world c.load.new.maker c.load.new.shelf c.tell.new.out c.tell.new.err in
-    check_loaded see before after c.args.boot.now c.in-Ok.loaded c.tell.result.status c.in-Ok.ensures.loads c.in-Ok.ensures.usual c.tell.ensures.printed
+    check_loaded see before after c.args.boot.now c.in-Ok.loaded c.tell.result.status c.tell.result.boot_faults c.in-Ok.ensures.loads c.in-Ok.ensures.usual
+    c.tell.ensures.boot_faults c.tell.ensures.printed
 
 pub returns-in-Err-NoMemory-clause-checked : goal.returns-in-Err-NoMemory-clause-checked
 returns-in-Err-NoMemory-clause-checked g c =

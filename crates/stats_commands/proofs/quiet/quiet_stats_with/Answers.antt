@@ -16,7 +16,7 @@ returns-in-Run g c =
     let after = world c.args.maker.now c.args.shelf.now c.args.out.now c.refuse_words-in-Run.new.err in
     let says : command (map string_bytes c.args.words.now) ≡ Some (running (reporting_as c.in-Run.field-0)) = sym c.in-Some.ensures ∙ ap (λ (x : Command). Some (spoken_as x)) c.in-Run.is in
     let none : quiet_command (map string_bytes c.args.words.now) ≡ None = ap (λ (o : Option Told). option_and_then without_threads o) says in
-    subst (λ (o : Outcome). IsCall see before after (quiet_command (map string_bytes c.args.words.now)) o.status o.report) (sym c.refuse_words-in-Run.ensures.outcome)
+    subst (λ (o : Outcome). IsCall see before after (quiet_command (map string_bytes c.args.words.now)) o) (sym c.refuse_words-in-Run.ensures.outcome)
     (call_refused see before after (quiet_command (map string_bytes c.args.words.now)) none (record { maker = refl; shelf = refl; out = refl; said = c.refuse_words-in-Run.ensures.said }))
 
 pub returns-in-Replay : goal.returns-in-Replay
@@ -26,7 +26,7 @@ returns-in-Replay g c =
     let after = world c.replay.new.maker c.replay.new.shelf c.replay.new.out c.replay.new.err in
     let says = ap (λ (o : Option Told). option_and_then without_threads o) (sym c.in-Some.ensures ∙ ap (λ (x : Command). Some (spoken_as x)) c.in-Replay.is) in
     call_replayed see before after (quiet_command (map string_bytes c.args.words.now)) c.in-Replay.asked.options c.in-Replay.asked.boot.now (map string_bytes c.in-Replay.asked.files.now)
-    c.replay.result.status c.replay.result.report says c.replay.ensures
+    c.replay.result says c.replay.ensures
 
 pub returns-in-Check : goal.returns-in-Check
 returns-in-Check g c =
@@ -34,7 +34,7 @@ returns-in-Check g c =
     let before = world c.args.maker.now c.args.shelf.now c.args.out.now c.args.err.now in
     let after = world c.check.new.maker c.check.new.shelf c.check.new.out c.check.new.err in
     let says = ap (λ (o : Option Told). option_and_then without_threads o) (sym c.in-Some.ensures ∙ ap (λ (x : Command). Some (spoken_as x)) c.in-Check.is) in
-    call_checked see before after (quiet_command (map string_bytes c.args.words.now)) c.in-Check.boot.now c.check.result.status c.check.result.report says
+    call_checked see before after (quiet_command (map string_bytes c.args.words.now)) c.in-Check.boot.now c.check.result says
     c.check.ensures.report c.check.ensures.checked
 
 pub returns-in-Bins : goal.returns-in-Bins
@@ -44,7 +44,7 @@ returns-in-Bins g c =
     let after = world c.args.maker.now c.args.shelf.now c.bins.new.out c.bins.new.err in
     let says = ap (λ (o : Option Told). option_and_then without_threads o) (sym c.in-Some.ensures ∙ ap (λ (x : Command). Some (spoken_as x)) c.in-Bins.is) in
     call_binned see before after (quiet_command (map string_bytes c.args.words.now)) (filter_map value_in (map string_bytes c.in-Bins.values.now))
-    c.bins.result.status c.bins.result.report says c.bins.ensures.report (record { maker = refl; shelf = refl; printed = c.bins.ensures.printed })
+    c.bins.result says c.bins.ensures.report c.bins.ensures.boot_faults (record { maker = refl; shelf = refl; printed = c.bins.ensures.printed })
 
 pub returns-in_default : goal.returns-in_default
 returns-in_default g c =
@@ -52,5 +52,5 @@ returns-in_default g c =
     let before = world c.args.maker.now c.args.shelf.now c.args.out.now c.args.err.now in
     let after = world c.args.maker.now c.args.shelf.now c.args.out.now c.refuse_words.new.err in
     let none : quiet_command (map string_bytes c.args.words.now) ≡ None = ap (λ (o : Option Told). option_and_then without_threads o) (sym c.in_default.ensures) in
-    subst (λ (o : Outcome). IsCall see before after (quiet_command (map string_bytes c.args.words.now)) o.status o.report) (sym c.refuse_words.ensures.outcome)
+    subst (λ (o : Outcome). IsCall see before after (quiet_command (map string_bytes c.args.words.now)) o) (sym c.refuse_words.ensures.outcome)
     (call_refused see before after (quiet_command (map string_bytes c.args.words.now)) none (record { maker = refl; shelf = refl; out = refl; said = c.refuse_words.ensures.said }))

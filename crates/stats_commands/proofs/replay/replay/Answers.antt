@@ -15,7 +15,8 @@ returns-in-Ok-record g c =
     let names = map string_bytes c.args.asked.files.now in
     reports_of see before after (IsReplayOf g.F.Shelf.state g.F.S.Source.state (g.F.Shelf.holds c.args.shelf.now)) c.args.asked.options c.args.asked.boot.now names c.load.new.shelf c.in-Ok.boot c.in-Ok.ensures.loads c.in-Ok-record.recorded
     (records_alike g.F.Shelf.state g.F.S.Source.state (g.F.Shelf.holds c.load.new.shelf) (g.F.Shelf.holds c.args.shelf.now) c.in-Ok.ensures.contents
-    c.in-Ok.boot.config names _ _ c.in-Ok-record.recorded c.in-Ok-record.ensures) c.tell.result.status c.tell.result.report c.tell.ensures
+    c.in-Ok.boot.config names _ _ c.in-Ok-record.recorded c.in-Ok-record.ensures) c.tell.result.status c.tell.result.report
+    c.tell.result.boot_faults c.tell.ensures.boot_faults c.tell.ensures.ends
 
 pub returns-in-Err : goal.returns-in-Err
 returns-in-Err g c =
