@@ -6,6 +6,9 @@
 #[cfg(test)]
 mod again;
 #[cfg(test)]
+mod closing;
+#[cfg(test)]
 mod goes_on;
 #[cfg(test)]
 mod opening;
+mod parties;
