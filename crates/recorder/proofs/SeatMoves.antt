@@ -1,5 +1,5 @@
 -- What the calls of a recorder leave of what its seat knows.
-use Rattle.std.proofs.Common.{◌≡◌, ◌≢◌, ℕ, zero, suc, ◌+◌, ◌≤◌, ◌==◌, ◌&&◌, Bool, true, false, cond, Option, Some, None, IfSome, List, [], ◌∷◌, length, slice_get, Result, Ok, Err, IsOk, refl, ap, sym, ◌∙◌, subst, arith, ne_eqb, inl, inr}
+use Rattle.std.proofs.Common.{◌≡◌, ◌≢◌, ℕ, zero, suc, ◌+◌, ◌≤◌, ◌==◌, ◌&&◌, Bool, true, false, cond, Option, Some, None, IfSome, List, [], ◌∷◌, ◌++◌, length, slice_get, Result, Ok, Err, IsOk, refl, ap, sym, ◌∙◌, subst, arith, ne_eqb, inl, inr}
 use Rattle.std.specs.Option.{IsSomeAnd}
 use Rattle.std.proofs.lemmas.List.Elements.{All-head, All-tail}
 use Rattle.stat_defs.specs.Books.{BookHistory}

@@ -87,6 +87,22 @@ pub(crate) fn work<R: Wait>(
     Ok(apply(desk, recorder, &event.borrowed(), more)?)
 }
 
+/// Polls, and applies the event that a line says once. False where there was no memory for it.
+pub(crate) fn work_once<R: Wait>(
+    desk: &Desk<'_, R>,
+    recorder: &mut Recorder,
+    line: &str,
+    more: u32,
+) -> Result<bool, Fail>
+    requires { MayBeGiven desk.now.store.now (more + 1) recorder.old }
+    ensures { IfOk result (λ _. MayBeGiven desk.now.store.now more recorder.new) }
+{
+    let event = event_in(desk.alloc, line)?;
+    poll(desk, recorder, more + 1)?;
+    let applied = recorder.apply(desk.rt, desk.alloc, desk.store, &event.borrowed());
+    Ok(applied.is_ok())
+}
+
 /// A reading.
 pub(crate) fn read<R: Wait>(desk: &Desk<'_, R>, admin: &mut Admin) -> Result<ReadRecord, NoMemory>
     requires { IsReaderOf desk.now.store.now.book desk.now.store.now.counters desk.now.store.now.gauges admin.old }

@@ -6,7 +6,7 @@ ghost use Rattle.refusal_tests.specs.Standing.{AreParties};
 
 use crate::parties::Parties;
 use recorder::{Ended, Recorder};
-use stat_defs::LastFlush;
+use stat_defs::{Call, Entry, FlushRecord, LastFlush};
 use std::alloc::Global;
 use std::sync::Wait;
 use std::test::Fail;
@@ -50,4 +50,30 @@ pub(crate) fn closed<R: Wait>(rt: &R, alloc: Global, parties: Parties) -> Result
             Err(fail)
         }
     }
+}
+
+/// The units of all counters, and the values of all histograms.
+pub(crate) fn sums_in(flush: &FlushRecord) -> (u64, u64) {
+    let mut units = 0u64;
+    for delta in flush.deltas.items() {
+        units = units.wrapping_add(delta.n);
+    }
+    let mut values = 0u64;
+    for part in flush.parts.items() {
+        for bin in part.bins.items() {
+            values = values.wrapping_add(bin.count);
+        }
+    }
+    (units, values)
+}
+
+/// The number of finds.
+pub(crate) fn finds_in(log: &[Entry]) -> usize {
+    let mut finds = 0usize;
+    for entry in log {
+        if matches!(&entry.call, Call::Find { .. }) {
+            finds = finds.wrapping_add(1);
+        }
+    }
+    finds
 }

@@ -6,19 +6,17 @@ ghost use Rattle.recorder.specs.Tied.{IsWorkerOf};
 ghost use Rattle.refusal_tests.specs.Standing.{MayBeGiven, IsIdle};
 
 use crate::again::{Desk, flush, read, work};
-use crate::closing::closed;
-use crate::opening::{first_of, opened};
+use crate::closing::{closed, finds_in, sums_in};
+use crate::opening::{NO_TAGS, first_of, opened};
 use crate::parties::Parties;
 use admin_side::Admin;
 use boot_file::read as read_boot;
 use flusher::Flusher;
 use recorder::Recorder;
-use stat_defs::{Call, Entry, FlushRecord, MetricId, ReadRecord, ScopeId, Verdict};
+use stat_defs::{FlushRecord, MetricId, ReadRecord, ScopeId, Verdict};
 use std::sync::Wait;
 use std::test::Fail;
 use store_opening::Opened;
-
-const NO_TAGS: &[u8] = br#"{"stats_config":{"use_all_default_tags":false}}"#;
 
 // What came of it all.
 #[derive(Drop)]
@@ -81,7 +79,8 @@ const VERDICTS: [Verdict; 10] = [
 // Three openings, four finds, a release with its acknowledgement, and a text: what was refused left no entry, or the one
 // find that the same event would make again.
 const ENTRIES: u64 = 10;
-const FINDS: u64 = 4;
+
+const FINDS: usize = 4;
 
 // The word of the one counter.
 fn word_in(reading: &ReadRecord) -> u64 {
@@ -89,31 +88,6 @@ fn word_in(reading: &ReadRecord) -> u64 {
         [counter] => counter.word,
         _ => 0,
     }
-}
-
-// The units of the one counter, and the values of the one histogram.
-fn sums_in(flush: &FlushRecord) -> (u64, u64) {
-    let units = match flush.deltas.items() {
-        [delta] => delta.n,
-        _ => 0,
-    };
-    let mut values = 0u64;
-    for part in flush.parts.items() {
-        for bin in part.bins.items() {
-            values = values.wrapping_add(bin.count);
-        }
-    }
-    (units, values)
-}
-
-fn finds_in(log: &[Entry]) -> u64 {
-    let mut finds = 0u64;
-    for entry in log {
-        if matches!(&entry.call, Call::Find { .. }) {
-            finds = finds.wrapping_add(1);
-        }
-    }
-    finds
 }
 
 #[test]
