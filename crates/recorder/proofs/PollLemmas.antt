@@ -30,7 +30,8 @@ use Rattle.recorder.specs.Knowing.{RecorderKnown, told_by, HasItsCell}
 use Rattle.recorder.specs.Ending.{LeavesHand, EndsIts, store_of, side_of, told_at_end}
 use Rattle.recorder.specs.RecorderKept.{shown, IsKept, AddsToMade}
 use Rattle.recorder.proofs.RecorderLemmas.{same_work}
-use Rattle.recorder.proofs.SeatMoves.{SeatMoves, metrics_grow}
+use Rattle.recorder.proofs.SeatMoves.{SeatMoves, counters_grow}
+use Rattle.recorder.proofs.UnitLemmas.{still_added}
 
 -- a poll makes no value more
 pub polled_count : (turned : Bool) (k k' : HalfKnown) → LooksAndTurns turned k k' → value_count k' ≤ value_count k
@@ -67,7 +68,7 @@ kept_polled turned r s side is looks moves few = record {
   alone = is.alone;
   works = moves.works;
   legal = moves.legal;
-  made = λ id within. is.made id (moves.metrics id within);
+  made = λ id. still_added _ _ refl (is.made id) (moves.counters id);
   units = is.units;
   values = (let fewer = polled_count turned r.hand.side side looks in let was = is.values in omega (arith, fewer, was));
   openings = (let was = is.openings in omega (arith, few, was));
@@ -114,7 +115,7 @@ ends_its r s ended is lock ends leaves =
       };
       did = same_work (told_by (shown r)) (told_at_end ended) (ap (λ (x : Ended). x.work.items) leaves.rest) (ap (λ (x : Ended). (worker_part x.counts).steps) leaves.rest)
           (ap (λ (x : Ended). (gauge_part x.gauges).steps) leaves.rest) turned (ap (λ (x : Ended). x.half.values) leaves.rest) is.did;
-      made = subst (λ (x : Ended). AddsToMade (known_by x.seat) (worker_part x.counts)) (sym leaves.rest) (λ id within. is.made id (metrics_grow (known_by r.seat) (known_by s) _ grows id within));
+      made = subst (λ (x : Ended). AddsToMade (known_by x.seat) (worker_part x.counts)) (sym leaves.rest) (λ id. still_added _ _ refl (is.made id) (counters_grow (known_by r.seat) (known_by s) _ grows id));
       alone = ap (λ (x : Ended). (gauge_known x.gauges).taken) leaves.rest ∙ is.alone;
       few = (let count = ap value_count side in let was = is.values in let few = is.few in omega (arith, count, was, few));
     }

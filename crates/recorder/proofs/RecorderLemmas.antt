@@ -32,7 +32,7 @@ use Rattle.recorder.specs.Knowing.{told_by}
 use Rattle.recorder.specs.Calling.{Decided}
 use Rattle.recorder.specs.RecorderKept.{shown, IsKept}
 use Rattle.recorder.proofs.HandLemmas.{few_more}
-use Rattle.recorder.proofs.UnitLemmas.{units_small, units_named}
+use Rattle.recorder.proofs.UnitLemmas.{units_small, units_named, added_to, still_added}
 use Rattle.recorder.proofs.SeatMoves.{SeatMoves}
 
 -- the seats are of the store's banks
@@ -102,7 +102,7 @@ module _ (r new : Inside) (is : IsKept r) (few : r.given < MAX_GIVEN) (given : n
         alone = ap (λ (k : GaugeKnown). k.taken) acts.gauges ∙ is.alone;
         works = moves.works;
         legal = moves.legal;
-        made = λ id within. (let a = more id in let b = is.made id (moves.metrics id within) in let c = units_named (known_state (known_by new.seat)) id e v names within in omega (arith, a, b, c));
+        made = λ id. added_to (firsts id (worker_part r.hand.counts).steps) (units_in id (e, v)) (firsts id (worker_part new.hand.counts).steps) (more id) (units_named (known_state (known_by new.seat)) id e v names) (is.made id) (moves.counters id);
         units = λ id. (let a = more id in let b = is.units id in let c = units_small id e v lawful in omega (arith, a, b, c, given));
         values = (
             let cell = ap (λ (k : TurnKnown HalfState). total (λ (half : HalfState). length half.values) k.halves) acts.cell in
@@ -122,7 +122,7 @@ module _ (r new : Inside) (is : IsKept r) (few : r.given < MAX_GIVEN) (given : n
     alone = ap (λ (h : Hand). (gauge_known h.gauges).taken) hand ∙ is.alone;
     works = moves.works;
     legal = moves.legal;
-    made = λ id within. ap (λ (h : Hand). firsts id (worker_part h.counts).steps) hand ∙ is.made id (moves.metrics id within);
+    made = λ id. still_added (firsts id (worker_part r.hand.counts).steps) (firsts id (worker_part new.hand.counts).steps) (ap (λ (h : Hand). firsts id (worker_part h.counts).steps) hand) (is.made id) (moves.counters id);
     units = λ id. (let a = ap (λ (h : Hand). firsts id (worker_part h.counts).steps) hand in let b = is.units id in omega (arith, a, b, given));
     values = (let a = ap (λ (h : Hand). value_count h.side) hand in let b = is.values in omega (arith, a, b, given));
     openings = (let a = moves.openings in let b = is.openings in omega (arith, a, b, given));

@@ -1,5 +1,5 @@
 -- What the calls of a recorder leave of what its seat knows.
-use Rattle.std.proofs.Common.{◌≡◌, ◌≢◌, ℕ, zero, suc, ◌+◌, ◌≤◌, ◌==◌, ◌&&◌, Bool, true, false, cond, Option, Some, None, IfSome, List, [], ◌∷◌, length, slice_get, Result, Ok, Err, IsOk, refl, ap, sym, ◌∙◌, subst, arith, ne_eqb, inl, inr}
+use Rattle.std.proofs.Common.{◌≡◌, ◌≢◌, ℕ, zero, suc, ◌+◌, ◌≤◌, ◌==◌, ◌&&◌, Bool, true, false, cond, Option, Some, None, IfSome, List, [], ◌∷◌, ◌++◌, length, slice_get, Result, Ok, Err, IsOk, refl, ap, sym, ◌∙◌, subst, arith, ne_eqb, inl, inr}
 use Rattle.std.specs.Option.{IsSomeAnd}
 use Rattle.std.proofs.lemmas.List.Elements.{All-head, All-tail}
 use Rattle.stat_defs.specs.Books.{BookHistory}
@@ -10,11 +10,12 @@ use Rattle.stat_defs.specs.declared.history.Entry.{Entry}
 use Rattle.stat_defs.specs.declared.history.Verdict.{Verdict}
 use Rattle.stat_defs.specs.declared.ids.Kind.TheVariants as kind
 use Rattle.stat_defs.specs.declared.ids.Mode.TheVariants.{Uninit}
-use Rattle.book_state.specs.State.{State, Row}
+use Rattle.book_state.specs.State.{NameRules, State, Row}
+use Rattle.book_state.specs.Log.{replay}
 use Rattle.book_state.specs.Follows.{Own, Makes, Finds, held_verdict, event_key, key_in}
 use Rattle.book_state.specs.Laws.{AreOfOthers}
 use Rattle.book_state.specs.SafeLaws.{IsSameMetric}
-use Rattle.book_state.proofs.Lists.{not_some, within_some, count_cons, true_false}
+use Rattle.book_state.proofs.Lists.{not_some, count_cons, true_false}
 use Rattle.book_state.proofs.Staying.{metrics_stay}
 use Rattle.stat_book.specs.Calls.{rules_of, state_of, IsLegal, is_opening, openings_by}
 use Rattle.seat_history.specs.declared.known.LogKnown.{LogKnown}
@@ -27,29 +28,33 @@ use Rattle.book_seat.specs.Polling.{AcksIfDue}
 use Rattle.book_seat.proofs.EntryLemmas.{grown_history, grows_map}
 use Rattle.book_seat.proofs.NamedMetrics.{names_own}
 use Rattle.recorder.specs.Hands.{IsRecording}
+use Rattle.recorder.specs.RecorderKept.{IsCounterIn}
 
--- the seat works, it asked to open one scope more at most, and all metrics that were made stay
+-- the seat works, it asked to open one scope more at most, and all counters that were made stay
 pub record SeatMoves (k k' : LogKnown) : Type 0 where
   pub number : k'.number ≡ k.number
   pub works : WorksUnder k'
   pub legal : IsLegal (known_history k')
   pub openings : opened k' ≤ opened k + 1
-  pub metrics : (id : ℕ) → length (known_state k').metrics ≤ id → length (known_state k).metrics ≤ id
+  pub counters : (id : ℕ) → IsCounterIn (known_state k) id → IsCounterIn (known_state k') id
 
-none_within : {X : Type 0} (xs : List X) (at : ℕ) → slice_get xs at ≡ None → length xs ≤ at
-none_within [] at none = omega arith
-none_within (x ∷ xs) zero none = absurd (not_some x (sym none))
-none_within (x ∷ xs) (suc at) none = let rest = none_within xs at none in omega (arith, rest)
+weaker : (o : Option Row) (P Q : Row → Type 0) → ((row : Row) → P row → Q row) → IsSomeAnd o P → IsSomeAnd o Q
+weaker None P Q more is = is
+weaker (Some row) P Q more is = more row is
 
-pub metrics_grow : (k k' : LogKnown) (Asks : List Own → Type 0) (g : Grows k Asks k') (id : ℕ) → length (known_state k').metrics ≤ id → length (known_state k).metrics ≤ id
-metrics_grow k k' Asks g id few = by_place (slice_get (known_state k).metrics id) refl where
-  by_place : (o : Option Row) → slice_get (known_state k).metrics id ≡ o → length (known_state k).metrics ≤ id
-  by_place None none = none_within (known_state k).metrics id none
-  by_place (Some row) here =
-      let there = metrics_stay (rules_of (known_history k)) k.workers k.known g.more id row here in
-      let now = subst (λ (h : BookHistory). IsSomeAnd (slice_get (state_of h).metrics id) (IsSameMetric row)) (sym (grown_history k k' Asks g)) there in
-      let within = within_some (known_state k').metrics id (IsSameMetric row) now in
-      absurd (omega (arith, within, few))
+-- a counter stays one in a longer log
+pub counter_stays : (rules : NameRules) (workers : ℕ) (log more : List Entry) (id : ℕ) → IsCounterIn (replay rules workers log) id → IsCounterIn (replay rules workers (log ++ more)) id
+counter_stays rules workers log more id is = by_place (slice_get (replay rules workers log).metrics id) refl is where
+  by_place : (o : Option Row) → slice_get (replay rules workers log).metrics id ≡ o → IsSomeAnd o (λ row. row.metric.kind ≡ kind.Counter)
+      → IsCounterIn (replay rules workers (log ++ more)) id
+  by_place None here counter = absurd counter
+  by_place (Some row) here counter =
+      weaker (slice_get (replay rules workers (log ++ more)).metrics id) (IsSameMetric row) (λ (row' : Row). row'.metric.kind ≡ kind.Counter) (λ row' same. same.kind ∙ counter)
+      (metrics_stay rules workers log more id row here)
+
+pub counters_grow : (k k' : LogKnown) (Asks : List Own → Type 0) → Grows k Asks k' → (id : ℕ) → IsCounterIn (known_state k) id → IsCounterIn (known_state k') id
+counters_grow k k' Asks g id is =
+    subst (λ (h : BookHistory). IsCounterIn (state_of h) id) (sym (grown_history k k' Asks g)) (counter_stays (rules_of (known_history k)) k.workers k.known g.more id is)
 
 pub grows_moves : (n : ℕ) (k k' : LogKnown) (Asks : List Own → Type 0) → n ≤ 1 → Grows k Asks k' → StaysAtWork n k k' → SeatMoves k k'
 grows_moves n k k' Asks most g stays = record {
@@ -57,11 +62,11 @@ grows_moves n k k' Asks most g stays = record {
   works = stays.works;
   legal = stays.legal;
   openings = (let few = stays.opened in omega (arith, few, most));
-  metrics = metrics_grow k k' Asks g;
+  counters = counters_grow k k' Asks g;
 }
 
 pub still_moves : (k : LogKnown) → WorksUnder k → IsLegal (known_history k) → SeatMoves k k
-still_moves k works legal = record { number = refl; works = works; legal = legal; openings = omega arith; metrics = λ id few. few }
+still_moves k works legal = record { number = refl; works = works; legal = legal; openings = omega arith; counters = λ id is. is }
 
 pub acks_moves : (k k' : LogKnown) → AcksIfDue k k' → StaysAtWork 0 k k' → SeatMoves k k'
 acks_moves k k' (inl none) stays = grows_moves 0 k k' _ (omega arith) none.1 stays

@@ -1,5 +1,8 @@
 -- What a recorder keeps.
-use Rattle.std.specs.Prelude.{◌≡◌, ℕ, ◌*◌, ◌^◌, ◌≤◌, [], length}
+use Rattle.std.specs.Prelude.{◌≡◌, ◌⊎◌, ℕ, ◌*◌, ◌^◌, ◌≤◌, [], slice_get}
+use Rattle.std.specs.Option.{IsSomeAnd}
+use Rattle.stat_defs.specs.declared.ids.Kind.TheVariants.{Counter}
+use Rattle.book_state.specs.State.{State}
 use Rattle.stat_book.specs.Calls.{IsLegal}
 use Rattle.seat_history.specs.declared.known.LogKnown.{LogKnown}
 use Rattle.seat_history.specs.History.{known_history}
@@ -32,9 +35,13 @@ shown r = record {
   given = r.given;
 }
 
--- no counter was added to that the log that the seat knows did not make
+-- a counter of this number was made
+abbrev pub IsCounterIn : State → ℕ → Type 0
+IsCounterIn s id = IsSomeAnd (slice_get s.metrics id) (λ row. row.metric.kind ≡ Counter)
+
+-- each number to which something was added is that of a counter which the log that the seat knows made
 abbrev pub AddsToMade : LogKnown → CountPart → Type 0
-AddsToMade k counts = (id : ℕ) → length (known_state k).metrics ≤ id → firsts id counts.steps ≡ 0
+AddsToMade k counts = (id : ℕ) → (firsts id counts.steps ≡ 0) ⊎ IsCounterIn (known_state k) id
 
 pub record IsKept (r : Inside) : Type 0 where
   pub did : DidItsWork (told_by (shown r))

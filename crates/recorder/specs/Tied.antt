@@ -34,8 +34,9 @@ pub record IsNewWorker (store : Store) (w : ℕ) (r : RecorderKnown) : Type 0 wh
   pub given : r.given ≡ 0
   pub followed : HasFollowedAll r
 
--- What the store's worker w left: its seat has ended behind the entries of its events, and it did its work. It added to
--- no counter that the log did not make, took in no other seat of the gauges, and has no more values than a file events.
+-- What the store's worker w left: its seat has ended, and it did its work. It added to counters alone, those that the
+-- log made, took in no other seat of the gauges, and has no more values than a file events. Events of it may have been
+-- refused.
 pub record HasEnded (store : Store) (w : ℕ) (ended : Ended) : Type 0 where
   pub of : store_of ended ≡ ids_of store
   pub number : (known_by ended.seat).number ≡ w
@@ -43,9 +44,14 @@ pub record HasEnded (store : Store) (w : ℕ) (ended : Ended) : Type 0 where
   pub at : suc place ≡ w
   pub cell : HasCell store place (note_known ended.note).cell
   pub before : LogKnown
-  pub followed : HasFollowed before (events_in ended.work.items) (verdicts_in ended.work.items)
   pub ends : Ends before (known_by ended.seat)
   pub did : DidItsWork (told_at_end ended)
   pub made : AddsToMade (known_by ended.seat) (worker_part ended.counts)
   pub alone : (gauge_known ended.gauges).taken ≡ []
   pub few : value_count (side_of ended) ≤ MAX_GIVEN
+
+-- the seat ended behind the entries of its events
+pub record HasFollowedToEnd (ended : Ended) : Type 0 where
+  pub before : LogKnown
+  pub followed : HasFollowed before (events_in ended.work.items) (verdicts_in ended.work.items)
+  pub ends : Ends before (known_by ended.seat)

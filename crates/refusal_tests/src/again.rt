@@ -1,5 +1,5 @@
 //! Calls of a store's parties, each made once more where there was no memory.
-ghost use Rattle.std.specs.Prelude.{◌≡◌, ◌+◌, None, IsSome, All, IfOk, OnOk};
+ghost use Rattle.std.specs.Prelude.{◌≡◌, ◌+◌, IsSome, All, IfOk, OnOk};
 ghost use Rattle.stat_defs.specs.Borrowed.{event_of};
 ghost use Rattle.stat_defs.specs.Events.{IsLawfulEvent};
 ghost use Rattle.flush_cells.specs.declared.passing.Pass.TheVariants.{Done};
@@ -7,7 +7,7 @@ ghost use Rattle.flush_cells.specs.Cells.{IsNotHolding};
 ghost use Rattle.flush_cells.specs.Late.{pass_from};
 ghost use Rattle.admin_side.specs.Reader.{IsReaderOf};
 ghost use Rattle.flusher.specs.Flusher.{IsFlusherOf};
-ghost use Rattle.refusal_tests.specs.Standing.{MayBeGiven};
+ghost use Rattle.refusal_tests.specs.Standing.{MayBeGiven, IsIdle};
 
 use admin_side::Admin;
 use event_script::{Lines, Step, line_says_lawful_events};
@@ -87,9 +87,26 @@ pub(crate) fn work<R: Wait>(
     Ok(apply(desk, recorder, &event.borrowed(), more)?)
 }
 
+/// Polls, and applies the event that a line says once. False where there was no memory for it.
+pub(crate) fn work_once<R: Wait>(
+    desk: &Desk<'_, R>,
+    recorder: &mut Recorder,
+    line: &str,
+    more: u32,
+) -> Result<bool, Fail>
+    requires { MayBeGiven desk.now.store.now (more + 1) recorder.old }
+    ensures { IfOk result (λ _. MayBeGiven desk.now.store.now more recorder.new) }
+{
+    let event = event_in(desk.alloc, line)?;
+    poll(desk, recorder, more + 1)?;
+    let applied = recorder.apply(desk.rt, desk.alloc, desk.store, &event.borrowed());
+    Ok(applied.is_ok())
+}
+
 /// A reading.
 pub(crate) fn read<R: Wait>(desk: &Desk<'_, R>, admin: &mut Admin) -> Result<ReadRecord, NoMemory>
     requires { IsReaderOf desk.now.store.now.book desk.now.store.now.counters desk.now.store.now.gauges admin.old }
+    ensures { IsReaderOf desk.now.store.now.book desk.now.store.now.counters desk.now.store.now.gauges admin.new }
 {
     let Store {
         book,
@@ -105,7 +122,7 @@ pub(crate) fn read<R: Wait>(desk: &Desk<'_, R>, admin: &mut Admin) -> Result<Rea
 }
 
 fn begin<R: Wait>(desk: &Desk<'_, R>, flusher: &mut Flusher) -> Result<(), NoMemory>
-    requires { IsFlusherOf desk.now.store.now flusher.old × (flusher.old.round ≡ None) }
+    requires { IsIdle desk.now.store.now flusher.old }
     ensures { OnOk result (IsFlusherOf desk.now.store.now flusher.new × IsSome flusher.new.round) }
 {
     match flusher.begin(desk.rt, desk.alloc, desk.store) {
@@ -129,6 +146,7 @@ fn pass<R: Wait>(desk: &Desk<'_, R>, flusher: &mut Flusher) -> Result<Pass, NoMe
 fn take<R: Wait>(desk: &Desk<'_, R>, flusher: &mut Flusher) -> Result<FlushRecord, NoMemory>
     requires own { IsFlusherOf desk.now.store.now flusher.old × IsSome flusher.old.round }
     requires done { (pass_from 1 flusher.old.tokens ≡ Done) × All IsNotHolding flusher.old.tokens }
+    ensures { IfOk result (λ _. IsIdle desk.now.store.now flusher.new) }
 {
     match flusher.flush(desk.alloc, desk.store) {
         Ok(shown) => Ok(shown),
@@ -144,7 +162,9 @@ pub(crate) fn flush<R: Wait>(
     more: u32,
 ) -> Result<FlushRecord, Fail>
     requires worker { MayBeGiven desk.now.store.now more recorder.old }
-    requires flusher { IsFlusherOf desk.now.store.now flusher.old × (flusher.old.round ≡ None) }
+    requires flusher { IsIdle desk.now.store.now flusher.old }
+    ensures worker { IfOk result (λ _. MayBeGiven desk.now.store.now more recorder.new) }
+    ensures flusher { IfOk result (λ _. IsIdle desk.now.store.now flusher.new) }
 {
     begin(desk, flusher)?;
     poll(desk, recorder, more)?;

@@ -1,12 +1,14 @@
 //! Two scopes that share a counter, a histogram and a text.
-ghost use Rattle.std.specs.Prelude.{◌≡◌, None, IfOk};
+ghost use Rattle.std.specs.Prelude.{IfOk};
 ghost use Rattle.admin_side.specs.Reader.{IsReaderOf};
-ghost use Rattle.flusher.specs.Flusher.{IsFlusherOf};
 ghost use Rattle.recorder.specs.declared.limits.TheConstants.{MAX_GIVEN};
-ghost use Rattle.refusal_tests.specs.Standing.{MayBeGiven};
+ghost use Rattle.recorder.specs.Tied.{IsWorkerOf};
+ghost use Rattle.refusal_tests.specs.Standing.{MayBeGiven, IsIdle};
 
 use crate::again::{Desk, flush, read, work};
-use crate::opening::{first_of, opened};
+use crate::closing::{closed, finds_in, sums_in};
+use crate::opening::{NO_TAGS, first_of, opened};
+use crate::parties::Parties;
 use admin_side::Admin;
 use boot_file::read as read_boot;
 use flusher::Flusher;
@@ -16,17 +18,15 @@ use std::sync::Wait;
 use std::test::Fail;
 use store_opening::Opened;
 
-const NO_TAGS: &[u8] = br#"{"stats_config":{"use_all_default_tags":false}}"#;
-
 // What came of it all.
 #[derive(Drop)]
 struct Told {
-    verdicts: [Verdict; 8],
+    verdicts: [Verdict; 10],
     reading: ReadRecord,
     flush: FlushRecord,
 }
 
-// Eight events, a reading and a flush.
+// Eight events, a reading, a flush and two events more.
 fn calls<R: Wait>(
     desk: &Desk<'_, R>,
     recorder: &mut Recorder,
@@ -34,9 +34,13 @@ fn calls<R: Wait>(
     admin: &mut Admin,
 ) -> Result<Told, Fail>
     requires worker { MayBeGiven desk.now.store.now MAX_GIVEN recorder.old }
-    requires flusher { IsFlusherOf desk.now.store.now flusher.old × (flusher.old.round ≡ None) }
+    requires flusher { IsIdle desk.now.store.now flusher.old }
     requires reader { IsReaderOf desk.now.store.now.book desk.now.store.now.counters desk.now.store.now.gauges
         admin.old }
+    ensures worker { IfOk result (λ _. IsWorkerOf desk.now.store.now 1 recorder.new) }
+    ensures flusher { IfOk result (λ _. IsIdle desk.now.store.now flusher.new) }
+    ensures reader { IfOk result (λ _.
+        IsReaderOf desk.now.store.now.book desk.now.store.now.counters desk.now.store.now.gauges admin.new) }
 {
     let first = work(desk, recorder, "open p cluster.c", 131_070)?;
     let second = work(desk, recorder, "open q cluster.c.", 131_068)?;
@@ -48,14 +52,18 @@ fn calls<R: Wait>(
     let eighth = work(desk, recorder, "text q t x", 131_056)?;
     let reading = read(desk, admin)?;
     let flush = flush(desk, recorder, flusher, 131_056)?;
+    let ninth = work(desk, recorder, "inc q n 8", 131_054)?;
+    let tenth = work(desk, recorder, "rec q h 9", 131_052)?;
     Ok(Told {
-        verdicts: [first, second, third, fourth, fifth, sixth, seventh, eighth],
+        verdicts: [
+            first, second, third, fourth, fifth, sixth, seventh, eighth, ninth, tenth,
+        ],
         reading,
         flush,
     })
 }
 
-const VERDICTS: [Verdict; 8] = [
+const VERDICTS: [Verdict; 10] = [
     Verdict::Opened(ScopeId(1)),
     Verdict::Opened(ScopeId(2)),
     Verdict::Accepted(MetricId(0)),
@@ -64,11 +72,15 @@ const VERDICTS: [Verdict; 8] = [
     Verdict::Accepted(MetricId(0)),
     Verdict::Accepted(MetricId(1)),
     Verdict::Accepted(MetricId(2)),
+    Verdict::Accepted(MetricId(0)),
+    Verdict::Accepted(MetricId(1)),
 ];
 
 // Three openings, four finds, a release with its acknowledgement, and a text: what was refused left no entry, or the one
 // find that the same event would make again.
 const ENTRIES: u64 = 10;
+
+const FINDS: usize = 4;
 
 // The word of the one counter.
 fn word_in(reading: &ReadRecord) -> u64 {
@@ -76,21 +88,6 @@ fn word_in(reading: &ReadRecord) -> u64 {
         [counter] => counter.word,
         _ => 0,
     }
-}
-
-// The units of the one counter, and the values of the one histogram.
-fn sums_in(flush: &FlushRecord) -> (u64, u64) {
-    let units = match flush.deltas.items() {
-        [delta] => delta.n,
-        _ => 0,
-    };
-    let mut values = 0u64;
-    for part in flush.parts.items() {
-        for bin in part.bins.items() {
-            values = values.wrapping_add(bin.count);
-        }
-    }
-    (units, values)
 }
 
 #[test]
@@ -114,13 +111,25 @@ fn goes_on_after_a_refusal(rt: HostRuntime) -> Result<(), Fail> {
         store: &store,
     };
     let told = calls(&desk, &mut recorder, &mut flusher, &mut admin);
-    drop(recorder);
-    drop(flusher);
-    drop(admin);
-    drop(store);
-    let told = told?;
+    let parties = Parties {
+        store,
+        recorder,
+        flusher,
+        admin,
+    };
+    let told = match told {
+        Ok(told) => told,
+        Err(fail) => {
+            drop(parties);
+            return Err(fail);
+        }
+    };
+    let end = closed(&rt, alloc, parties)?;
     assert!(rt; told.verdicts == VERDICTS);
     assert!(rt; told.reading.at == ENTRIES && word_in(&told.reading) == 7);
     assert!(rt; told.flush.at == ENTRIES && sums_in(&told.flush) == (7, 1));
+    // Behind the flush's sweep the worker's end.
+    assert!(rt; end.last.at == ENTRIES + 2 && sums_in(&end.last) == (8, 1));
+    assert!(rt; end.log.items().len() == 13 && finds_in(end.log.items()) == FINDS);
     Ok(())
 }

@@ -16,6 +16,9 @@ use store_opening::{Opened, open_store};
 use store_parts::Store;
 use tag_rules::{Matcher, RegexMaker, TagRules, config_law};
 
+/// A bootstrap without tag rules.
+pub(crate) const NO_TAGS: &[u8] = br#"{"stats_config":{"use_all_default_tags":false}}"#;
+
 /// A store of this configuration for one worker.
 pub(crate) fn opened(alloc: Global, config: &Config) -> Result<Opened, Fail>
     requires { IsConfig config.now }

@@ -12,10 +12,11 @@ use Rattle.stat_defs.specs.declared.reports.WorkerEnd.{WorkerEnd}
 use Rattle.stats_io.specs.States.{SourceState}
 use Rattle.locked_book.specs.Sharing.{first_of}
 use Rattle.ledger.specs.Ledger.{RunPlan, RunLedger, plan_of}
+use Rattle.ledger.specs.Lists.{EachNumbered}
 use Rattle.ledger.proofs.ScopeEntries.{scopes_once}
 use Rattle.ledger.specs.Work.{events_in, verdicts_in}
 use Rattle.run_ledger.specs.Told.{RunTold, FlushTold, ReadTold}
-use Rattle.run_ledger.specs.Accounts.{RunAccounts}
+use Rattle.run_ledger.specs.Accounts.{StoreAccounts, RunAccounts, FollowsEvents}
 use Rattle.run_ledger.proofs.Accounts.{run_accounts}
 use Rattle.store_parts.specs.declared.store.Store.{Store}
 use Rattle.recorder.specs.Ending.{told_at_end}
@@ -26,11 +27,11 @@ use Rattle.worker_run.specs.declared.given.Given.{Given}
 use Rattle.worker_run.specs.declared.given.Worked.{Worked}
 use Rattle.worker_run.specs.Working.{IsFileRead}
 use Rattle.run_files.specs.Run.{IsRunOfGiven, content_of}
-use Rattle.run_files.proofs.WorkersDone.{events_by, verdicts_by, AreWorked, are_read, files_read, verdicts_told}
+use Rattle.run_files.proofs.WorkersDone.{events_by, verdicts_by, AreWorked, are_read, files_read, verdicts_told, follow_all}
 
 -- the accounts of a run say nothing of the files' ends
 with_ends : (plan : RunPlan) (events : List (List Event)) (told : RunTold) (report : Report) (ends : List WorkerEnd)
-    → RunAccounts plan events told report → RunAccounts plan events told (record report { ends = ends })
+    → StoreAccounts plan events told report → StoreAccounts plan events told (record report { ends = ends })
 with_ends plan events told report ends a = record {
   told_is = record {
     works = a.told_is.works;
@@ -119,15 +120,22 @@ module _ {S : Type 0} (state : S → SourceState) (config : Config) (store : Sto
     reads = shown_count (λ (reading : ReadTold). reading.shown) reader.reads reads config.reads read read_count i;
   })
 
-  accounted : RunAccounts (plan_of config) (map events_by workers) told report
+  accounted : StoreAccounts (plan_of config) (map events_by workers) told report
   accounted =
-      subst (λ (r : Report). RunAccounts (plan_of config) (map events_by workers) told r) (sym reported)
-      (subst (λ (es : List (List Event)). RunAccounts (plan_of config) es told
+      subst (λ (r : Report). StoreAccounts (plan_of config) (map events_by workers) told r) (sym reported)
+      (subst (λ (es : List (List Event)). StoreAccounts (plan_of config) es told
       (record (report_told told last.log) { ends = map (λ x. x.end) workers })) (told_events workers)
-      (subst (λ (p : RunPlan). RunAccounts p (events_told told) told
+      (subst (λ (p : RunPlan). StoreAccounts p (events_told told) told
       (record (report_told told last.log) { ends = map (λ x. x.end) workers })) planned
       (with_ends (plan_told (first_of store.book).config told) (events_told told) told (report_told told last.log)
       (map (λ x. x.end) workers) closes.accounts)))
+
+  -- no event of theirs was refused
+  each_follows : EachNumbered (FollowsEvents (plan_of config).rules (length told.workers)) 1 told.workers
+  each_follows =
+      subst (λ (p : RunPlan). EachNumbered (FollowsEvents p.rules (length told.workers)) 1 told.workers) planned
+      (follow_all state store 1 files workers (FollowsEvents (plan_told (first_of store.book).config told).rules
+      (length told.workers)) worked closes.follow)
 
   -- the run of these files
   pub run_made : IsRunOfGiven state config files report
@@ -137,7 +145,8 @@ module _ {S : Type 0} (state : S → SourceState) (config : Config) (store : Sto
       let contents = map (content_of state) files in
       let ledger : RunLedger contents (map events_by workers) (plan_of config) report =
       run_accounts contents (map events_by workers) (plan_of config) told report
-      (are_read state store 1 files workers report worked verdicts ends) accounted in
+      (are_read state store 1 files workers report worked verdicts ends)
+      (record { parties = accounted; follow = each_follows }) in
       record {
         events = map events_by workers;
         read = subst (λ (es : List WorkerEnd).

@@ -13,8 +13,10 @@ use Rattle.file_reading.specs.SourceRead.{taken_at}
 use Rattle.ledger.specs.Ledger.{AreRead, TakenAtFault}
 use Rattle.ledger.specs.Lists.{EachNumbered}
 use Rattle.ledger.specs.Work.{Work, events_in, verdicts_in}
+use Rattle.run_ledger.specs.Told.{WorkerTold}
 use Rattle.store_parts.specs.declared.store.Store.{Store}
-use Rattle.recorder.specs.Tied.{HasEnded}
+use Rattle.recorder.specs.Ending.{told_at_end}
+use Rattle.recorder.specs.Tied.{HasEnded, HasFollowedToEnd}
 use Rattle.worker_run.specs.declared.given.Given.{Given}
 use Rattle.worker_run.specs.declared.given.Given.TheVariants.{Opened, Missing}
 use Rattle.worker_run.specs.declared.given.Job.{Job}
@@ -87,6 +89,17 @@ module _ {S : Type 0} (state : S → SourceState) where
     each_ended w [] (x ∷ xs) are = absurd are
     each_ended w (file ∷ files) [] are = absurd are
     each_ended w (file ∷ files) (x ∷ xs) are = (are.0.ended, each_ended (suc w) files xs are.1)
+
+    -- what each tells that follows its events where its seat has done so
+    pub follow_all : (w : ℕ) (files : List (Given S)) (workers : List Worked) (Follow : ℕ → WorkerTold → Type 0)
+        → AreWorked w files workers
+        → EachNumbered (λ n e. HasFollowedToEnd e → Follow n (told_at_end e)) w (map (λ x. x.ended) workers)
+        → EachNumbered Follow w (map told_at_end (map (λ x. x.ended) workers))
+    follow_all w [] [] Follow are each = tt
+    follow_all w [] (x ∷ xs) Follow are each = absurd are
+    follow_all w (file ∷ files) [] Follow are each = absurd are
+    follow_all w (file ∷ files) (x ∷ xs) Follow are each =
+        (each.0 are.0.followed, follow_all (suc w) files xs Follow are.1 each.1)
 
     pub a_worker_each : (w : ℕ) (files : List (Given S)) (workers : List Worked) → AreWorked w files workers
         → length workers ≡ length files

@@ -18,7 +18,7 @@ use Rattle.ledger.specs.Segments.{segments}
 use Rattle.ledger.specs.Readings.{ReadingFits, NoneFalls}
 use Rattle.ledger.specs.Work.{Work, events_in, verdicts_in, recordings, units_of}
 use Rattle.run_ledger.specs.Told.{RunTold, WorkerTold, FlushTold, ReadTold, all_flushes, values_in, halves_of, words_read, words_loaded}
-use Rattle.run_ledger.specs.Accounts.{RunAccounts, WorkerAccounts, FlushAccounts}
+use Rattle.run_ledger.specs.Accounts.{StoreAccounts, WorkerAccounts, FollowsEvents, FlushAccounts}
 use Rattle.run_ledger.specs.Laws.{RunsAccount}
 use Rattle.run_ledger.proofs.Counts.{MadeAdds, all_adds, value_is}
 use Rattle.ledger.proofs.Members.{each_both, each_as, each_of, each_last, each_mapped, all_as, of_last}
@@ -28,7 +28,8 @@ use Rattle.run_ledger.proofs.History.{NoneEnds, all_follow, all_sweeps, none_end
 use Rattle.run_ledger.proofs.Readings as readings
 use Rattle.run_ledger.proofs.Words.{MadeMoves, word_fits}
 
-module _ (plan : RunPlan) (events : List (List Event)) (told : RunTold) (report : Report) (is : RunAccounts plan events told report) where
+module _ (plan : RunPlan) (events : List (List Event)) (told : RunTold) (report : Report) (is : StoreAccounts plan events told report)
+    (follow : EachNumbered (FollowsEvents plan.rules (length told.workers)) 1 told.workers) where
   abbrev works : List Work
   works = map (λ (worker : WorkerTold). worker.work) told.workers
 
@@ -48,7 +49,7 @@ module _ (plan : RunPlan) (events : List (List Event)) (told : RunTold) (report 
   history = record {
     legal = subst (λ (n : ℕ). Legal plan.rules plan.scopes n report.log) (sym same_number) is.log_is.legal;
     follows = subst (λ (n : ℕ). EachNumbered (λ w work. Follows plan.rules n w (events_in work) (verdicts_in work) report.log) 1 works) (sym same_number)
-        (all_follow plan.rules number told.last.found told.last.sweep report.log is.log_is.last_sweep last_is.1.sweep.1 told.workers is.each_worker);
+        (all_follow plan.rules number told.last.found told.last.sweep report.log is.log_is.last_sweep last_is.1.sweep.1 told.workers is.each_worker follow);
   }
 
   flush_count : length shown ≡ plan.flushes + 1
@@ -72,16 +73,16 @@ module _ (plan : RunPlan) (events : List (List Event)) (told : RunTold) (report 
   taken : EachNumbered (λ w worker. values_in (halves_of w (all_flushes told)) ≡ recordings worker.work) 1 told.workers
   taken = each_as _ (λ w worker. values_in (halves_of w (all_flushes told)) ≡ recordings worker.work) 1 told.workers
       (λ w worker above both. ap values_in both.0 ∙ both.1.did.values)
-      (each_both (λ w worker. halves_of w (all_flushes told) ≡ worker.turned ++ worker.active ∷ []) (WorkerAccounts plan.rules number told.last.found) 1 told.workers is.halves is.each_worker)
+      (each_both (λ w worker. halves_of w (all_flushes told) ≡ worker.turned ++ worker.active ∷ []) (WorkerAccounts told.last.found) 1 told.workers is.halves is.each_worker)
 
   parts_of : AllByRecursion HasParts (all_flushes told)
   parts_of = each_of (λ k flush. FlushAccounts plan.rules number report.log (suc k == length (all_flushes told)) flush) HasParts 0 (all_flushes told) (λ k flush a. a.parts) is.each_flush
 
   adds : AllByRecursion MadeAdds told.workers
-  adds = each_of (WorkerAccounts plan.rules number told.last.found) MadeAdds 1 told.workers (λ w worker a. a.did.adds) is.each_worker
+  adds = each_of (WorkerAccounts told.last.found) MadeAdds 1 told.workers (λ w worker a. a.did.adds) is.each_worker
 
   moves : AllByRecursion MadeMoves told.workers
-  moves = each_of (WorkerAccounts plan.rules number told.last.found) MadeMoves 1 told.workers (λ w worker a. a.did.moves) is.each_worker
+  moves = each_of (WorkerAccounts told.last.found) MadeMoves 1 told.workers (λ w worker a. a.did.moves) is.each_worker
 
   abbrev Fit : FlushRecord → Type 0
   Fit last = AllByRecursion (λ reading. GaugeFits reading.id.0 reading.word works) last.gauges
@@ -126,11 +127,12 @@ module _ (plan : RunPlan) (events : List (List Event)) (told : RunTold) (report 
 
 pub run_accounts : RunsAccount
 run_accounts contents events plan told report read is =
-    subst (λ (workers : List Work). IsReportOf contents events plan workers report) is.told_is.works
+    let parties = is.parties in let follow = is.follow in
+    subst (λ (workers : List Work). IsReportOf contents events plan workers report) parties.told_is.works
     (record {
       read = read;
-      history = history plan events told report is;
-      swept = swept plan events told report is;
-      account = account plan events told report is;
-      shown = read_shown plan events told report is;
+      history = history plan events told report parties follow;
+      swept = swept plan events told report parties follow;
+      account = account plan events told report parties follow;
+      shown = read_shown plan events told report parties follow;
     })

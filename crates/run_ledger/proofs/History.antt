@@ -25,28 +25,29 @@ use Rattle.ledger.specs.Lists.{EachNumbered, OfLast}
 use Rattle.ledger.specs.Work.{events_in, verdicts_in}
 use Rattle.ledger.proofs.Lists.{number_apart}
 use Rattle.run_ledger.specs.Told.{FlushTold, WorkerTold}
-use Rattle.run_ledger.specs.Accounts.{WorkerAccounts}
-use Rattle.ledger.proofs.Members.{each_as, each_mapped, of_last}
+use Rattle.run_ledger.specs.Accounts.{WorkerAccounts, FollowsEvents}
+use Rattle.ledger.proofs.Members.{each_as, each_both, each_mapped, of_last}
 
 -- each worker follows its events in the whole log
 module _ (rules : NameRules) (workers : ℕ) (found : List Entry) (sweep : Entry) (log : List Entry) (whole : log ≡ found ++ sweep ∷ []) (by_store : sweep.seat ≡ 0) where
-  follows : (w : ℕ) (told : WorkerTold) → 1 ≤ w → WorkerAccounts rules workers found w told → Follows rules workers w (events_in told.work) (verdicts_in told.work) log
-  follows w told above is =
+  follows : (w : ℕ) (told : WorkerTold) → 1 ≤ w → WorkerAccounts found w told × FollowsEvents rules workers w told → Follows rules workers w (events_in told.work) (verdicts_in told.work) log
+  follows w told above (is, follow) =
       let known : List Entry = told.seat.known in
       let more : List Entry = is.known.0 in
       let same : log ≡ known ++ (more ++ sweep ∷ []) = whole ∙ ap (λ (l : List Entry). l ++ sweep ∷ []) is.known.1 ∙ append_assoc known more (sweep ∷ []) in
       let number = is.number in
       subst (λ (l : List Entry). Follows rules workers w (events_in told.work) (verdicts_in told.work) l) (sym same)
-      (chain_left rules workers w (events_in told.work) (verdicts_in told.work) known (more ++ sweep ∷ []) is.follows
+      (chain_left rules workers w (events_in told.work) (verdicts_in told.work) known (more ++ sweep ∷ []) follow
       (All-push (λ (e : Entry). w ≢ e.seat) more sweep
       (All-weaker (λ (e : Entry). e.seat ≢ told.seat.number) (λ (e : Entry). w ≢ e.seat) (λ e other mine. other (sym (number ∙ mine))) more is.known.2)
       (λ mine. omega (arith, above, mine, by_store))))
 
-  pub all_follow : (told : List WorkerTold) → EachNumbered (WorkerAccounts rules workers found) 1 told
+  pub all_follow : (told : List WorkerTold) → EachNumbered (WorkerAccounts found) 1 told → EachNumbered (FollowsEvents rules workers) 1 told
       → EachNumbered (λ w work. Follows rules workers w (events_in work) (verdicts_in work) log) 1 (map (λ worker. worker.work) told)
-  all_follow told each =
+  all_follow told each follow =
       each_mapped (λ (worker : WorkerTold). worker.work) (λ w work. Follows rules workers w (events_in work) (verdicts_in work) log) 1 told
-      (each_as (WorkerAccounts rules workers found) (λ w worker. Follows rules workers w (events_in worker.work) (verdicts_in worker.work) log) 1 told follows each)
+      (each_as (λ w worker. WorkerAccounts found w worker × FollowsEvents rules workers w worker) (λ w worker. Follows rules workers w (events_in worker.work) (verdicts_in worker.work) log) 1 told follows
+      (each_both (WorkerAccounts found) (FollowsEvents rules workers) 1 told each follow))
 
 -- the sweeps are the flusher's entries
 abbrev sweeps_in : List Entry → ℕ

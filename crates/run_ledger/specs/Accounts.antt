@@ -8,6 +8,7 @@ use Rattle.stat_defs.specs.declared.ids.Kind.TheVariants.{Counter, Gauge}
 use Rattle.stat_defs.specs.declared.ids.MetricId.{MetricId}
 use Rattle.stat_defs.specs.declared.events.Event.{Event}
 use Rattle.stat_defs.specs.declared.history.Call.TheVariants as call
+use Rattle.stat_defs.specs.declared.history.Reply.TheVariants as reply
 use Rattle.stat_defs.specs.declared.history.Entry.{Entry}
 use Rattle.stat_defs.specs.declared.reports.Report.{Report}
 use Rattle.stat_defs.specs.Keys.{same_kind}
@@ -47,13 +48,20 @@ pub record DidItsWork (told : WorkerTold) : Type 0 where
   pub values : values_in (told.turned ++ told.active ∷ []) ≡ recordings told.work
 
 -- Worker w, where the last sweep found this log.
-pub record WorkerAccounts (rules : NameRules) (workers : ℕ) (found : List Entry) (w : ℕ) (told : WorkerTold)
-    : Type 0 where
+pub record WorkerAccounts (found : List Entry) (w : ℕ) (told : WorkerTold) : Type 0 where
   pub number : told.seat.number ≡ w
-  -- in the log that it left last its entries are those of its events and then one End, and no further one follows
-  pub follows : Follows rules workers w (events_in told.work) (verdicts_in told.work) told.seat.known
+  -- past the openings its entries are those that its calls made, in order
+  pub made : entries_by told.seat.number (past told.seat.first found) ≡ told.seat.made
+  -- the log that it left last ends with its End, and no further one of its entries follows
+  pub before : List Entry
+  pub ended : told.seat.known ≡ before ++ record { seat = w; call = call.End; reply = reply.Ended } ∷ []
   pub known : GoesOn (λ entry. entry.seat ≢ told.seat.number) told.seat.known found
   pub did : DidItsWork told
+
+-- Worker w: in the log that it left last its entries are those of its events and then one End.
+abbrev pub FollowsEvents : NameRules → ℕ → ℕ → WorkerTold → Type 0
+FollowsEvents rules workers w told =
+    Follows rules workers w (events_in told.work) (verdicts_in told.work) told.seat.known
 
 -- A flush, where this is the whole log; `last` tells whether it is the last one.
 pub record FlushAccounts (rules : NameRules) (workers : ℕ) (log : List Entry) (last : Bool) (told : FlushTold)
@@ -126,13 +134,14 @@ pub record LeftBy (id : ℕ) (seats : List GaugePart) (word : ℕ) : Type 0 wher
   pub idle : (writes_by id before ≡ 0) × (writes_by id behind ≡ 0)
   pub left : IsGaugeWord id (before ++ (seats ++ behind)) word
 
--- A run of this plan, over files with these events, that gave this report.
-pub record RunAccounts (plan : RunPlan) (events : List (List Event)) (told : RunTold) (report : Report)
+-- A store whose parties did as this plan asks, decided these events, and gave this report. An event that was refused is
+-- none of them; its find may stand in the log.
+pub record StoreAccounts (plan : RunPlan) (events : List (List Event)) (told : RunTold) (report : Report)
     : Type 0 where
   pub told_is : IsTold plan events told report
   pub log_is : IsLogOf plan told report
   -- each worker, flush and reading accounts for what it did
-  pub each_worker : EachNumbered (WorkerAccounts plan.rules (length told.workers) told.last.found) 1 told.workers
+  pub each_worker : EachNumbered (WorkerAccounts told.last.found) 1 told.workers
   pub each_flush : EachNumbered (λ k flush.
       FlushAccounts plan.rules (length told.workers) report.log (suc k == length (all_flushes told)) flush) 0 (all_flushes told)
   pub each_read : AllByRecursion (ReadAccounts plan.rules (length told.workers) report.log) told.reads
@@ -143,3 +152,10 @@ pub record RunAccounts (plan : RunPlan) (events : List (List Event)) (told : Run
   -- the last flush has the words of gauges that the workers' steps left
   pub words : AllByRecursion (λ reading. LeftBy reading.id.0 (map (λ worker. worker.gauges) told.workers) reading.word)
       told.last.shown.gauges
+
+-- A run of this plan, over files with these events, that gave this report. No event was refused: each worker's entries
+-- are those of its events.
+pub record RunAccounts (plan : RunPlan) (events : List (List Event)) (told : RunTold) (report : Report)
+    : Type 0 where
+  pub parties : StoreAccounts plan events told report
+  pub follow : EachNumbered (FollowsEvents plan.rules (length told.workers)) 1 told.workers

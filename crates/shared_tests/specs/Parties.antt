@@ -4,7 +4,6 @@ use Rattle.flush_cells.specs.declared.passing.Pass.TheVariants.{Done}
 use Rattle.flush_cells.specs.Cells.{IsNotHolding}
 use Rattle.flush_cells.specs.Late.{pass_from}
 use Rattle.store_parts.specs.declared.store.Store.{Store}
-use Rattle.recorder.specs.Following.{HasFollowedAll}
 use Rattle.recorder.specs.Knowing.{RecorderKnown}
 use Rattle.recorder.specs.Tied.{IsWorkerOf, HasEnded}
 use Rattle.admin_side.specs.Reader.{IsReaderOf}
@@ -15,10 +14,9 @@ use Rattle.shared_tests.specs.declared.parties.Rounds.{Rounds}
 use Rattle.shared_tests.specs.declared.parties.Rounds.TheVariants.{Between, Begun, Taken}
 use Rattle.shared_tests.specs.declared.parties.Parties.{Parties}
 
--- the store's worker w was given so many events, and its entries are those of the events
+-- the store's worker w was given so many events
 pub record IsAtWork (store : Store) (w count : ℕ) (r : RecorderKnown) : Type 0 where
   pub worker : IsWorkerOf store w r
-  pub followed : HasFollowedAll r
   pub given : r.given ≡ count
 
 -- whatever worker it was, with however many events, it is so still

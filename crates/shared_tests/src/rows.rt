@@ -50,6 +50,7 @@ const SCOPE_S: &str = r#"{"stats_config":{"use_all_default_tags":false},
 const TWO_WORKERS: &str = "\
 1 inc s a 1, 1 inc s a 1, 2 release s, 1 inc s a 1, 1 end, 2 end \
     => 0 0* released1 acked.noscope ended ended => [0+2] 0o0 0o1 1m0 2r1 1a1 1- 1e 2e 0s1
+1 inc s a 1, 2 release s, 1 poll, 1 end, 2 end => 0 released1 acked ended ended => [0+1] 0o0 0o1 1m0 2r1 1a1 1e 2e 0s1
 1 inc root a 1, 2 inc root a 2, 1 end, 2 end => 0 0 ended ended => [0+3] 0o0 0o1 1m0 2f0 1e 2e 0s0
 1 inc root a 1, 2 inc root b 2, 2 end, begin, pass, 1 inc root b 4, pass, flush, 1 end \
     => 0 1 ended begun late1:1 turned.1 done [0+1 1+6] ended => [0+0 1+0] 0o0 0o1 1m0 2m1 2e 0s0 1f1 1e 0s0
@@ -131,6 +132,6 @@ fn names_that_are_rejected(rt: HostRuntime) -> Result<(), Fail> {
 
 #[test]
 fn orders_of_two_workers(rt: HostRuntime) -> Result<(), Fail> {
-    assert!(rt; come_true(&rt, rt.alloc(), SCOPE_S, 2, TWO_WORKERS) == 18);
+    assert!(rt; come_true(&rt, rt.alloc(), SCOPE_S, 2, TWO_WORKERS) == 19);
     Ok(())
 }

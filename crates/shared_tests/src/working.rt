@@ -10,7 +10,7 @@ ghost use Rattle.shared_tests.specs.Parties.{WorksOn, WorksMore, IsPartyOf};
 use crate::parties::Worker;
 use crate::texts::event_text;
 use event_script::{Lines, Step, line_says_lawful_events};
-use recorder::{MAX_GIVEN, Recorder};
+use recorder::{MAX_GIVEN, Polled, Recorder};
 use stat_defs::{Event, EventRef};
 use stats_io::SureSource;
 use std::alloc::Global;
@@ -72,8 +72,17 @@ fn event_in<R: Abort>(rt: &R, alloc: Global, line: &str) -> Event
     }
 }
 
-// Polls, and turns the half where it is asked for. A release is acknowledged before an event alone.
-fn poll_alone<R: Wait + Abort>(desk: &Desk<'_, R>, recorder: &mut Recorder) -> bool
+fn poll_word(polled: Polled) -> &'static str {
+    match (polled.turned, polled.acked) {
+        (true, true) => "turned.acked",
+        (true, false) => "turned",
+        (false, true) => "acked",
+        (false, false) => "-",
+    }
+}
+
+// Polls, and tells what it did.
+fn poll_alone<R: Wait + Abort>(desk: &Desk<'_, R>, recorder: &mut Recorder) -> String
     requires own { recorder.old.of ≡ ids_of desk.now.store.now }
     requires cell { HasItsCell desk.now.store.now recorder.old }
     ensures { WorksOn desk.now.store.now recorder.old recorder.new }
@@ -81,8 +90,7 @@ fn poll_alone<R: Wait + Abort>(desk: &Desk<'_, R>, recorder: &mut Recorder) -> b
     let polled = recorder
         .poll(desk.rt, desk.alloc, desk.store)
         .expect(desk.rt, "a poll");
-    assert!(desk.rt; !polled.acked, "an acknowledgement without an event");
-    polled.turned
+    text(desk, poll_word(polled))
 }
 
 // Polls, applies the event that a line says, and tells what it came to.
@@ -119,9 +127,8 @@ pub(crate) fn worker_calls<R: Wait + Abort>(
             (Worker::Left(ended), text(desk, "ended"))
         }
         "poll" => {
-            let turned = poll_alone(desk, &mut recorder);
-            let answer = if turned { "turned" } else { "-" };
-            (Worker::AtWork(recorder, given), text(desk, answer))
+            let answer = poll_alone(desk, &mut recorder);
+            (Worker::AtWork(recorder, given), answer)
         }
         _ => {
             assert!(desk.rt; given < MAX_GIVEN);

@@ -38,22 +38,23 @@ use Rattle.ledger.specs.Ledger.{plan_of}
 use Rattle.ledger.specs.Lists.{EachNumbered}
 use Rattle.ledger.proofs.Members.{all_as, all_mapped, all_parts, each_as, each_mapped}
 use Rattle.run_ledger.specs.Told.{WorkerTold, FlushTold, ReadTold, RunTold, all_flushes, halves_of, halves_at}
-use Rattle.run_ledger.specs.Accounts.{RunAccounts, WorkerAccounts, FlushAccounts, ReadAccounts, CountersAccount, CounterAtEnd, IsLatched, IsLogOf, IsTold, LeftBy, listed}
+use Rattle.run_ledger.specs.Accounts.{StoreAccounts, WorkerAccounts, FollowsEvents, FlushAccounts, ReadAccounts, CountersAccount, CounterAtEnd, IsLatched, IsLogOf, IsTold, LeftBy, listed}
 use Rattle.run_ledger.proofs.Grows.{run_grows}
 use Rattle.run_ledger.proofs.Ends.{run_ends}
 use Rattle.store_parts.specs.declared.store.Store.{Store}
 use Rattle.recorder.specs.declared.ended.Ended.{Ended}
 use Rattle.recorder.specs.Ending.{told_at_end}
+use Rattle.recorder.specs.Tied.{HasFollowedToEnd}
 use Rattle.admin_side.specs.Reader.{ReaderKnown, ReaderAccounts}
 use Rattle.admin_side.proofs.Listed.{listed-is}
 use Rattle.flusher.proofs.Accounts.{are-latches}
 use Rattle.flusher.proofs.Rising.{rises-more}
 use Rattle.flusher.specs.Flusher.{FlusherKnown, FlusherAccounts, sweeps_of}
-use Rattle.store_closing.specs.Closes.{HaveEnded, Closes, IsEmptied, told_of, plan_told, events_told, report_told}
+use Rattle.store_closing.specs.Closes.{HaveEnded, Closes, EachFollows, IsEmptied, told_of, plan_told, events_told, report_told}
 use Rattle.store_closing.specs.Pieces.{EndsCounters, seats_at_end, counts_at_end, gauges_at_end}
 use Rattle.store_closing.proofs.Reports.{apart_own, flushes_on, reads_on, each_and_last}
-use Rattle.store_closing.proofs.Pending.{none_pending}
-use Rattle.store_closing.proofs.Parties.{workers_account}
+use Rattle.store_closing.proofs.Pending.{AddsTo, none_pending}
+use Rattle.store_closing.proofs.Parties.{workers_account, workers_follow, workers_add}
 
 -- the sweep that the book logged last
 abbrev sweep_entry : BookHistory → Entry
@@ -230,8 +231,13 @@ module _ (store : Store) (ended : List Ended) (flusher : FlusherKnown) (reader :
         (round.whole (λ w. halves_of w flusher.flushes) fa.halves)))
 
     -- the workers
-    each_account : EachNumbered (WorkerAccounts R W found.log) 1 told.workers
+    each_account : EachNumbered (WorkerAccounts found.log) 1 told.workers
     each_account = workers_account store found.log 1 ended have.each by_workers
+
+    each_follows : EachFollows (plan_told first.config told) told ended
+    each_follows =
+        subst (λ (n : ℕ). EachNumbered (λ w (e : Ended). HasFollowedToEnd e → FollowsEvents R n w (told_at_end e)) 1 ended) (sym count)
+        (workers_follow store found.log 1 ended have.each by_workers)
 
     -- the counters
     abbrev counts : List CountPart
@@ -290,11 +296,11 @@ module _ (store : Store) (ended : List Ended) (flusher : FlusherKnown) (reader :
     told_is : IsTold (plan_told first.config told) (events_told told) told (report_told told log)
     told_is = record { works = apart_own told.workers; flushes = refl; reads = refl; flush_number = refl; read_number = refl }
 
-    accounts : RunAccounts (plan_told first.config told) (events_told told) told (report_told told log)
+    accounts : StoreAccounts (plan_told first.config told) (events_told told) told (report_told told log)
     accounts = record {
       told_is = told_is;
       log_is = log_is;
-      each_worker = subst (λ (n : ℕ). EachNumbered (WorkerAccounts R n found.log) 1 told.workers) (sym count) each_account;
+      each_worker = each_account;
       each_flush = subst (λ (n : ℕ). EachNumbered (λ k f. FlushAccounts R n log (suc k == length (all_flushes told)) f) 0 (all_flushes told)) (sym count) each_flush;
       each_read = subst (λ (n : ℕ). AllByRecursion (ReadAccounts R n log) reader.reads) (sym count) each_read;
       halves = each_half;
@@ -306,10 +312,12 @@ module _ (store : Store) (ended : List Ended) (flusher : FlusherKnown) (reader :
     emptied : (id : ℕ) → id < MAX_METRICS → IsEmptied told (record { 0 = id })
     emptied id within =
         let is = at_end id within in
-        let none = none_pending R first.config.scopes W found.log (sweep_entry found) refl told.workers told.flusher told.reader legal_log each_account all_latched id is.value is.pending is.end in
+        let adds : AllByRecursion (AddsTo (replay R W log) id) counts =
+        subst (λ (l : List CountPart). AllByRecursion (AddsTo (replay R W log) id) l) counts_are (workers_add store found.log (sweep_entry found) id 1 ended have.each by_workers) in
+        let none = none_pending (replay R W log) counts told.flusher told.reader all_latched id is.value is.pending adds is.end in
         record { value = is.value; end = subst (λ (n : ℕ). IsCounterEnd id counts told.flusher told.reader is.value n) none is.end }
 
     pub closes : (lastflush : LastFlush) → lastflush ≡ record { last = shown; log = last.log } → Closes store ended flusher reader lastflush
     closes lastflush is =
         subst (λ (l : LastFlush). Closes store ended flusher reader l) (sym (is ∙ (λ i. record { last = shown; log = (last_is i).log })))
-        (record { flush = flush; shown = refl; accounts = accounts; emptied = emptied })
+        (record { flush = flush; shown = refl; accounts = accounts; follow = each_follows; emptied = emptied })

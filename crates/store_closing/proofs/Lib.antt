@@ -4,6 +4,4 @@ pub mod Composing
 pub mod Words
 pub mod OneByOne
 pub mod Gathered
-pub mod AcceptedKinds
-pub mod OtherKinds
 pub mod Pending

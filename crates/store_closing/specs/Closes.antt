@@ -14,11 +14,11 @@ use Rattle.ledger.specs.Ledger.{RunPlan, plan_of}
 use Rattle.ledger.specs.Lists.{EachNumbered}
 use Rattle.ledger.specs.Work.{events_in, verdicts_in}
 use Rattle.run_ledger.specs.Told.{FlushTold, RunTold, all_flushes}
-use Rattle.run_ledger.specs.Accounts.{RunAccounts}
+use Rattle.run_ledger.specs.Accounts.{StoreAccounts, FollowsEvents}
 use Rattle.store_parts.specs.declared.store.Store.{Store}
 use Rattle.recorder.specs.declared.ended.Ended.{Ended}
 use Rattle.recorder.specs.Ending.{told_at_end}
-use Rattle.recorder.specs.Tied.{HasEnded}
+use Rattle.recorder.specs.Tied.{HasEnded, HasFollowedToEnd}
 use Rattle.admin_side.specs.Reader.{ReaderKnown}
 use Rattle.flusher.specs.Flusher.{FlusherKnown}
 
@@ -60,13 +60,21 @@ pub record IsEmptied (told : RunTold) (id : MetricId) : Type 0 where
   pub value : ℕ
   pub end : IsCounterEnd id.0 (map (λ worker. worker.counts) told.workers) told.flusher told.reader value 0
 
--- The store came to its end with this last flush and this log. All its parties account for what they did, and nothing is
--- pending in any word of the counters' bank, whether its number was a counter's, another metric's or none.
+-- where a worker's seat ended behind the entries of its events, these are its entries in the log
+abbrev pub EachFollows : RunPlan → RunTold → List Ended → Type 0
+EachFollows plan told ended = EachNumbered
+    (λ w e. HasFollowedToEnd e → FollowsEvents plan.rules (length told.workers) w (told_at_end e)) 1 ended
+
+-- The store came to its end with this last flush and this log. All its parties account for what they did, whether events
+-- were refused or not, and nothing is pending in any word of the counters' bank, whether its number was a counter's,
+-- another metric's or none.
 pub record Closes (store : Store) (ended : List Ended) (flusher : FlusherKnown) (reader : ReaderKnown)
     (last : LastFlush) : Type 0 where
   pub flush : FlushTold
   pub shown : flush.shown ≡ last.last
-  pub accounts : RunAccounts (plan_told (first_of store.book).config (told_of ended flusher reader flush))
+  pub accounts : StoreAccounts (plan_told (first_of store.book).config (told_of ended flusher reader flush))
       (events_told (told_of ended flusher reader flush)) (told_of ended flusher reader flush)
       (report_told (told_of ended flusher reader flush) last.log)
+  pub follow : EachFollows (plan_told (first_of store.book).config (told_of ended flusher reader flush))
+      (told_of ended flusher reader flush) ended
   pub emptied : (id : ℕ) → id < MAX_METRICS → IsEmptied (told_of ended flusher reader flush) (record { 0 = id })

@@ -1,5 +1,5 @@
 -- The parties of the worked run account for what they did.
-use Rattle.std.proofs.Common.{◌≡◌, ◌≢◌, ℕ, zero, suc, ◌+◌, ◌<◌, ◌≤◌, Bool, cond, [], ◌∷◌, drop, map, refl, ap, sym, inr, arith}
+use Rattle.std.proofs.Common.{◌≡◌, ◌≢◌, ℕ, zero, suc, ◌+◌, ◌<◌, ◌≤◌, Bool, cond, [], ◌∷◌, drop, take, map, refl, ap, sym, inr, arith}
 use Rattle.std.specs.Prelude.{slice_index, slice_index_or}
 use Rattle.std.specs.List.Sorted.{IsStrictlyIncreasing, IsNonDecreasing}
 use Rattle.std.proofs.lemmas.List.Elements.{All-from_recursion}
@@ -19,9 +19,9 @@ use Rattle.ledger.specs.Flushes.{flushed}
 use Rattle.ledger.proofs.Lists.{nil_cons, number_apart}
 use Rattle.ledger.proofs.WorkedParts.{bins_of_7, one_part, no_parts, one_nothing, nothing_of_two}
 use Rattle.run_ledger.specs.Told.{words_loaded, words_read}
-use Rattle.run_ledger.specs.Accounts.{LeftBy, CounterAtEnd}
+use Rattle.run_ledger.specs.Accounts.{LeftBy, CounterAtEnd, StoreAccounts}
 use Rattle.run_ledger.proofs.Grows.{run_grows}
-use Rattle.worked_runs.specs.Run.{log_of_run, part_of, first_told, second_told, first_taken, second_taken, last_taken, early_told, late_told, told_of_run, flushes_of_run, TwoAccount}
+use Rattle.worked_runs.specs.Run.{log_of_run, part_of, first_told, second_told, first_taken, second_taken, last_taken, early_told, late_told, told_of_run, flushes_of_run, plan_of_run, events_of_run, report_of_run, TwoAccount}
 use Rattle.worked_runs.proofs.Seats.{first_follows, second_follows, legal, first_did, second_did}
 
 -- the second worker alone has a value, 7 on histogram 0
@@ -103,16 +103,25 @@ word_left = record {
   };
 }
 
-pub two_account : TwoAccount
-two_account = record {
+two_parties : StoreAccounts plan_of_run events_of_run told_of_run report_of_run
+two_parties = record {
   told_is = record { works = refl; flushes = refl; reads = refl; flush_number = refl; read_number = refl };
   log_is = record { legal = legal; last_sweep = refl; sweeps = refl; flushes_rise = three_rise; reads_rise = two_rise };
   each_worker = (
-    record { number = refl; follows = first_follows; known = ([], refl, All-from_recursion _ [] tt); did = first_did },
+    record {
+      number = refl;
+      made = refl;
+      before = take 10 log_of_run;
+      ended = refl;
+      known = ([], refl, All-from_recursion _ [] tt);
+      did = first_did;
+    },
     (
       record {
         number = refl;
-        follows = second_follows;
+        made = refl;
+        before = take 9 log_of_run;
+        ended = refl;
         known = (ends 1 ∷ [], refl, All-from_recursion (λ (e : Entry). e.seat ≢ 2) (ends 1 ∷ []) ((λ e. omega (arith, e)), tt));
         did = second_did;
       },
@@ -134,3 +143,6 @@ two_account = record {
   counters = record { latched = latched; loaded = loaded; counted = each_count; all_latched = (refl, tt) };
   words = (word_left, tt);
 }
+
+pub two_account : TwoAccount
+two_account = record { parties = two_parties; follow = (first_follows, (second_follows, tt)) }

@@ -10,7 +10,7 @@ use Rattle.ledger.specs.Work.{events_in, verdicts_in}
 use Rattle.store_parts.specs.declared.store.Store.{Store}
 use Rattle.recorder.specs.Following.{HasFollowedAll}
 use Rattle.recorder.specs.Knowing.{RecorderKnown}
-use Rattle.recorder.specs.Tied.{IsWorkerOf, HasEnded}
+use Rattle.recorder.specs.Tied.{IsWorkerOf, HasEnded, HasFollowedToEnd}
 use Rattle.worker_run.specs.declared.given.Given.{Given}
 use Rattle.worker_run.specs.declared.given.Given.TheVariants.{Opened, Missing}
 use Rattle.worker_run.specs.declared.given.Worked.{Worked}
@@ -36,3 +36,4 @@ pub record IsWorked {S : Type 0} (state : S → SourceState) (store : Store) (w 
   pub applied : events_in worked.ended.work.items ≡ events
   pub decided : verdicts_in worked.ended.work.items ≡ worked.verdicts.items
   pub ended : HasEnded store w worked.ended
+  pub followed : HasFollowedToEnd worked.ended

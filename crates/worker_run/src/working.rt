@@ -4,7 +4,7 @@ ghost use Rattle.stat_defs.specs.Borrowed.{event_of};
 ghost use Rattle.stat_defs.specs.Events.{IsLawfulEvent};
 ghost use Rattle.ledger.specs.Work.{events_in};
 ghost use Rattle.recorder.specs.declared.limits.TheConstants.{MAX_GIVEN};
-ghost use Rattle.recorder.specs.Tied.{IsNewWorker, HasEnded};
+ghost use Rattle.recorder.specs.Tied.{IsNewWorker, HasEnded, HasFollowedToEnd};
 ghost use Rattle.worker_run.specs.declared.given.Given.TheVariants as given_file;
 ghost use Rattle.worker_run.specs.Working.{IsFileRead, IsAtWork, IsWorked};
 
@@ -147,6 +147,7 @@ fn end<R: Wait, G: Gate>(
     ensures read { IfOk result (λ worked. (worked.verdicts ≡ read.verdicts) × (worked.end ≡ read.end)) }
     ensures work { IfOk result (λ worked. worked.ended.work.items ≡ recorder.work) }
     ensures ended { IfOk result (λ worked. HasEnded desk.now.store.now desk.now.number worked.ended) }
+    ensures followed { IfOk result (λ worked. HasFollowedToEnd worked.ended) }
 {
     let FileRead { verdicts, end } = read;
     let ended = recorder.end(desk.rt, desk.alloc, desk.store)?;

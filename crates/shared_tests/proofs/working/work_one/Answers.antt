@@ -8,7 +8,7 @@ returns-in-Some g c =
     let hit : c.apply_hit.result ≡ Ok (Some c.in-Some.verdict) = c.expect-hit.ensures ∙ ap Ok c.in-Some.is in
     hit_on c.args.desk.now.store.now c.expect-polled.result c.args.recorder.now c.poll.new.self
     (rw c.expect-polled.ensures at c.poll.ensures.ok) (event_of c.args.event.now) c.in-Some.verdict
-    c.apply_hit.new.self (rw hit at c.apply_hit.ensures.hit) (rw hit at c.apply_hit.ensures.did)
+    c.apply_hit.new.self (rw hit at c.apply_hit.ensures.did)
 
 pub returns : goal.returns
 returns g c =

@@ -1,4 +1,4 @@
-use Rattle.std.proofs.Common.{ℕ, List, [], ◌∷◌, ◌++◌, length, map, ap, sym, ◌∙◌, arith}
+use Rattle.std.proofs.Common.{ℕ, List, [], ◌∷◌, ◌++◌, length, map, ap, sym, ◌∙◌, arith, inl}
 use Rattle.seat_parts.specs.Parts.{total}
 use Rattle.book_seat.proofs.Followed.{seat_follows}
 use Rattle.locked_book.specs.Sharing.{known_by}
@@ -27,7 +27,7 @@ invariant_of-result c =
       alone = c.requires.gauges.1;
       works = (seat_follows.begins (known_by c.args.seat) new).0;
       legal = new.legal;
-      made = λ id within. ap (λ (l : List CountStep). firsts id l) c.requires.counts;
+      made = λ id. inl (ap (λ (l : List CountStep). firsts id l) c.requires.counts);
       units = λ id. (let none = ap (λ (l : List CountStep). firsts id l) c.requires.counts in omega (arith, none));
       values = (
           let halves = ap (λ (l : List HalfState). total (λ (half : HalfState). length half.values) l) side.0 in

@@ -1,0 +1,78 @@
+//! A store that is closed where a refused event was not given again.
+ghost use Rattle.std.specs.Prelude.{IfOk};
+ghost use Rattle.recorder.specs.declared.limits.TheConstants.{MAX_GIVEN};
+ghost use Rattle.recorder.specs.Tied.{IsWorkerOf};
+ghost use Rattle.refusal_tests.specs.Standing.{MayBeGiven};
+
+use crate::again::{Desk, work_once};
+use crate::closing::{closed, finds_in, sums_in};
+use crate::opening::{NO_TAGS, first_of, opened};
+use crate::parties::Parties;
+use boot_file::read as read_boot;
+use recorder::Recorder;
+use std::sync::Wait;
+use std::test::Fail;
+use store_opening::Opened;
+
+// Gives the worker four events, each once, and tells which were not refused.
+fn calls<R: Wait>(desk: &Desk<'_, R>, recorder: &mut Recorder) -> Result<[bool; 4], Fail>
+    requires { MayBeGiven desk.now.store.now MAX_GIVEN recorder.old }
+    ensures { IfOk result (λ _. IsWorkerOf desk.now.store.now 1 recorder.new) }
+{
+    let first = work_once(desk, recorder, "inc root a 1", 131_071)?;
+    let second = work_once(desk, recorder, "rec root h 7", 131_070)?;
+    let third = work_once(desk, recorder, "inc root b 2", 131_069)?;
+    let fourth = work_once(desk, recorder, "inc root a 4", 131_068)?;
+    Ok([first, second, third, fourth])
+}
+
+// The units and values of those events.
+fn sums_of(given: [bool; 4]) -> (u64, u64) {
+    let [first, second, third, fourth] = given;
+    (
+        u64::from(first) + 2 * u64::from(third) + 4 * u64::from(fourth),
+        u64::from(second),
+    )
+}
+
+#[test]
+fn goes_on_without_a_refused_event(rt: HostRuntime) -> Result<(), Fail> {
+    let alloc = rt.alloc();
+    let config = read_boot(alloc, NO_TAGS)?;
+    let parties = opened(alloc, &config);
+    drop(config);
+    let Opened {
+        store,
+        recorders,
+        flusher,
+        admin,
+    } = parties?;
+    let Some(mut recorder) = first_of(&store, recorders) else {
+        return Err("no worker")?;
+    };
+    let desk = Desk {
+        rt: &rt,
+        alloc,
+        store: &store,
+    };
+    let given = calls(&desk, &mut recorder);
+    let parties = Parties {
+        store,
+        recorder,
+        flusher,
+        admin,
+    };
+    let given = match given {
+        Ok(given) => given,
+        Err(fail) => {
+            drop(parties);
+            return Err(fail);
+        }
+    };
+    let end = closed(&rt, alloc, parties)?;
+    assert!(rt; sums_in(&end.last) == sums_of(given));
+    // The opening of `root`, the finds, the worker's end and the sweep. The find of a refused event may stand there.
+    let finds = finds_in(end.log.items());
+    assert!(rt; finds <= 3 && end.log.items().len() == finds + 3);
+    Ok(())
+}
