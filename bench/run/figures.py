@@ -68,6 +68,19 @@ def once(words):
     return wall, used.ru_utime * 1e3, used.ru_stime * 1e3, int(said.split()[-1]) / 1024
 
 
+def first_byte(words):
+    """Wall time in ms until the first byte of the output, which is written once all files were read and counted."""
+    start = time.perf_counter()
+    child = subprocess.Popen(words, stdout=subprocess.PIPE, stderr=subprocess.DEVNULL)
+    os.read(child.stdout.fileno(), 1)
+    wall = (time.perf_counter() - start) * 1e3
+    while os.read(child.stdout.fileno(), 1 << 20):
+        pass
+    if child.wait():
+        sys.exit("%s: status %d" % (" ".join(words[:3]), child.returncode))
+    return wall
+
+
 def least(commands):
     """The least of each figure of each command, which run in turn."""
     rounds = [[once(words) for words in commands] for _ in range(ROUNDS)]
@@ -107,6 +120,8 @@ def main():
             none, many = least([[programs[0], "run", boot] + files for boot in ("-", paced)])
             print("4 files of %s, 64 flushes and 64 readings: %s; beside none: wall %.2f, user %.2f"
                   % (name, told(many), many[0] / none[0], many[1] / none[1]), flush=True)
+            before = [min(first_byte([programs[0], "run", boot] + files) for _ in range(ROUNDS)) for boot in ("-", paced)]
+            print("  until the first byte of the output: %.1f ms, %.1f ms, %.2f" % (*before, before[1] / before[0]), flush=True)
     print("load %.1f" % os.getloadavg()[0])
 
 

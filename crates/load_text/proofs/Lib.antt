@@ -1,0 +1,2 @@
+pub mod Room
+mod Appending
