@@ -1,0 +1,14 @@
+//! The words of the command line: the command that they say, or that they are none.
+#![tactic(auto)]
+
+mod command;
+
+mod limits;
+
+
+mod options;
+mod sorting;
+
+pub use command::{Command, Reporting};
+
+pub use limits::{MAX_EVENTS, MAX_FILES, MAX_SCRIPTS, MAX_VALUES};
