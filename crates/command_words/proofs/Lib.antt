@@ -6,3 +6,5 @@ pub mod Joined
 pub mod WordKinds
 pub mod Agrees
 pub mod Found
+pub mod Numerals
+pub mod OperandLists

@@ -1,4 +1,6 @@
 //! A command, with what its words name.
+ghost use Rattle.std.specs.Prelude.{◌≤◌, vec_len};
+ghost use Rattle.command_words.specs.declared.limits.TheConstants as limits;
 
 use output_options::OutputOptions;
 
@@ -8,6 +10,7 @@ pub struct Reporting {
     pub options: OutputOptions,
     pub boot: String,
     pub files: Vec<String>,
+    ghost few: { (1 ≤ vec_len files) × (vec_len files ≤ limits.MAX_FILES) },
 }
 
 /// A command with what its words name.
