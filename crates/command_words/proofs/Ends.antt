@@ -3,7 +3,7 @@ use Rattle.std.proofs.Common.{◌≡◌, ◌≢◌, ◌||◌, ℕ, Bool, true, f
 use Rattle.std.specs.Prelude.{unwrap_or, option_map, option_and_then}
 use Rattle.std.specs.Str.{bytes_eq}
 use Rattle.clap.specs.Values.{bool_text}
-use Rattle.clap.specs.Words.{Row, Rule, Text, all_of, one_of, fault_of, matches_of}
+use Rattle.clap.specs.Words.{Row, Rule, Text, all_of, first_of, one_of, fault_of, matches_of}
 use Rattle.clap.specs.Kinds.{Kinds, or_else}
 use Rattle.clap.specs.Simple.{filled, with_index, built, names_of, entered}
 use Rattle.clap.specs.Walk.{Walk, Held, finished, has_row, row_text, settled, walked, with_default, with_values, walk_from, nothing_held}
@@ -14,7 +14,7 @@ use Rattle.clap.proofs.OnLiterals.{clap_on_literals}
 use Rattle.command_words.specs.Options.{IsSaid, app, flag, valued, operands}
 use Rattle.command_words.specs.Sorted.{Sorted}
 use Rattle.command_words.proofs.Rows.{row_at, held_row, row_from, has_row_is, put_new, put_other}
-use Rattle.command_words.proofs.Turns.{Flag, Place, symbols, run, name_of, fresh, behind_operand, behind_format, rows_at, shape, walk_at}
+use Rattle.command_words.proofs.Turns.{Flag, Place, IsCalm, symbols, run, name_of, fresh, behind_operand, behind_format, rows_at, shape, walk_at}
 
 -- the words are refused, or the matches say what they were sorted into
 abbrev pub Gives : Kinds → List Row → Option Sorted → Type 0
@@ -79,11 +79,15 @@ abbrev pub flag_values : Bool → List Text
 flag_values true = codes "true" ∷ []
 flag_values false = []
 
+abbrev pub named_values : Option Text → List Text
+named_values None = []
+named_values (Some v) = v ∷ []
+
 -- the matches so far have what the words so far say
 abbrev pub Holds : List Row → Sorted → Type 0
 Holds rows s = (row_at (codes "symbols") rows ≡ held_row (codes "symbols") (flag_values s.symbols))
     × (row_at (codes "run") rows ≡ held_row (codes "run") (flag_values s.run))
-    × (row_at (codes "format") rows ≡ held_row (codes "format") s.formats)
+    × (row_at (codes "format") rows ≡ held_row (codes "format") (named_values s.format))
     × (row_at (codes "operands") rows ≡ held_row (codes "operands") s.operands)
 
 text_of : (id : Text) (rows : List Row) (source : _) (v : Text) → row_at id rows ≡ Some (row_from id source (v ∷ [])) → one_of id rows ≡ Some v
@@ -147,6 +151,10 @@ values_of : (id : Text) (rows : List Row) (vs : List Text) → row_at id rows �
 values_of id rows [] is = rw is refl
 values_of id rows (v ∷ vs) is = rw is refl
 
+name_of_format : (id : Text) (rows : List Row) (o : Option Text) → row_at id rows ≡ held_row id (named_values o) → first_of id rows ≡ o
+name_of_format id rows None is = rw is refl
+name_of_format id rows (Some v) is = rw is refl
+
 flags_read : (rows : List Row) (s : Sorted) → Holds rows s → IsSaid (with_flags rows) s
 flags_read rows s holds =
     let behind = with_default rows (flag_rule symbols) in
@@ -155,7 +163,7 @@ flags_read rows s holds =
     (
       ap (λ (o : Option Row). option_and_then row_text o) (other_after run (codes "symbols") behind refl) ∙ flag_reads symbols rows s.symbols holds.0,
       flag_reads run behind s.run (other_after symbols (codes "run") rows refl ∙ holds.1),
-      values_of (codes "format") (with_flags rows) s.formats (past (codes "format") refl refl ∙ holds.2),
+      name_of_format (codes "format") (with_flags rows) s.format (past (codes "format") refl refl ∙ holds.2),
       values_of (codes "operands") (with_flags rows) s.operands (past (codes "operands") refl refl ∙ holds.3),
     )
 
@@ -195,16 +203,21 @@ defaults_right rows =
     ∙ one_more format_rule (operands_rule ∷ []) two (format_right two)
     ∙ one_more operands_rule [] three (operands_right three)
 
-settles : (p : Place) (rows : List Row) (b : Bool) → settle_fault shape.rules shape.args_override_self (walk_at p rows b).held ≡ []
-settles fresh rows b = refl
-settles (behind_operand v) rows b = refl
-settles (behind_format v) rows b = refl
+settles : (p : Place) (rows : List Row) (b : Bool) → IsCalm p rows → settle_fault shape.rules shape.args_override_self (walk_at p rows b).held ≡ []
+settles fresh rows b calm = refl
+settles (behind_operand v) rows b calm = refl
+settles (behind_format v) rows b calm = rw calm refl
 
 -- the words are all read
-pub all_read : (p : Place) (rows : List Row) (b : Bool) (s : Sorted) → Holds (rows_at p rows) s → Ends (walk_at p rows b) [] (Some s)
+pub all_read : (p : Place) (rows : List Row) (b : Bool) (s : Sorted) → IsCalm p rows → Holds (rows_at p rows) s → Ends (walk_at p rows b) [] (Some s)
 unfolding walk_fault
-all_read p rows b s holds = (
-  ap (λ (k : Kinds). or_else k (or_else (defaults_fault (rows_at p rows) shape.rules) [])) (settles p rows b)
+all_read p rows b s calm holds = (
+  ap (λ (k : Kinds). or_else k (or_else (defaults_fault (rows_at p rows) shape.rules) [])) (settles p rows b calm)
   ∙ ap (λ (k : Kinds). or_else k []) (defaults_right (rows_at p rows)),
   subst (λ (l : List Row). IsSaid l s) (sym (at_last (rows_at p rows))) (flags_read (rows_at p rows) s holds),
 )
+
+-- and `--format` stood twice
+pub again_at_end : (v : Text) (rows : List Row) (b : Bool) → has_row (codes "format") rows ≡ true → Ends (walk_at (behind_format v) rows b) [] None
+unfolding walk_fault
+again_at_end v rows b again = rw again (λ none. absurd cc)

@@ -4,8 +4,8 @@ use Rattle.std.specs.Prelude.{option_map, option_and_then, slice_get}
 use Rattle.std.specs.List.{find}
 use Rattle.std.specs.Str.{bytes_eq}
 use Rattle.clap.specs.Facts.{Entry}
-use Rattle.clap.specs.Matches.{matched_of, one_text, raw_values}
-use Rattle.clap.specs.Words.{Row, Text, all_of, one_of, rows_of}
+use Rattle.clap.specs.Matches.{first_value, matched_of, one_text, raw_values}
+use Rattle.clap.specs.Words.{Row, Text, all_of, first_of, one_of, rows_of}
 use Rattle.clap.specs.Walk.{row_of, row_text}
 use Rattle.clap.specs.declared.parser.matches.Found.{Found}
 use Rattle.clap.specs.declared.builder.value_parser.Reading.{Reading}
@@ -45,3 +45,17 @@ pub flag_is : (f : Found) (id : Text) (b r : Bool) → (one_text f id ≡ Some (
     → one_of id (rows_of f) ≡ Some (bool_text b) → r ≡ b
 flag_is f id true r set unset is = set (one_found f id ∙ is)
 flag_is f id false r set unset is = unset (one_found f id ∙ is)
+
+-- the first value of an argument
+pub first_found : (f : Found) (id : Text) → first_value f id ≡ first_of id (rows_of f)
+first_found f id =
+    by (find (λ e. bytes_eq e.0.now id) f.entries.items) ∙ sym (ap (λ (o : Option Row). option_and_then (λ r. slice_get r.values 0) o) (found_row id f.entries.items))
+  where
+    by : (o : Option Entry) → option_and_then (λ a. option_map (λ s. s.now) (slice_get a.vals.items 0)) (option_map (λ e. e.1) o)
+        ≡ option_and_then (λ (r : Row). slice_get r.values 0) (option_map row_of o)
+    by None = refl
+    by (Some e) = first e.1.vals.items
+      where
+        first : (vs : List (Bor Text)) → option_map (λ s. s.now) (slice_get vs 0) ≡ slice_get (map (λ s. s.now) vs) 0
+        first [] = refl
+        first (v ∷ vs) = refl

@@ -1,5 +1,6 @@
 -- One word, as `clap` reads it.
 use Rattle.std.proofs.Common.{◌≡◌, ℕ, Bool, true, false, List, [], ◌∷◌, ◌++◌, Option, Some, None, codes, refl, slice_get}
+use Rattle.std.specs.Prelude.{⊤}
 use Rattle.std.specs.Str.{bytes_eq, chars}
 use Rattle.clap.specs.declared.error.kind.ErrorKind.TheVariants as kind
 use Rattle.clap.specs.Lexer.{long_of, short_of}
@@ -66,12 +67,17 @@ dashes_walk fresh rows = refl
 dashes_walk (behind_operand v) rows = refl
 dashes_walk (behind_format v) rows = refl
 
--- a flag was used; a value was given
-abbrev pub flagged : Text → List Row → List Row
-flagged id rows = with_values id AsWritten CommandLine (codes "true" ∷ []) (without id rows)
+-- an option was used with this value; an operand was given
+abbrev pub chosen : Text → Text → List Row → List Row
+chosen id v rows = with_values id AsWritten CommandLine (v ∷ []) (without id rows)
 
 abbrev pub given : Text → Text → List Row → List Row
 given id v rows = with_values id AsWritten CommandLine (v ∷ []) rows
+
+-- what stands in front is no second `--format`
+abbrev pub IsCalm : Place → List Row → Type 0
+IsCalm (behind_format v) rows = has_row (codes "format") rows ≡ false
+IsCalm p rows = ⊤
 
 -- an option that has no value
 pub data Flag : Type 0 where
@@ -82,28 +88,28 @@ abbrev pub name_of : Flag → Text
 name_of symbols = codes "symbols"
 name_of run = codes "run"
 
-pub flag_twice : (f : Flag) (p : Place) (rows : List Row) → has_row (name_of f) (rows_at p rows) ≡ true
+pub flag_twice : (f : Flag) (p : Place) (rows : List Row) → IsCalm p rows → has_row (name_of f) (rows_at p rows) ≡ true
     → turn_fault shape [] (walk_at p rows false) (codes "--" ++ name_of f) ≡ kind.ArgumentConflict ∷ []
 unfolding clap_on_literals
-flag_twice symbols fresh rows e = rw e refl
-flag_twice symbols (behind_operand v) rows e = rw e refl
-flag_twice symbols (behind_format v) rows e = rw e refl
-flag_twice run fresh rows e = rw e refl
-flag_twice run (behind_operand v) rows e = rw e refl
-flag_twice run (behind_format v) rows e = rw e refl
+flag_twice symbols fresh rows calm e = rw e refl
+flag_twice symbols (behind_operand v) rows calm e = rw e refl
+flag_twice symbols (behind_format v) rows calm e = rw (calm, e) refl
+flag_twice run fresh rows calm e = rw e refl
+flag_twice run (behind_operand v) rows calm e = rw e refl
+flag_twice run (behind_format v) rows calm e = rw (calm, e) refl
 
-pub flag_turn : (f : Flag) (p : Place) (rows : List Row) → has_row (name_of f) (rows_at p rows) ≡ false
+pub flag_turn : (f : Flag) (p : Place) (rows : List Row) → IsCalm p rows → has_row (name_of f) (rows_at p rows) ≡ false
     → turn_fault shape [] (walk_at p rows false) (codes "--" ++ name_of f) ≡ []
 unfolding clap_on_literals
-flag_turn symbols fresh rows e = rw e refl
-flag_turn symbols (behind_operand v) rows e = rw e refl
-flag_turn symbols (behind_format v) rows e = rw e refl
-flag_turn run fresh rows e = rw e refl
-flag_turn run (behind_operand v) rows e = rw e refl
-flag_turn run (behind_format v) rows e = rw e refl
+flag_turn symbols fresh rows calm e = rw e refl
+flag_turn symbols (behind_operand v) rows calm e = rw e refl
+flag_turn symbols (behind_format v) rows calm e = rw (calm, e) refl
+flag_turn run fresh rows calm e = rw e refl
+flag_turn run (behind_operand v) rows calm e = rw e refl
+flag_turn run (behind_format v) rows calm e = rw (calm, e) refl
 
 pub flag_walk : (f : Flag) (p : Place) (rows : List Row)
-    → walked shape.rules [] (walk_at p rows false) (codes "--" ++ name_of f) ≡ walk_at fresh (flagged (name_of f) (rows_at p rows)) false
+    → walked shape.rules [] (walk_at p rows false) (codes "--" ++ name_of f) ≡ walk_at fresh (chosen (name_of f) (codes "true") (rows_at p rows)) false
 unfolding clap_on_literals
 flag_walk symbols fresh rows = refl
 flag_walk symbols (behind_operand v) rows = refl
@@ -123,11 +129,11 @@ valued_flag_turn run fresh rows w v dashes long = rw (dashes, long) refl
 valued_flag_turn run (behind_operand x) rows w v dashes long = rw (dashes, long) refl
 valued_flag_turn run (behind_format x) rows w v dashes long = rw (dashes, long) refl
 
-pub format_turn : (p : Place) (rows : List Row) → turn_fault shape [] (walk_at p rows false) (codes "--format") ≡ []
+pub format_turn : (p : Place) (rows : List Row) → IsCalm p rows → turn_fault shape [] (walk_at p rows false) (codes "--format") ≡ []
 unfolding clap_on_literals
-format_turn fresh rows = refl
-format_turn (behind_operand v) rows = refl
-format_turn (behind_format v) rows = refl
+format_turn fresh rows calm = refl
+format_turn (behind_operand v) rows calm = refl
+format_turn (behind_format v) rows calm = rw calm refl
 
 pub format_walk : (p : Place) (rows : List Row) → walked shape.rules [] (walk_at p rows false) (codes "--format") ≡ asking (rows_at p rows) false
 unfolding clap_on_literals
@@ -135,14 +141,22 @@ format_walk fresh rows = refl
 format_walk (behind_operand v) rows = refl
 format_walk (behind_format v) rows = refl
 
-pub attached_turn : (p : Place) (rows : List Row) (v : Text) → turn_fault shape [] (walk_at p rows false) (codes "--format=" ++ v) ≡ []
+pub attached_twice : (p : Place) (rows : List Row) (v : Text) → IsCalm p rows → has_row (codes "format") (rows_at p rows) ≡ true
+    → turn_fault shape [] (walk_at p rows false) (codes "--format=" ++ v) ≡ kind.ArgumentConflict ∷ []
 unfolding clap_on_literals
-attached_turn fresh rows v = refl
-attached_turn (behind_operand w) rows v = refl
-attached_turn (behind_format w) rows v = refl
+attached_twice fresh rows v calm e = rw e refl
+attached_twice (behind_operand w) rows v calm e = rw e refl
+attached_twice (behind_format w) rows v calm e = rw (calm, e) refl
+
+pub attached_turn : (p : Place) (rows : List Row) (v : Text) → IsCalm p rows → has_row (codes "format") (rows_at p rows) ≡ false
+    → turn_fault shape [] (walk_at p rows false) (codes "--format=" ++ v) ≡ []
+unfolding clap_on_literals
+attached_turn fresh rows v calm e = rw e refl
+attached_turn (behind_operand w) rows v calm e = rw e refl
+attached_turn (behind_format w) rows v calm e = rw (calm, e) refl
 
 pub attached_walk : (p : Place) (rows : List Row) (v : Text)
-    → walked shape.rules [] (walk_at p rows false) (codes "--format=" ++ v) ≡ walk_at fresh (given (codes "format") v (rows_at p rows)) false
+    → walked shape.rules [] (walk_at p rows false) (codes "--format=" ++ v) ≡ walk_at fresh (chosen (codes "format") v (rows_at p rows)) false
 unfolding clap_on_literals
 attached_walk fresh rows v = refl
 attached_walk (behind_operand w) rows v = refl
@@ -152,11 +166,11 @@ attached_walk (behind_format w) rows v = refl
 abbrev pub IsPlainWord : Text → Type 0
 IsPlainWord w = (bytes_eq w (45 ∷ 45 ∷ []) ≡ false) × (long_of w ≡ None) × (short_of w ≡ None)
 
-pub operand_turn : (p : Place) (rows : List Row) (w : Text) → IsPlainWord w → turn_fault shape [] (walk_at p rows false) w ≡ []
+pub operand_turn : (p : Place) (rows : List Row) (w : Text) → IsCalm p rows → IsPlainWord w → turn_fault shape [] (walk_at p rows false) w ≡ []
 unfolding clap_on_literals
-operand_turn fresh rows w plain = rw (plain.0, plain.1, plain.2) refl
-operand_turn (behind_operand v) rows w plain = rw (plain.0, plain.1, plain.2) refl
-operand_turn (behind_format v) rows w plain = rw (plain.0, plain.1, plain.2) refl
+operand_turn fresh rows w calm plain = rw (plain.0, plain.1, plain.2) refl
+operand_turn (behind_operand v) rows w calm plain = rw (plain.0, plain.1, plain.2) refl
+operand_turn (behind_format v) rows w calm plain = rw (plain.0, plain.1, plain.2, calm) refl
 
 pub operand_walk : (p : Place) (rows : List Row) (w : Text) → IsPlainWord w
     → walked shape.rules [] (walk_at p rows false) w ≡ walk_at (behind_operand w) (rows_at p rows) false
@@ -182,11 +196,11 @@ unknown_turn (behind_operand x) rows w name v dashes long a b c = rw (dashes, lo
 unknown_turn (behind_format x) rows w name v dashes long a b c = rw (dashes, long, a, b, c) refl
 
 -- behind the first `--`
-pub trailing_turn : (p : Place) (rows : List Row) (w : Text) → turn_fault shape [] (walk_at p rows true) w ≡ []
+pub trailing_turn : (p : Place) (rows : List Row) (w : Text) → IsCalm p rows → turn_fault shape [] (walk_at p rows true) w ≡ []
 unfolding clap_on_literals
-trailing_turn fresh rows w = refl
-trailing_turn (behind_operand v) rows w = refl
-trailing_turn (behind_format v) rows w = refl
+trailing_turn fresh rows w calm = refl
+trailing_turn (behind_operand v) rows w calm = refl
+trailing_turn (behind_format v) rows w calm = rw calm refl
 
 pub trailing_walk : (p : Place) (rows : List Row) (w : Text) → walked shape.rules [] (walk_at p rows true) w ≡ walk_at (behind_operand w) (rows_at p rows) true
 unfolding clap_on_literals
@@ -244,3 +258,26 @@ pub unnamed_format_turn : (rows : List Row) (w : Text) (v : Option Text) → byt
 unfolding clap_on_literals
 unnamed_format_turn rows w None dashes long = rw (dashes, long) refl
 unnamed_format_turn rows w (Some v) dashes long = rw (dashes, long) refl
+
+-- behind a second `--format`
+module _ (v : Text) (rows : List Row) (again : has_row (codes "format") rows ≡ true) where
+  pub again_flag_turn : (f : Flag) → turn_fault shape [] (walk_at (behind_format v) rows false) (codes "--" ++ name_of f) ≡ kind.ArgumentConflict ∷ []
+  unfolding clap_on_literals
+  again_flag_turn symbols = rw again refl
+  again_flag_turn run = rw again refl
+
+  pub again_format_turn : turn_fault shape [] (walk_at (behind_format v) rows false) (codes "--format") ≡ kind.ArgumentConflict ∷ []
+  unfolding clap_on_literals
+  again_format_turn = rw again refl
+
+  pub again_attached_turn : (w : Text) → turn_fault shape [] (walk_at (behind_format v) rows false) (codes "--format=" ++ w) ≡ kind.ArgumentConflict ∷ []
+  unfolding clap_on_literals
+  again_attached_turn w = rw again refl
+
+  pub again_operand_turn : (w : Text) → IsPlainWord w → turn_fault shape [] (walk_at (behind_format v) rows false) w ≡ kind.ArgumentConflict ∷ []
+  unfolding clap_on_literals
+  again_operand_turn w plain = rw (plain.0, plain.1, plain.2, again) refl
+
+  pub again_trailing_turn : (w : Text) → turn_fault shape [] (walk_at (behind_format v) rows true) w ≡ kind.ArgumentConflict ∷ []
+  unfolding clap_on_literals
+  again_trailing_turn w = rw again refl

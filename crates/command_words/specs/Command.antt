@@ -56,11 +56,10 @@ format_in word =
     else (if bytes_eq word (codes "admin") then Some Admin
     else None))
 
--- the format that was asked for, at most once; usually StatsD
-abbrev pub format_asked : List (List ℕ) → Option Format
-format_asked [] = Some Statsd
-format_asked (name ∷ []) = format_in name
-format_asked (name ∷ next ∷ names) = None
+-- the format that was asked for; usually StatsD
+abbrev pub format_asked : Option (List ℕ) → Option Format
+format_asked None = Some Statsd
+format_asked (Some name) = format_in name
 
 -- what a run and a replay have in common
 pub record Reporting : Type 0 where
@@ -79,7 +78,7 @@ over_files options (boot ∷ files) =
 abbrev pub reporting_in : Sorted → Option Reporting
 reporting_in words = if words.run then None
     else option_and_then (λ format. over_files (record { format = format; symbols = words.symbols }) words.operands)
-    (format_asked words.formats)
+    (format_asked words.format)
 
 abbrev pub running : Reporting → Command
 running asked = Run asked.options asked.boot asked.files
@@ -89,7 +88,7 @@ replaying asked = Replay asked.options asked.boot asked.files
 
 -- an option stands among the words that only a run or a replay takes
 abbrev pub has_output_options : Sorted → Bool
-has_output_options words = words.symbols || nat_lt 0 (length words.formats)
+has_output_options words = words.symbols || is_some words.format
 
 -- `BOOT`
 abbrev pub check_in : List (List ℕ) → Option Command

@@ -1,5 +1,5 @@
 -- What contracts see of words that were read.
-use Rattle.std.specs.Prelude.{map, string_bytes}
+use Rattle.std.specs.Prelude.{map, option_map, string_bytes}
 use Rattle.command_words.specs.Command.{Command, Reporting, Bins, Check, Load, replaying, running}
 use Rattle.command_words.specs.Sorted.{Sorted}
 use Rattle.command_words.specs.declared.command.Command.{Command as SaidCommand}
@@ -11,7 +11,7 @@ abbrev pub sorted_as : SortedWords → Sorted
 sorted_as words = record {
   symbols = words.symbols;
   run = words.run;
-  formats = map (λ w. w.now) words.formats.items;
+  format = option_map (λ w. w.now) words.format;
   operands = map (λ w. w.now) words.operands.items;
 }
 

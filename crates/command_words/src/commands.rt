@@ -17,7 +17,7 @@ use std::alloc::Global;
 fn has_output_options(words: &SortedWords<'_>) -> bool
     ensures { result ≡ has_output_options (sorted_as words.now) }
 {
-    words.symbols || !words.formats.is_empty()
+    words.symbols || words.format.is_some()
 }
 
 fn reporting_of(
@@ -29,7 +29,7 @@ fn reporting_of(
     if words.run {
         return Ok(None);
     }
-    let Some(format) = format_asked(&words.formats) else {
+    let Some(format) = format_asked(words.format) else {
         return Ok(None);
     };
     let options = OutputOptions {

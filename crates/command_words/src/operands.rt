@@ -24,14 +24,13 @@ fn format_in(word: &str) -> Option<Format>
     }
 }
 
-/// The format that was asked for, at most once; usually StatsD.
-pub(crate) fn format_asked(names: &[&str]) -> Option<Format>
-    ensures { result ≡ format_asked (map (λ w. w.now) names.now) }
+/// The format that was asked for; usually StatsD.
+pub(crate) fn format_asked(name: Option<&str>) -> Option<Format>
+    ensures { result ≡ format_asked (option_map (λ w. w.now) name.entry) }
 {
-    match names {
-        [] => Some(Format::Statsd),
-        [name] => format_in(name),
-        _ => None,
+    match name {
+        Some(name) => format_in(name),
+        None => Some(Format::Statsd),
     }
 }
 

@@ -23,7 +23,7 @@ fn valued<'a>(alloc: Global, name: &'a str) -> Arg<'a>
 {
     Arg::new(alloc, name)
         .long(name)
-        .action(ArgAction::Append)
+        .action(ArgAction::Set)
 }
 
 // All operands: each is a value of its own, since an option may stand between two of them.

@@ -1,5 +1,5 @@
 //! The words behind the name of a command, sorted into options and operands.
-ghost use Rattle.std.specs.Prelude.{◌≡◌, [], IfOk, Some, None, MatchOption, map, option_map, string_bytes, unwrap_or};
+ghost use Rattle.std.specs.Prelude.{◌≡◌, [], IfOk, Some, None, MatchOption, codes, map, option_map, string_bytes, unwrap_or};
 ghost use Rattle.clap.specs.Words.{all_of, found_of, rows_of};
 ghost use Rattle.command_words.specs.Options.{IsSaid};
 ghost use Rattle.command_words.specs.Sorted.{Sorted, sorted};
@@ -16,7 +16,7 @@ use std::alloc::Global;
 pub(crate) struct SortedWords<'a> {
     pub symbols: bool,
     pub run: bool,
-    pub formats: Vec<&'a str>,
+    pub format: Option<&'a str>,
     pub operands: Vec<&'a str>,
 }
 
@@ -40,17 +40,13 @@ fn matches_of<'a>(
     }
 }
 
-// All values of an argument.
-fn values_of<'a>(
-    alloc: Global,
-    matches: &ArgMatches<'a>,
-    id: &str,
-) -> Result<Vec<&'a str>, NoMemory>
-    ensures { IfOk result (λ values. map (λ v. v.now) values.items
-        ≡ unwrap_or (all_of id.now (rows_of (found_of matches.now))) []) }
+// All operands.
+fn operands_in<'a>(alloc: Global, matches: &ArgMatches<'a>) -> Result<Vec<&'a str>, NoMemory>
+    ensures { IfOk result (λ operands. map (λ w. w.now) operands.items
+        ≡ unwrap_or (all_of (codes "operands") (rows_of (found_of matches.now))) []) }
 {
-    match matches.get_raw(id) {
-        Some(values) => Ok(values.to_vec(alloc)?),
+    match matches.get_raw("operands") {
+        Some(operands) => Ok(operands.to_vec(alloc)?),
         None => Ok(Vec::new(alloc)),
     }
 }
@@ -62,8 +58,8 @@ fn words_in<'a>(alloc: Global, matches: &ArgMatches<'a>) -> Result<SortedWords<'
     Ok(SortedWords {
         symbols: matches.get_flag("symbols"),
         run: matches.get_flag("run"),
-        formats: values_of(alloc, matches, "format")?,
-        operands: values_of(alloc, matches, "operands")?,
+        format: matches.get_str("format"),
+        operands: operands_in(alloc, matches)?,
     })
 }
 
