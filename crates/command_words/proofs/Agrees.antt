@@ -8,7 +8,7 @@ use Rattle.clap.specs.declared.error.kind.ErrorKind.TheVariants as kind
 use Rattle.clap.specs.Words.{Row, Text, fault_of, is_simple, is_simple_and_free, matches_of}
 use Rattle.clap.specs.Kinds.{IsAmong, Kinds, or_else}
 use Rattle.clap.specs.declared.error.kind.ErrorKind.{ErrorKind}
-use Rattle.clap.specs.Simple.{App, built, entered}
+use Rattle.clap.specs.Simple.{built, entered}
 use Rattle.clap.specs.Walk.{finished, has_row, settled, stop_after}
 use Rattle.clap.specs.Faults.{check_fault, defaults_fault, entered_fault, settle_fault, turn_fault, walk_fault}
 use Rattle.clap.proofs.OnLiterals.{clap_on_literals}
@@ -16,7 +16,7 @@ use Rattle.command_words.specs.Options.{IsSaid, app}
 use Rattle.command_words.specs.Sorted.{Sorted, is_dashed, only_operands, sorted, sorted_behind, with_format, with_operand}
 use Rattle.command_words.proofs.Turns as turn
 use Rattle.command_words.proofs.Turns.{Flag, symbols, run, name_of, Place, fresh, behind_operand, behind_format, IsPlainWord, asking, chosen, given, IsCalm, rows_at, shape, walk_at}
-use Rattle.command_words.proofs.Ends.{Ends, Gives, Holds, again_at_end, all_read, end_fault, end_of, faults_from, refused, taken}
+use Rattle.command_words.proofs.Ends.{Ends, Gives, Holds, again_at_end, all_read, end_of, faults_from, refused, taken}
 use Rattle.command_words.proofs.Held.{flag_held, flag_known, format_held, format_known, nothing_held_yet, operand_held, used_before, with_flag}
 use Rattle.command_words.proofs.Joined.{flag_before, join, join_nothing, join_operand, joined, joined_again, joined_flag, joined_format, joined_operand, joined_twice}
 use Rattle.command_words.proofs.WordKinds.{IsUnnamed, Refusal, with_value, unknown, short, Sort, dashes, flag, format, attached, other, operand, not_long, not_short, sort_of}

@@ -1,17 +1,16 @@
 -- What comes of a walk over words.
-use Rattle.std.proofs.Common.{◌≡◌, ◌≢◌, ◌||◌, ℕ, Bool, true, false, List, [], ◌∷◌, ◌++◌, Option, Some, None, is_some, cond, codes, fold, refl, ap, ◌∙◌, sym, subst, cond}
-use Rattle.std.specs.Prelude.{unwrap_or, option_map, option_and_then}
+use Rattle.std.proofs.Common.{◌≡◌, ◌≢◌, Bool, true, false, List, [], ◌∷◌, Option, Some, None, is_some, codes, fold, refl, ap, ◌∙◌, sym, subst}
+use Rattle.std.specs.Prelude.{unwrap_or, option_and_then}
 use Rattle.std.specs.Str.{bytes_eq}
 use Rattle.clap.specs.Values.{bool_text}
-use Rattle.clap.specs.Words.{Row, Rule, Text, all_of, first_of, one_of, fault_of, matches_of}
+use Rattle.clap.specs.Words.{Row, Rule, Text, all_of, first_of, one_of}
 use Rattle.clap.specs.Kinds.{Kinds, or_else}
-use Rattle.clap.specs.Simple.{filled, with_index, built, names_of, entered}
-use Rattle.clap.specs.Walk.{Walk, Held, finished, has_row, row_text, settled, walked, with_default, with_values, walk_from, nothing_held}
-use Rattle.clap.specs.Faults.{check_fault, default_fault, defaults_fault, entered_fault, level_fault, settle_fault, turn_fault, walk_fault}
+use Rattle.clap.specs.Simple.{filled, with_index}
+use Rattle.clap.specs.Walk.{Walk, Held, finished, has_row, row_text, settled, walked, with_default, with_values}
+use Rattle.clap.specs.Faults.{check_fault, default_fault, defaults_fault, settle_fault, turn_fault, walk_fault}
 use Rattle.clap.specs.declared.parser.matches.ValueSource.TheVariants.{CommandLine, DefaultValue}
 use Rattle.clap.specs.declared.builder.value_parser.Reading.TheVariants.{AsWritten}
-use Rattle.clap.proofs.OnLiterals.{clap_on_literals}
-use Rattle.command_words.specs.Options.{IsSaid, app, flag, valued, operands}
+use Rattle.command_words.specs.Options.{IsSaid, flag, valued, operands}
 use Rattle.command_words.specs.Sorted.{Sorted}
 use Rattle.command_words.proofs.Rows.{row_at, held_row, row_from, has_row_is, put_new, put_other}
 use Rattle.command_words.proofs.Turns.{Flag, Place, IsCalm, symbols, run, name_of, fresh, behind_operand, behind_format, rows_at, shape, walk_at}
@@ -159,8 +158,7 @@ flags_read : (rows : List Row) (s : Sorted) → Holds rows s → IsSaid (with_fl
 flags_read rows s holds =
     let behind = with_default rows (flag_rule symbols) in
     let past : (other : Text) → bytes_eq (codes "symbols") other ≡ false → bytes_eq (codes "run") other ≡ false → row_at other (with_flags rows) ≡ row_at other rows =
-    λ other a b. other_after run other behind b ∙ other_after symbols other rows a in
-    (
+    λ other a b. other_after run other behind b ∙ other_after symbols other rows a in (
       ap (λ (o : Option Row). option_and_then row_text o) (other_after run (codes "symbols") behind refl) ∙ flag_reads symbols rows s.symbols holds.0,
       flag_reads run behind s.run (other_after symbols (codes "run") rows refl ∙ holds.1),
       name_of_format (codes "format") (with_flags rows) s.format (past (codes "format") refl refl ∙ holds.2),
@@ -213,7 +211,7 @@ pub all_read : (p : Place) (rows : List Row) (b : Bool) (s : Sorted) → IsCalm 
 unfolding walk_fault
 all_read p rows b s calm holds = (
   ap (λ (k : Kinds). or_else k (or_else (defaults_fault (rows_at p rows) shape.rules) [])) (settles p rows b calm)
-  ∙ ap (λ (k : Kinds). or_else k []) (defaults_right (rows_at p rows)),
+      ∙ ap (λ (k : Kinds). or_else k []) (defaults_right (rows_at p rows)),
   subst (λ (l : List Row). IsSaid l s) (sym (at_last (rows_at p rows))) (flags_read (rows_at p rows) s holds),
 )
 

@@ -1,8 +1,8 @@
 -- What the matches have after one use more.
-use Rattle.std.proofs.Common.{◌≡◌, Bool, true, false, List, [], ◌∷◌, ◌++◌, Option, Some, None, is_some, codes, refl, ap, ◌∙◌, sym}
+use Rattle.std.proofs.Common.{◌≡◌, Bool, true, false, List, [], ◌∷◌, ◌++◌, Option, Some, None, is_some, codes, refl, ap, ◌∙◌}
 use Rattle.std.specs.Str.{bytes_eq}
 use Rattle.clap.specs.Words.{Row, Text}
-use Rattle.clap.specs.Walk.{has_row, without}
+use Rattle.clap.specs.Walk.{has_row}
 use Rattle.clap.specs.declared.parser.matches.ValueSource.TheVariants.{CommandLine}
 use Rattle.command_words.specs.Sorted.{Sorted, only_operands}
 use Rattle.command_words.proofs.Rows.{row_at, held_row, has_row_is, nothing_to_take, put_value, put_other}
@@ -40,16 +40,14 @@ unused f rows s holds e = flag_row f rows s holds ∙ ap (λ (b : Bool). held_ro
 
 pub flag_held : (f : Flag) (rows : List Row) (s : Sorted) → Holds rows s → used_before f s ≡ false → Holds (chosen (name_of f) (codes "true") rows) (with_flag f s)
 flag_held symbols rows s holds e =
-    let none = unused symbols rows s holds e in
-    (
+    let none = unused symbols rows s holds e in (
       chosen_put (codes "symbols") (codes "true") rows refl none,
       chosen_other (codes "symbols") (codes "true") (codes "run") rows refl none ∙ holds.1,
       chosen_other (codes "symbols") (codes "true") (codes "format") rows refl none ∙ holds.2,
       chosen_other (codes "symbols") (codes "true") (codes "operands") rows refl none ∙ holds.3,
     )
 flag_held run rows s holds e =
-    let none = unused run rows s holds e in
-    (
+    let none = unused run rows s holds e in (
       chosen_other (codes "run") (codes "true") (codes "symbols") rows refl none ∙ holds.0,
       chosen_put (codes "run") (codes "true") rows refl none,
       chosen_other (codes "run") (codes "true") (codes "format") rows refl none ∙ holds.2,
@@ -72,8 +70,7 @@ format_known rows s holds = has_row_is (codes "format") rows ∙ ap is_some hold
 pub format_held : (rows : List Row) (s : Sorted) (v : Text) → Holds rows s → s.format ≡ None
     → Holds (chosen (codes "format") v rows) (record s { format = Some v })
 format_held rows s v holds e =
-    let none = format_row rows s holds e in
-    (
+    let none = format_row rows s holds e in (
       chosen_other (codes "format") v (codes "symbols") rows refl none ∙ holds.0,
       chosen_other (codes "format") v (codes "run") rows refl none ∙ holds.1,
       chosen_put (codes "format") v rows refl none,

@@ -1,5 +1,5 @@
 -- The commands, and the words that say them. This project's own.
-use Rattle.std.specs.Prelude.{◌^◌, ◌-◌, ◌||◌, ◌&&◌, ℕ, Bool, true, false, if◌then◌else◌, nat_le, nat_lt, Option}
+use Rattle.std.specs.Prelude.{◌^◌, ◌-◌, ◌||◌, ◌&&◌, ℕ, Bool, if◌then◌else◌, nat_le, nat_lt, Option}
 use Rattle.std.specs.Prelude.{None, Some, is_some, option_map, List, [], ◌∷◌, length, codes}
 use Rattle.std.specs.Str.{bytes_eq}
 use Rattle.std.specs.Str.Parse.{digits_value}
@@ -20,12 +20,12 @@ pub data Command : Type 0 where
   Replay : (options : OutputOptions) (boot : List ℕ) (files : List (List ℕ)) → Command
   -- loads that bootstrap
   Check : (boot : List ℕ) → Command
-  -- tells the bins of these values
+  -- writes the bins of these values
   Bins : (values : List ℕ) → Command
-  -- makes so many scripts of so many events each, and applies them, side by side where `run` is set
+  -- makes scripts of that number of events each, and applies them, side by side where `run` is set
   Load : (run : Bool) (scripts events : ℕ) → Command
 
--- 1 to so many words, each of which passes the test
+-- 1 to `most` words, each of which passes the test
 abbrev pub are_some : (List ℕ → Bool) → ℕ → List (List ℕ) → Bool
 are_some test most words = nat_le 1 (length words) && nat_le (length words) most && list_all test words
 

@@ -1,5 +1,5 @@
 -- What `clap` is told of the words.
-use Rattle.std.specs.Prelude.{◌≡◌, List, [], codes, Some, true, if◌then◌else◌, unwrap_or}
+use Rattle.std.specs.Prelude.{◌≡◌, List, [], codes, Some, true, unwrap_or}
 use Rattle.clap.specs.Words.{App, Row, Rule, Text, all_of, first_of, new_app, new_rule, one_of, with_rule}
 use Rattle.clap.specs.Values.{bool_text}
 use Rattle.command_words.specs.Sorted.{Sorted}

@@ -21,9 +21,17 @@ pub enum Command {
     /// `replay [--symbols] [--format F] BOOT FILE..`
     Replay(Reporting),
     /// `check BOOT`
-    Check { boot: String },
+    Check {
+        boot: String,
+    },
     /// `bins V..`
-    Bins { values: Vec<u64> },
-    /// `load [--run] W E`: so many scripts of so many events each, applied side by side where `run` is set.
-    Load { run: bool, scripts: u32, events: u32 },
+    Bins {
+        values: Vec<u64>,
+    },
+    /// `load [--run] W E`: W scripts of E events each, applied side by side where `run` is set.
+    Load {
+        run: bool,
+        scripts: u32,
+        events: u32,
+    },
 }

@@ -20,10 +20,7 @@ fn has_output_options(words: &SortedWords<'_>) -> bool
     words.symbols || words.format.is_some()
 }
 
-fn reporting_of(
-    alloc: Global,
-    words: &SortedWords<'_>,
-) -> Result<Option<Reporting>, NoMemory>
+fn reporting_of(alloc: Global, words: &SortedWords<'_>) -> Result<Option<Reporting>, NoMemory>
     ensures { IfOk result (λ o. option_map reporting_as o ≡ reporting_in (sorted_as words.now)) }
 {
     if words.run {

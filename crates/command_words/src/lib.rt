@@ -3,16 +3,15 @@
 
 mod command;
 mod commands;
-
 mod limits;
 mod numbers;
 mod operands;
-
-
 mod options;
 mod sorting;
 
 pub use command::{Command, Reporting};
 pub use commands::command_of;
-
 pub use limits::{MAX_EVENTS, MAX_FILES, MAX_SCRIPTS, MAX_VALUES};
+
+#[cfg(test)]
+mod tests;

@@ -21,10 +21,7 @@ pub(crate) struct SortedWords<'a> {
 }
 
 // What `clap` finds in the words, or nothing where it refuses them.
-fn matches_of<'a>(
-    alloc: Global,
-    words: &'a [String],
-) -> Result<Option<ArgMatches<'a>>, NoMemory>
+fn matches_of<'a>(alloc: Global, words: &'a [String]) -> Result<Option<ArgMatches<'a>>, NoMemory>
     ensures { IfOk result (λ o. MatchOption o (sorted (map string_bytes words.entry.now) ≡ None) (λ m. (s : Sorted)
         × (sorted (map string_bytes words.entry.now) ≡ Some s) × IsSaid (rows_of (found_of m)) s)) }
 {

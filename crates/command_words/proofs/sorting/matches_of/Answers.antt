@@ -1,10 +1,10 @@
-use Rattle.std.proofs.Common.{rules, ◌≡◌, [], IfOk, Some, None, Option, MatchOption, map, option_map, string_bytes, unwrap_or, ℕ, Bool, true, false, List, ◌∷◌, ◌++◌, Bor, refl, ap, ap₂, sym, ◌∙◌, subst, codes, inl, inr}
-use Rattle.clap.specs.Words.{all_of, one_of, found_of, rows_of, fault_of, matches_of}
+use Rattle.std.proofs.Common.{map, string_bytes, List, ap, sym, ◌∙◌, subst, inl, inr}
+use Rattle.clap.specs.Words.{fault_of, matches_of}
 use Rattle.clap.specs.Kinds.{IsAmong}
 use Rattle.clap.specs.Words.{App, kind_of, is_simple, is_simple_and_free}
 use Rattle.clap.specs.Walk.{Row}
 use Rattle.command_words.specs.Options.{IsSaid, app}
-use Rattle.command_words.specs.Sorted.{Sorted, sorted}
+use Rattle.command_words.specs.Sorted.{sorted}
 use Rattle.command_words.proofs.Agrees.{all_utf8, reads_as_sorted, said_of, refused_of, simple_app, free_app}
 use Rattle.command_words.proofs.sorting.matches_of.Goals as goal
 

@@ -1,4 +1,4 @@
-use Rattle.std.proofs.Common.{◌≡◌, [], Some, None, Option, map, unwrap_or, ℕ, List, Bor, ap, ◌∙◌, codes}
+use Rattle.std.proofs.Common.{[], Option, map, unwrap_or, ℕ, List, Bor, ap, ◌∙◌, codes}
 use Rattle.clap.specs.Words.{found_of}
 use Rattle.command_words.proofs.Found.{all_found}
 use Rattle.command_words.proofs.sorting.operands_in.Goals as goal
