@@ -1,6 +1,6 @@
 -- What a call comes to whose words say a run, and any other one.
 use Rattle.std.proofs.Common.{◌≡◌, ◌∙◌, ℕ, Option, Some, None, List, subst}
-use Rattle.report_text.specs.declared.options.OutputOptions.{OutputOptions}
+use Rattle.output_options.specs.declared.OutputOptions.{OutputOptions}
 use Rattle.run_report.specs.RunReport.{IsRunOf}
 use Rattle.stats_commands.specs.Command.{Command, Run, Replay, Check, Bins, command, quiet_command, without_threads}
 use Rattle.std.specs.Option.{option_and_then}

@@ -1,6 +1,6 @@
 -- The program: what comes of a run, and of every other command. This project's own.
 use Rattle.std.specs.Prelude.{◌≡◌, ℕ, Some, List}
-use Rattle.report_text.specs.declared.options.OutputOptions.{OutputOptions}
+use Rattle.output_options.specs.declared.OutputOptions.{OutputOptions}
 use Rattle.run_report.specs.RunReport.{IsRunOf}
 use Rattle.stats_commands.specs.declared.outcome.Outcome.{Outcome}
 use Rattle.stats_commands.specs.Command.{Run, command}

@@ -8,9 +8,9 @@ use Rattle.prom_text.specs.Prometheus.{prom_text}
 use Rattle.admin_read.specs.Admin.{admin_text}
 use Rattle.flush_view.specs.Views.{view_rules}
 use Rattle.flush_view.specs.Output.{ViewText, output}
-use Rattle.report_text.specs.declared.options.Format.{Format}
-use Rattle.report_text.specs.declared.options.Format.TheVariants.{Statsd, Prom, Admin}
-use Rattle.report_text.specs.declared.options.OutputOptions.{OutputOptions}
+use Rattle.output_options.specs.declared.Format.{Format}
+use Rattle.output_options.specs.declared.Format.TheVariants.{Statsd, Prom, Admin}
+use Rattle.output_options.specs.declared.OutputOptions.{OutputOptions}
 
 -- how a flush is written; the StatsD lines have this prefix
 abbrev pub view_text : List ℕ → Format → ViewText

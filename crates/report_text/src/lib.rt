@@ -1,12 +1,10 @@
 //! The text of a report: its flushes in one of three formats, its readings, its symbols, and a line for each file.
 #![tactic(auto)]
 
-mod options;
 mod readings;
 mod sections;
 mod symbols;
 mod workers;
 mod writing;
 
-pub use options::{Format, OutputOptions};
 pub use writing::write_report;

@@ -7,9 +7,9 @@ ghost use Rattle.flush_view.specs.Views.{view_rules};
 ghost use Rattle.report_text.specs.ReportText.{view_text};
 ghost use Rattle.report_text.specs.Parts.{flush_head, flush_text, flushes_text};
 
-use crate::options::Format;
 use admin_read::write_admin;
 use flush_view::ReportViews;
+use output_options::Format;
 use prom_text::write_prom;
 use stat_defs::{FlushView, NoMemory, Txt};
 use stats_io::{Sink, push_all};

@@ -6,12 +6,12 @@ ghost use Rattle.flush_view.specs.Views.{view_rules, last_state};
 ghost use Rattle.report_text.specs.ReportText.{report_text};
 ghost use Rattle.report_text.specs.Parts.{symbol_rows, symbols_text, text_behind, workers_text};
 
-use crate::options::OutputOptions;
 use crate::readings::write_reads;
 use crate::sections::write_flushes;
 use crate::symbols::write_metrics;
 use crate::workers::write_workers;
 use flush_view::ReportViews;
+use output_options::OutputOptions;
 use stat_defs::{Config, List, Report, Verdict};
 use stats_io::{Sink, push_all};
 use std::alloc::Global;

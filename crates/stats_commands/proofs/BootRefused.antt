@@ -7,7 +7,7 @@ use Rattle.boot_load.specs.Load.{Loads}
 use Rattle.boot_load.specs.BootLine.{boot_line}
 use Rattle.boot_load.specs.declared.fault.LoadFault.{LoadFault}
 use Rattle.boot_load.specs.declared.fault.LoadFault.TheVariants.{TooBig, Faulty, BadPattern, OpenFailed, ReadFailed, NoMemory}
-use Rattle.report_text.specs.declared.options.OutputOptions.{OutputOptions}
+use Rattle.output_options.specs.declared.OutputOptions.{OutputOptions}
 use Rattle.stats_commands.specs.World.{World, Sight}
 use Rattle.stats_commands.specs.Outcome.{IsSaid, IsBootFault, Checks, Reports, status_of_boot, boot_faults_of}
 use Rattle.stats_commands.specs.Replay.{RefusesBoot}

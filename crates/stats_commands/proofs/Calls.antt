@@ -2,7 +2,7 @@
 use Rattle.std.proofs.Common.{◌≡◌, ◌≢◌, ◌⊎◌, ℕ, Option, Some, None, List, refl, sym, ◌∙◌, subst, inl, inr, arith}
 use Rattle.stat_defs.specs.declared.reports.Report.{Report}
 use Rattle.stats_io.specs.States.{SinkState}
-use Rattle.report_text.specs.declared.options.OutputOptions.{OutputOptions}
+use Rattle.output_options.specs.declared.OutputOptions.{OutputOptions}
 use Rattle.stats_commands.specs.Command.{Command, Replay, Check, Bins}
 use Rattle.stats_commands.specs.BinLines.{bin_lines}
 use Rattle.stats_commands.specs.World.{World, Sight}

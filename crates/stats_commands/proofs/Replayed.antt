@@ -15,7 +15,7 @@ use Rattle.text_parts.specs.Answer.{IsTextAnswer}
 use Rattle.text_parts.specs.declared.fault.TextFault.{TextFault}
 use Rattle.text_parts.specs.declared.fault.TextFault.TheVariants.{WriteFault, NoMemory}
 use Rattle.report_text.specs.ReportText.{report_text}
-use Rattle.report_text.specs.declared.options.OutputOptions.{OutputOptions}
+use Rattle.output_options.specs.declared.OutputOptions.{OutputOptions}
 use Rattle.stats_commands.specs.FaultLines.{fault_lines, said_of, with_write_line}
 use Rattle.stats_commands.specs.World.{World, Sight}
 use Rattle.stats_commands.specs.Outcome.{IsSaid, IsWritten, IsReportOver, Reports, ends_of, status_of_all}

@@ -8,7 +8,7 @@ use Rattle.stat_defs.specs.declared.reports.FileEnd.TheVariants.{ReadFault, NotO
 use Rattle.stat_defs.specs.declared.reports.Report.{Report}
 use Rattle.boot_load.specs.declared.fault.LoadFault.{LoadFault}
 use Rattle.boot_load.specs.declared.fault.LoadFault.TheVariants as unloaded
-use Rattle.report_text.specs.declared.options.OutputOptions.{OutputOptions}
+use Rattle.output_options.specs.declared.OutputOptions.{OutputOptions}
 use Rattle.replay_report.specs.ReplayReport.{IsReplayOf}
 use Rattle.stats_commands.specs.Command.{Command, Run, Replay, Check, Bins, command, without_threads, quiet_command}
 use Rattle.stats_commands.specs.BinLines.{bin_lines}

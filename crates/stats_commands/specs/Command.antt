@@ -5,9 +5,9 @@ use Rattle.std.specs.Str.{bytes_eq}
 use Rattle.std.specs.Option.{unwrap_or, option_and_then}
 use Rattle.std.specs.List.{list_all, filter_map}
 use Rattle.event_script.specs.EventIn.{read_number}
-use Rattle.report_text.specs.declared.options.Format.{Format}
-use Rattle.report_text.specs.declared.options.Format.TheVariants.{Statsd, Prom, Admin}
-use Rattle.report_text.specs.declared.options.OutputOptions.{OutputOptions}
+use Rattle.output_options.specs.declared.Format.{Format}
+use Rattle.output_options.specs.declared.Format.TheVariants.{Statsd, Prom, Admin}
+use Rattle.output_options.specs.declared.OutputOptions.{OutputOptions}
 use Rattle.stats_commands.specs.declared.command.Front.{Front as SpokenFront}
 use Rattle.stats_commands.specs.declared.reporting.Reporting.{Reporting as SpokenReporting}
 use Rattle.stats_commands.specs.declared.command.Command.{Command as Spoken}

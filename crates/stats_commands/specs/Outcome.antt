@@ -20,7 +20,7 @@ use Rattle.boot_load.specs.Load.{Loads}
 use Rattle.boot_load.specs.BootLine.{boot_line}
 use Rattle.replay_report.specs.ReplayReport.{IsReplayOf}
 use Rattle.report_text.specs.ReportText.{report_text}
-use Rattle.report_text.specs.declared.options.OutputOptions.{OutputOptions}
+use Rattle.output_options.specs.declared.OutputOptions.{OutputOptions}
 use Rattle.stats_commands.specs.declared.status.TheConstants.{DONE, NO_COMMAND, BAD_BOOT, BAD_FILE, UNREADABLE, UNWRITTEN}
 use Rattle.stats_commands.specs.declared.status.TheConstants.{NO_MEMORY}
 use Rattle.stats_commands.specs.declared.outcome.Outcome.{Outcome}

@@ -9,8 +9,8 @@ ghost use Rattle.stats_commands.specs.Command.{reporting_in, reporting_as, behin
 ghost use Rattle.stats_commands.specs.Command.{behind_check, behind_bins, command, spoken_as};
 
 use crate::reporting::Reporting;
+use output_options::{Format, OutputOptions};
 use replay_report::MAX_FILES;
-use report_text::{Format, OutputOptions};
 
 /// Maximum number of values of one `bins`.
 pub const MAX_VALUES: usize = 64;

@@ -2,7 +2,7 @@
 ghost use Rattle.std.specs.Prelude.{◌≤◌, length};
 ghost use Rattle.replay_report.specs.declared.replaying.TheConstants as limits;
 
-use report_text::OutputOptions;
+use output_options::OutputOptions;
 
 /// What the words of a run and of a replay name: `[--symbols] [--format F] BOOT FILE..`.
 #[derive(Clone, Copy)]

@@ -8,7 +8,7 @@ ghost use Rattle.store_tests.specs.TriedFlushes.{tried_flushes, tried_part};
 use crate::stores::{NO_TAGS, config_of, three_flushes, written};
 use flush_view::ReportViews;
 use library_examples::{rules_and_buckets, shown_of};
-use report_text::{Format, OutputOptions};
+use output_options::{Format, OutputOptions};
 use stat_defs::{
     Bin, BinCount, Config, Delta, FlushRecord, FlushView, List, MetricId, NoMemory, Part,
     ReadRecord, Reading, Report, ScopeId, Txt, Verdict,

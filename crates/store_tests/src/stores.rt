@@ -11,8 +11,9 @@ use library_examples::{
     LinesApplied, apply_lines, count_in_turn, count_lines, count_often, count_twice,
     rules_and_buckets, shown_of, store_of,
 };
+use output_options::{Format, OutputOptions};
 use plain_store::PlainStore;
-use report_text::{Format, OutputOptions, write_report};
+use report_text::write_report;
 use stat_defs::{Config, CounterRow, Event, FileEnd, FlushRecord, MetricId, Report, Txt, Verdict};
 use stats_io::{MemSink, MemSource, SureSource};
 use std::alloc::Global;
