@@ -1,5 +1,5 @@
 -- A bootstrap that was not loaded.
-use Rattle.std.proofs.Common.{◌≡◌, ◌≢◌, ◌⊎◌, ℕ, None, Err, List, codes, refl, sym, ap, ◌∙◌, subst, inl, inr, arith}
+use Rattle.std.proofs.Common.{◌≡◌, ◌≢◌, ℕ, None, Err, List, codes, refl, sym, ap, subst, inl, inr, arith}
 use Rattle.stat_defs.specs.declared.configs.Config.{Config}
 use Rattle.stat_defs.specs.declared.reports.Report.{Report}
 use Rattle.stats_io.specs.States.{SinkState}

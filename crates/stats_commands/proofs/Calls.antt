@@ -1,12 +1,11 @@
 -- What a call comes to, by its command.
-use Rattle.std.proofs.Common.{◌≡◌, ◌≢◌, ◌⊎◌, ℕ, Option, Some, None, List, refl, sym, ◌∙◌, subst, inl, inr, arith}
-use Rattle.stat_defs.specs.declared.reports.Report.{Report}
+use Rattle.std.proofs.Common.{◌≡◌, ◌≢◌, ℕ, Option, Some, None, List, refl, sym, ◌∙◌, subst, inl, inr, arith}
 use Rattle.stats_io.specs.States.{SinkState}
 use Rattle.output_options.specs.declared.OutputOptions.{OutputOptions}
 use Rattle.stats_commands.specs.Command.{Command, Replay, Check, Bins}
 use Rattle.stats_commands.specs.BinLines.{bin_lines}
 use Rattle.stats_commands.specs.World.{World, Sight}
-use Rattle.stats_commands.specs.Outcome.{IsWritten, IsPrinted, IsUnstarted, Prints, IsRefused, IsBootFault, IsChecked, Checks, Replays, IsBinned, IsCall}
+use Rattle.stats_commands.specs.Outcome.{IsWritten, IsPrinted, Prints, IsRefused, Checks, Replays, IsBinned, IsCall}
 use Rattle.stats_commands.specs.declared.status.TheConstants.{DONE, NO_COMMAND}
 use Rattle.stats_commands.specs.declared.outcome.Outcome.{Outcome}
 use Rattle.stats_commands.proofs.BootRefused.{boot_is_no_usage}

@@ -1,5 +1,5 @@
 -- A bootstrap that was loaded for a check, or for which memory was wanting.
-use Rattle.std.proofs.Common.{◌≡◌, ◌⊎◌, ℕ, None, Ok, List, codes, refl, ap, inl, inr}
+use Rattle.std.proofs.Common.{◌≡◌, ℕ, None, Ok, List, codes, refl, ap, inl, inr}
 use Rattle.stats_io.specs.States.{SinkState}
 use Rattle.boot_load.specs.Load.{Loads}
 use Rattle.boot_load.specs.declared.loading.Boot.{Boot}

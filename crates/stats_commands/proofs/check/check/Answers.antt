@@ -1,4 +1,4 @@
-use Rattle.std.proofs.Common.{◌≢◌, ◌⊎◌, rules, refl, inr}
+use Rattle.std.proofs.Common.{◌≢◌, rules, refl, inr}
 use Rattle.boot_load.specs.declared.fault.LoadFault.TheVariants.{NoMemory}
 use Rattle.stats_commands.specs.World.{world, sight}
 use Rattle.stats_commands.proofs.Checked.{unstarted, check_loaded}

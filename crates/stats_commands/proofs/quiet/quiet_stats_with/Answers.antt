@@ -1,7 +1,7 @@
-use Rattle.std.proofs.Common.{◌≡◌, ◌≤◌, ◌∙◌, rules, Option, Some, None, length, map, string_bytes, refl, sym, ap, subst, arith}
+use Rattle.std.proofs.Common.{◌≡◌, ◌∙◌, Option, Some, None, map, string_bytes, refl, sym, ap, subst}
 use Rattle.std.specs.List.{filter_map}
 use Rattle.std.specs.Option.{option_and_then}
-use Rattle.stats_commands.specs.Command.{Command as Told, Replay, Check, Bins, command, quiet_command, without_threads, running, value_in, reporting_as, spoken_as}
+use Rattle.stats_commands.specs.Command.{Command as Told, command, quiet_command, without_threads, running, value_in, reporting_as, spoken_as}
 use Rattle.stats_commands.specs.World.{world, sight}
 use Rattle.stats_commands.specs.Outcome.{IsCall}
 use Rattle.stats_commands.specs.declared.command.Command.{Command}
