@@ -8,7 +8,7 @@ run, until so many runs in a row had no refusal.
 
 A run ends as it would have without the refusal, or with want of memory: status 6 and a front of the output, or a test
 that gives this error. Whatever else comes is wrong, a run that does not end too. The tests whose names begin with
-`goes_on` give a refused event again, so most of their runs go on to their end. A line for each subject tells how many
+`goes_on` give a refused event again or pass it over, so most of their runs go on to the end of the store. A line for each subject tells how many
 runs there were, in how many a request was refused, and in how many of these want of memory was told. The status is the
 number of wrong runs. It needs a C compiler, and Linux for LD_PRELOAD.
 
