@@ -6,7 +6,7 @@ use Rattle.std.proofs.lemmas.List.Folds.{list_all-map}
 use Rattle.std.proofs.lemmas.Bool.{le-leb}
 use Rattle.command_words.specs.Command.{value_in, are_some}
 
--- 1 to so many words that pass the test
+-- 1 to `most` words that pass the test
 pub are_some_of : {X : Type 0} (f : X → List ℕ) (test : List ℕ → Bool) (most : ℕ) (xs : List X) (passes : Bool) → 1 ≤ length xs → length xs ≤ most
     → passes ≡ list_all (λ x. test (f x)) xs → passes ≡ are_some test most (map f xs)
 are_some_of f test most xs passes some few is =
