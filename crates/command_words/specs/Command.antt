@@ -10,7 +10,7 @@ use Rattle.output_options.specs.declared.Format.{Format}
 use Rattle.output_options.specs.declared.Format.TheVariants.{Statsd, Prom, Admin}
 use Rattle.output_options.specs.declared.OutputOptions.{OutputOptions}
 use Rattle.command_words.specs.Sorted.{Sorted, sorted}
-use Rattle.command_words.specs.declared.limits.TheConstants.{MAX_EVENTS, MAX_FILES, MAX_SCRIPTS, MAX_VALUES}
+use Rattle.command_words.specs.declared.limits.TheConstants.{MAX_SCRIPT_EVENTS, MAX_FILES, MAX_SCRIPTS, MAX_VALUES}
 
 -- a command, with what its words name
 pub data Command : Type 0 where
@@ -102,7 +102,7 @@ bins_in words = if are_values words then Some (Bins (filter_map value_in words))
 -- `W E`, with 1 to 32 scripts of 1 to 131,072 events
 abbrev pub load_in : Bool → List (List ℕ) → Option Command
 load_in run (w ∷ e ∷ []) = option_and_then (λ scripts. option_map (λ events. Load run scripts events)
-    (number_in 1 MAX_EVENTS e)) (number_in 1 MAX_SCRIPTS w)
+    (number_in 1 MAX_SCRIPT_EVENTS e)) (number_in 1 MAX_SCRIPTS w)
 load_in run words = None
 
 abbrev pub check_of : Sorted → Option Command

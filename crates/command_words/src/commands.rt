@@ -1,11 +1,11 @@
 //! The command that words say.
-ghost use Rattle.std.specs.Prelude.{◌≡◌, IfOk, Some, map, option_map, string_bytes};
+ghost use Rattle.std.specs.Prelude.{◌≡◌, IfOk, map, option_map, string_bytes};
 ghost use Rattle.command_words.specs.Command.{bins_of, check_of, command, command_named, has_output_options};
 ghost use Rattle.command_words.specs.Command.{load_in, load_of, replaying, reporting_in, running};
 ghost use Rattle.command_words.specs.Views.{reporting_as, said_as, sorted_as};
 
 use crate::command::{Command, Reporting};
-use crate::limits::{MAX_EVENTS, MAX_SCRIPTS};
+use crate::limits::{MAX_SCRIPT_EVENTS, MAX_SCRIPTS};
 use crate::numbers::number_in;
 use crate::operands::{are_values, format_asked, over_files, values_in};
 use crate::sorting::{SortedWords, sorted_words};
@@ -95,7 +95,7 @@ fn load_in(run: bool, operands: &[&str]) -> Option<Command>
     let Some(scripts) = number_in(scripts, 1, MAX_SCRIPTS) else {
         return None;
     };
-    let Some(events) = number_in(events, 1, MAX_EVENTS) else {
+    let Some(events) = number_in(events, 1, MAX_SCRIPT_EVENTS) else {
         return None;
     };
     Some(Command::Load {

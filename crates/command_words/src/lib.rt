@@ -11,7 +11,7 @@ mod sorting;
 
 pub use command::{Command, Reporting};
 pub use commands::command_of;
-pub use limits::{MAX_EVENTS, MAX_FILES, MAX_SCRIPTS, MAX_VALUES};
+pub use limits::{MAX_FILES, MAX_SCRIPT_EVENTS, MAX_SCRIPTS, MAX_VALUES};
 
 #[cfg(test)]
 mod tests;

@@ -1,5 +1,5 @@
 //! What operands name.
-ghost use Rattle.std.specs.Prelude.{◌≡◌, ◌<◌, ◌≤◌, IfOk, is_some, length, map, nat_lt, true, option_map, string_bytes, vec_len};
+ghost use Rattle.std.specs.Prelude.{◌≡◌, ◌≤◌, IfOk, is_some, length, map, nat_lt, true, option_map, string_bytes};
 ghost use Rattle.std.specs.List.{filter_map, list_all};
 ghost use Rattle.command_words.specs.Command.{are_files, are_values, format_asked, format_in, over_files, value_in};
 ghost use Rattle.command_words.specs.Views.{reporting_as};

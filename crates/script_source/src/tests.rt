@@ -1,7 +1,7 @@
 //! The bytes of scripts, pulled in pieces.
 use super::*;
 use event_script::write_event;
-use load_scripts::load_event;
+use load_scripts::{MAX_SCRIPTS, load_event};
 use stats_io::{Pull, Source};
 use std::alloc::Global;
 use std::process::Abort;
@@ -23,6 +23,7 @@ fn pulled(alloc: Global, source: &mut ScriptSource, room: usize) -> Result<Vec<u
 
 // The lines of the first events of a script, written one by one.
 fn written(alloc: Global, script: u32, events: u32) -> Result<Vec<u8>, Fail> {
+    let script = script.min(MAX_SCRIPTS);
     let mut all = Vec::new(alloc);
     let mut x = u64::from(script);
     for _event in 0..events {

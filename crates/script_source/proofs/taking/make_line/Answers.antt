@@ -1,6 +1,6 @@
-use Rattle.std.proofs.Common.{◌≡◌, ◌-◌, ◌++◌, ◌∷◌, [], ℕ, List, ap, ◌∙◌}
+use Rattle.std.proofs.Common.{◌-◌, ◌++◌, ◌∷◌, [], ℕ, ap, ◌∙◌}
 use Rattle.event_script.specs.Grammar.{line_for}
-use Rattle.load_scripts.specs.Load.{event_at, events_behind, next_state}
+use Rattle.load_scripts.specs.Load.{event_at, events_behind}
 use Rattle.event_script.specs.Grammar.{lines_for}
 use Rattle.stat_defs.specs.declared.events.Event.{Event}
 use Rattle.script_source.proofs.Lefts.{next_line}

@@ -1,4 +1,4 @@
-use Rattle.std.proofs.Common.{◌≡◌, ◌+◌, ◌++◌, ◌∙◌, ℕ, List, ap, drop, take, rules, sym, append_assoc}
+use Rattle.std.proofs.Common.{◌+◌, ◌++◌, ◌∙◌, ℕ, List, ap, drop, take, rules, sym, append_assoc}
 use Rattle.std.proofs.lemmas.List.{take_rest, places}
 use Rattle.event_script.specs.Grammar.{lines_for}
 use Rattle.load_scripts.specs.Load.{events_behind}
