@@ -56,7 +56,9 @@ done <<'WORDS'
 --help
 -h
 --version
-run - f
+run
+run -
+run - -f
 chek -
 check
 check - -
@@ -86,6 +88,7 @@ while read -r line; do
 done <<'WORDS'
 bins 18446744073709551615 0
 replay --format admin --symbols - 'a b' f
+run - f
 check boot
 WORDS
 try 'nothing is proved again' 3 'ran x' 'proved' "$top/envoy_stats" x
