@@ -8,11 +8,12 @@ mod Shown
 mod Made
 pub mod InLog
 mod Replayed
+mod Befores
 mod FullNames
 mod ByNumber
 mod Picked
 mod Following
-mod Viewing
+pub mod Viewing
 mod Ready
 pub mod FileEvents
 pub mod Recorded

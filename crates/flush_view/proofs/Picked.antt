@@ -185,3 +185,13 @@ same_rows {R} f g p q (x ∷ xs) same = by_case (p x) (q x) same.0.1 (same_rows 
   by_case false false is rest = rest
   by_case true false is rest = absurd (true_false is)
   by_case false true is rest = absurd (true_false (sym is))
+
+-- rows that are the same for each member that passes
+pub passing_rows : {R : Type 0} (f g : NumberedMetric → R) (p : NumberedMetric → Bool) (xs : List NumberedMetric)
+    → ((x : NumberedMetric) → p x ≡ true → f x ≡ g x) → map f (filter p xs) ≡ map g (filter p xs)
+passing_rows f g p [] same = refl
+passing_rows {R} f g p (x ∷ xs) same = by_case (p x) (same x) (passing_rows f g p xs same) where
+  by_case : (b : Bool) → (b ≡ true → f x ≡ g x) → map f (filter p xs) ≡ map g (filter p xs)
+      → map f (cond b (x ∷ filter p xs) (filter p xs)) ≡ map g (cond b (x ∷ filter p xs) (filter p xs))
+  by_case true one rest = cons_same (f x) (g x) (map f (filter p xs)) (map g (filter p xs)) (one refl) rest
+  by_case false one rest = rest

@@ -1,5 +1,5 @@
 -- What holds where all is ready for a view.
-use Rattle.std.proofs.Common.{◌≡◌, ℕ, suc, ◌+◌, ◌-◌, ◌≤◌, Option, Some, None, List, fold, take, length, slice_get, slice_range, get_or, refl, ap, sym, ◌∙◌, subst, arith, IsUtf8}
+use Rattle.std.proofs.Common.{◌≡◌, ℕ, suc, ◌+◌, ◌<◌, Option, Some, None, List, map, take, length, slice_get, get_or, refl, ap, sym, ◌∙◌, subst, arith, IsUtf8}
 use Rattle.std.specs.Prelude.{option_map}
 use Rattle.std.specs.List.{AllByRecursion}
 use Rattle.std.proofs.lemmas.List.{length-replicate}
@@ -13,9 +13,11 @@ use Rattle.stat_defs.specs.declared.reports.Report.{Report}
 use Rattle.merge_round.specs.Slots.{Slots, held, bins_at}
 use Rattle.book_state.specs.Log.{replay}
 use Rattle.book_state.specs.State.{State, metrics_of}
-use Rattle.book_state.specs.Stored.{StateView, IsLawfulCall, after_entry}
+use Rattle.book_state.specs.Stored.{StateView, IsLawfulCall}
+use Rattle.book_state.proofs.Lists.{get_map, get_within, some_same}
 use Rattle.flush_view.specs.declared.progress.Progress.{Progress}
-use Rattle.flush_view.specs.Kept.{HasFollowed, Follows, IsAtStart, place_of, metrics_made, last_book, ordered_metrics, kept_of}
+use Rattle.flush_view.specs.Before.{Before, before_of, before_flush, place_of}
+use Rattle.flush_view.specs.Kept.{HasFollowed, Follows, IsAtStart, metrics_made, last_book, ordered_metrics, befores_of, kept_of}
 use Rattle.flush_view.specs.Replaying.{AreNext, first_state, state_after}
 use Rattle.flush_view.specs.Rows.{view_kept}
 use Rattle.flush_view.specs.Showing.{IsShowable}
@@ -24,7 +26,7 @@ use Rattle.flush_view.specs.Views.{NumberedMetric, numbered_metrics, view_rules,
 use Rattle.flush_view.proofs.FullNames.{names_are_texts}
 use Rattle.flush_view.proofs.Following.{no_bins_at, no_sum_at}
 use Rattle.flush_view.proofs.Picked.{all_in_order, names_within}
-use Rattle.flush_view.proofs.Replayed.{tags_drawn, all_next, state_replayed, next_between}
+use Rattle.flush_view.proofs.Replayed.{tags_drawn, all_next, state_replayed}
 use Rattle.flush_view.proofs.Viewing.{taken_to, followed_on, view_is}
 
 pub next_same : (tags tags' : List TagSpec) (n n' : ℕ) (log log' : List Entry) → tags ≡ tags' → n ≡ n' → log ≡ log'
@@ -63,50 +65,51 @@ module _ (config : Config) (report : Report) where
       (stored_is report.log)
       (names_are_texts first refl refl report.log next)))
 
+  -- what is known before each sweep is that of the replay
+  pub befores_known : (tags : List TagSpec) (workers : ℕ) → tags ≡ config.tags → workers ≡ ends_in report.log
+      → map (before_flush (first_state tags workers) report.log) report.flushes ≡ befores_of config report
+  befores_known tags workers same_tags same_workers =
+      (λ i. map (before_flush (first_state (same_tags i) (same_workers i)) report.log) report.flushes)
+      ∙ (λ i. map (λ (flush : FlushRecord). before_of (known_at flush i)) report.flushes) where
+        known_at : (flush : FlushRecord)
+            → (state_after config.tags (ends_in report.log) (take (place_of report.log flush) report.log)).state
+            ≡ state_before (view_rules config).names report.log flush
+        known_at flush =
+            ap (λ (l : List Entry). (state_after config.tags (ends_in report.log) l).state)
+            (taken_to flush.at report.log)
+            ∙ stored_is (take flush.at report.log)
+
   -- before the first flush
-  pub started : (tags : List TagSpec) (workers count : ℕ) (progress : Progress) → IsAtStart tags workers count progress
-      → tags ≡ config.tags → workers ≡ ends_in report.log → count ≡ metrics_made config report
+  pub started : (count : ℕ) (progress : Progress) → IsAtStart count progress → count ≡ metrics_made config report
       → HasFollowed config report 0 progress
-  started tags workers count progress start same_tags same_workers same_count =
-      let none = start.applied in
-      record {
-        book =
-            start.book
-            ∙ (λ i. first_state (same_tags i) (same_workers i))
-            ∙ ap (λ (n : ℕ). fold after_entry first (take n report.log)) (sym none);
-        within = omega (arith, none);
-        before = λ flush at. omega (arith, none);
-        sums = ap length start.totals ∙ length-replicate {A = ℕ} count 0 ∙ same_count;
-        slots = ap length start.cumulative ∙ length-replicate {A = Option (List BinCount)} count None ∙ same_count;
-        totals = λ id below. ap (λ (l : List ℕ). get_or l id 0) start.totals ∙ no_sum_at count id;
-        bins = λ id below. ap (λ (l : Slots). bins_at l id) start.cumulative ∙ ap held (no_bins_at count id);
-      }
+  started count progress start same_count = record {
+    sums = ap length start.totals ∙ length-replicate {A = ℕ} count 0 ∙ same_count;
+    slots = ap length start.cumulative ∙ length-replicate {A = Option (List BinCount)} count None ∙ same_count;
+    totals = λ id below. ap (λ (l : List ℕ). get_or l id 0) start.totals ∙ no_sum_at count id;
+    bins = λ id below. ap (λ (l : Slots). bins_at l id) start.cumulative ∙ ap held (no_bins_at count id);
+  }
 
   module _ (k : ℕ) (progress : Progress) (ready : IsReady config report k progress) (flush : FlushRecord)
       (at : slice_get report.flushes k ≡ Some flush) where
-    -- the entries up to the flush are the next ones
-    pub entries_next : (log : List Entry) → log ≡ report.log
-        → AreNext progress.book (slice_range log progress.applied (place_of log flush))
-    entries_next log same =
-        subst (λ (l : List Entry). AreNext progress.book (slice_range l progress.applied (place_of l flush))) (sym same)
-        (subst (λ (v : StateView). AreNext v (slice_range report.log progress.applied (place_of report.log flush)))
-        (sym ready.followed.book)
-        (next_between first report.log progress.applied (place_of report.log flush - progress.applied) ready.next))
+    module _ (befores : List Before) (are : befores ≡ befores_of config report) where
+      before_got : slice_get befores k ≡ Some (before_of (state_before (view_rules config).names report.log flush))
+      before_got =
+          ap (λ (l : List Before). slice_get l k) are
+          ∙ get_map (λ (f : FlushRecord). before_of (state_before (view_rules config).names report.log f)) report.flushes k
+          ∙ ap (option_map (λ (f : FlushRecord). before_of (state_before (view_rules config).names report.log f))) at
 
-    pub within_place : (log : List Entry) → log ≡ report.log → progress.applied ≤ place_of log flush
-    within_place log same =
-        let low = ready.followed.before flush at in
-        let inside = ready.followed.within in
-        let long = ap length same in
-        omega (arith, low, inside, long)
+      -- what is known before the sweep of the flush is there
+      pub before_there : k < length befores
+      before_there =
+          get_within befores k (before_of (state_before (view_rules config).names report.log flush)) before_got
 
-    module _ (new : Progress) (log : List Entry) (same : log ≡ report.log)
-        (follows : Follows log flush progress new) where
-      follows_log : Follows report.log flush progress new
-      follows_log = subst (λ (l : List Entry). Follows l flush progress new) same follows
+      pub before_is : (before : Before) → slice_get befores k ≡ Some before
+          → before ≡ before_of (state_before (view_rules config).names report.log flush)
+      before_is before read = some_same before _ (sym read ∙ before_got)
 
+    module _ (new : Progress) (follows : Follows flush progress new) where
       followed : HasFollowed config report (suc k) new
-      followed = followed_on config report ready.showable k flush at progress new ready.followed follows_log
+      followed = followed_on config report ready.showable k flush at progress new ready.followed follows
 
       pub ready_next : IsReady config report (k + 1) new
       ready_next = record {
@@ -115,21 +118,15 @@ module _ (config : Config) (report : Report) where
         followed = subst (λ (n : ℕ). HasFollowed config report n new) (omega arith) followed;
       }
 
-      book_before : new.book.state ≡ state_before (view_rules config).names report.log flush
-      book_before =
-          ap (λ (v : StateView). v.state) followed.book
-          ∙ ap (λ (n : ℕ). (state_after config.tags (ends_in report.log) (take n report.log)).state) follows_log.applied
-          ∙ ap (λ (l : List Entry). (state_after config.tags (ends_in report.log) l).state)
-          (taken_to flush.at report.log)
-          ∙ stored_is (take flush.at report.log)
-
       -- the view that is made is the one of the flush
-      pub view_shown : (metrics : List NumberedMetric) → metrics ≡ ordered_metrics config report
-          → Some (view_kept (view_rules config).bounds new.book.state
+      pub view_shown : (before : Before) (metrics : List NumberedMetric)
+          → before ≡ before_of (state_before (view_rules config).names report.log flush)
+          → metrics ≡ ordered_metrics config report
+          → Some (view_kept (view_rules config).bounds before
           (kept_of (length metrics) flush new.totals.items new.cumulative.items) metrics)
           ≡ view (view_rules config) report.log report.flushes k
-      view_shown metrics is =
-          ap Some (view_is config report ready.showable k flush at new metrics followed book_before is)
+      view_shown before metrics known is =
+          ap Some (view_is config report ready.showable k flush at before new metrics followed known is)
           ∙ sym (ap
           (option_map
           (λ (f : FlushRecord). view_of (view_rules config) report.log f (take (suc k) report.flushes))) at)

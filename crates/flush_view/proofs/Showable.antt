@@ -122,7 +122,7 @@ apart_few (es ∷ events) (vs ∷ verdicts) = let rest = apart_few events verdic
 
 module _ (config : Config) (contents : List (Option (List ℕ))) (events : List (List Event)) (report : Report)
     (lawful_config : IsConfig config) (few : length contents ≤ MAX_WORKERS) where
-  files : AreRead contents events report → AllByRecursion AreOfFile events × (length events ≡ length contents)
+  pub files : AreRead contents events report → AllByRecursion AreOfFile events × (length events ≡ length contents)
   files read =
       let ends = read.an_end_each in
       let verdicts = read.verdicts_each in
@@ -150,7 +150,7 @@ module _ (config : Config) (contents : List (Option (List ℕ))) (events : List 
     values = values plan workers report is.account bounded;
   }
 
-  bounded : (workers : List Work) → length events ≡ length contents
+  pub bounded : (workers : List Work) → length events ≡ length contents
       → AreBounded (events_in_files (length events)) workers
       → AreBounded (events_in_files MAX_WORKERS) workers
   bounded workers same files =

@@ -1,5 +1,5 @@
 -- The view that is made of what is kept is the view of the flush, and what is kept goes on with it.
-use Rattle.std.proofs.Common.{◌≡◌, ℕ, zero, suc, ◌+◌, ◌-◌, ◌<◌, ◌≤◌, ◌||◌, ◌&&◌, min, nat_lt, Bool, true, false, Some, None, List, [], ◌∷◌, map, fold, take, length, get_or, replicate, slice_get, slice_range, cond, refl, ap, sym, ◌∙◌, arith, inl, inr}
+use Rattle.std.proofs.Common.{◌≡◌, ℕ, suc, ◌+◌, ◌<◌, ◌||◌, ◌&&◌, min, nat_lt, Bool, true, false, Some, None, List, [], ◌∷◌, map, take, length, get_or, replicate, slice_get, cond, refl, ap, sym, ◌∙◌, arith, inl, inr}
 use Rattle.std.specs.List.{flat_map, AllByRecursion}
 use Rattle.std.proofs.lemmas.Bool.Decides.{leb_tells}
 use Rattle.std.proofs.lemmas.List.{length-map, take_all}
@@ -14,21 +14,20 @@ use Rattle.stat_defs.specs.declared.reports.Report.{Report}
 use Rattle.stat_defs.specs.Keys.{same_kind}
 use Rattle.merge_round.specs.Slots.{Slots, bins_at}
 use Rattle.book_state.specs.State.{State, metrics_of}
-use Rattle.book_state.specs.Stored.{after_entry}
-use Rattle.book_state.proofs.Lists.{not_some, some_same, get_within}
+use Rattle.book_state.proofs.Lists.{true_false}
 use Rattle.ledger.specs.Flushes.{flushed}
+use Rattle.flush_view.specs.Before.{Before, before_of, is_left}
 use Rattle.flush_view.specs.ByName.{comes_before, put_by_name, by_name}
 use Rattle.flush_view.specs.declared.progress.Progress.{Progress}
-use Rattle.flush_view.specs.Kept.{HasFollowed, Follows, place_of, metrics_made, last_book, ordered_metrics, kept_of}
-use Rattle.flush_view.specs.Replaying.{first_state}
-use Rattle.flush_view.specs.Rows.{view_kept, picked, shows_counter, shows_histogram, counter_at, gauge_at, histogram_at}
+use Rattle.flush_view.specs.Kept.{HasFollowed, Follows, metrics_made, last_book, ordered_metrics, kept_of}
+use Rattle.flush_view.specs.Rows.{view_kept, picked, shows_counter, shows_histogram, counter_at, gauge_at, text_at, histogram_at}
 use Rattle.flush_view.specs.Showing.{IsShowable}
 use Rattle.flush_view.specs.Sums.{with_deltas, with_readings, with_parts}
-use Rattle.flush_view.specs.Views.{NumberedMetric, row_name, numbered_metrics, metrics_shown, has_not_gone, has_counter_row, has_histogram_row, counter_row, gauge_row, text_row, histogram_row, view_rules, view_of, state_before, ends_in, merged_parts, parts_on}
+use Rattle.flush_view.specs.Views.{NumberedMetric, row_name, numbered_metrics, metrics_shown, has_not_gone, has_counter_row, has_histogram_row, counter_row, gauge_row, text_row, histogram_row, view_rules, view_of, state_before, merged_parts, parts_on}
+use Rattle.flush_view.proofs.Befores.{left_same, text_same}
 use Rattle.flush_view.proofs.ByNumber.{length-with_deltas, length-with_parts}
 use Rattle.flush_view.proofs.Following.{totals_behind, bins_behind, units_alone, intervals_alone, words_alone}
-use Rattle.flush_view.proofs.Picked.{metrics_picked, all_in_order, ids_within, same_rows}
-use Rattle.flush_view.proofs.Replayed.{applied_between}
+use Rattle.flush_view.proofs.Picked.{metrics_picked, all_in_order, ids_within, same_rows, passing_rows}
 
 each_so : {X : Type 0} (P Q : X → Type 0) → ((x : X) → P x → Q x) → (xs : List X) → AllByRecursion P xs
     → AllByRecursion Q xs
@@ -43,7 +42,7 @@ length-put name x (y ∷ ys) = by_case (comes_before name y x) (length-put name 
   by_case true rest = ap suc rest
   by_case false rest = refl
 
-length-by_name : {X : Type 0} (name : X → List ℕ) (xs : List X) → length (by_name name xs) ≡ length xs
+pub length-by_name : {X : Type 0} (name : X → List ℕ) (xs : List X) → length (by_name name xs) ≡ length xs
 length-by_name name [] = refl
 length-by_name name (x ∷ xs) = length-put name x (by_name name xs) ∙ ap suc (length-by_name name xs)
 
@@ -58,46 +57,20 @@ taken_to n log = elim (leb_tells n (length log)) [
       ∙ sym (take_all n log (omega (arith, past)))
 ]
 
-place_in : (flushes : List FlushRecord) (k : ℕ) (flush : FlushRecord) → slice_get flushes k ≡ Some flush
-    → get_or (map (λ (f : FlushRecord). f.at) flushes) k 0 ≡ flush.at
-place_in [] k flush at = absurd (not_some flush at)
-place_in (first ∷ flushes) zero flush at = ap (λ (f : FlushRecord). f.at) (some_same first flush at)
-place_in (first ∷ flushes) (suc k) flush at = place_in flushes k flush at
+both_pass : (a b : Bool) → (a && b) ≡ true → b ≡ true
+both_pass true b pass = pass
+both_pass false b pass = absurd (true_false (sym pass))
 
 module _ (config : Config) (report : Report) (can : IsShowable config report) (k : ℕ) (flush : FlushRecord)
     (at : slice_get report.flushes k ≡ Some flush) where
-  -- the next flush does not stand before this one
-  next_after : (next : FlushRecord) → slice_get report.flushes (suc k) ≡ Some next → flush.at ≤ next.at
-  next_after next there =
-      let here = place_in report.flushes k flush at in
-      let later = place_in report.flushes (suc k) next there in
-      let within = get_within report.flushes (suc k) next there in
-      let long = length-map report.flushes (λ (f : FlushRecord). f.at) in
-      let rise = can.rising k (suc k) 0 (omega arith) (omega (arith, within, long)) in
-      omega (arith, here, later, rise)
-
-  pub followed_on : (old new : Progress) → HasFollowed config report k old → Follows report.log flush old new
+  pub followed_on : (old new : Progress) → HasFollowed config report k old → Follows flush old new
       → HasFollowed config report (suc k) new
   followed_on old new was follows =
-      let first = first_state config.tags (ends_in report.log) in
-      let log = report.log in
-      let place = place_of log flush in
-      let low = was.before flush at in
-      let inside = was.within in
-      let applied = follows.applied in
-      let steps : old.applied + (place - old.applied) ≡ new.applied = omega (arith, low, inside, applied) in
       let long = length-with_deltas old.totals.items flush.deltas in
       let wide = length-with_parts old.cumulative.items flush.parts in
       let had = was.sums in
       let held = was.slots in
       record {
-        book =
-            follows.book
-            ∙ ap (λ book. fold after_entry book (slice_range log old.applied place)) was.book
-            ∙ applied_between first log old.applied (place - old.applied)
-            ∙ ap (λ (n : ℕ). fold after_entry first (take n log)) steps;
-        within = omega (arith, applied);
-        before = λ next there. let later = next_after next there in omega (arith, applied, later);
         sums = ap length follows.totals ∙ long ∙ had;
         slots = ap length follows.cumulative ∙ wide ∙ held;
         totals = λ id below.
@@ -153,28 +126,35 @@ module _ (config : Config) (report : Report) (can : IsShowable config report) (k
     bounds = (view_rules config).bounds
 
     counters_same : map (counter_at (with_deltas (replicate count 0) flush.deltas) totals)
-        (picked Counter (shows_counter before (with_deltas (replicate count 0) flush.deltas)) ordered)
+        (picked Counter (shows_counter (before_of before) (with_deltas (replicate count 0) flush.deltas)) ordered)
         ≡ map (counter_row flush so_far) (metrics_shown Counter (has_counter_row before flush) last)
     counters_same = rows_same Counter _ _ _ _ (λ numbered below.
         let delta = units_alone config report can k flush at count numbered.0 below in
         let total = total_at numbered.0 (omega (arith, below, counts)) in (
           λ i. record { name = numbered.1.name; tagged = numbered.1.tagged; delta = delta i; total = total i },
-          ap (λ n. has_not_gone before numbered.0 || nat_lt 0 n) delta,
+          λ i. left_same before numbered.0 i || nat_lt 0 (delta i),
         ))
 
     gauges_same : map (gauge_at (with_readings (replicate count 0) flush.gauges))
-        (picked Gauge (has_not_gone before) ordered)
+        (picked Gauge (is_left (before_of before)) ordered)
         ≡ map (gauge_row flush) (metrics_shown Gauge (has_not_gone before) last)
     gauges_same = rows_same Gauge _ _ _ _ (λ numbered below.
         let word = words_alone flush count numbered.0 below in
-        (λ i. record { name = numbered.1.name; tagged = numbered.1.tagged; value = word i }, refl))
+        (λ i. record { name = numbered.1.name; tagged = numbered.1.tagged; value = word i }, left_same before numbered.0))
 
-    texts_same : map (text_row before) (picked Text (has_not_gone before) ordered)
+    texts_same : map (text_at (before_of before)) (picked Text (is_left (before_of before)) ordered)
         ≡ map (text_row before) (metrics_shown Text (has_not_gone before) last)
-    texts_same = ap (map (text_row before)) (metrics_picked Text (has_not_gone before) last)
+    texts_same =
+        passing_rows (text_at (before_of before)) (text_row before)
+        (λ numbered. same_kind numbered.1.kind Text && is_left (before_of before) numbered.0) ordered
+        (λ numbered pass.
+        text_same before numbered
+        (both_pass (same_kind numbered.1.kind Text) (is_left (before_of before) numbered.0) pass))
+        ∙ (λ i. map (text_row before) (picked Text (λ id. left_same before id i) ordered))
+        ∙ ap (map (text_row before)) (metrics_picked Text (has_not_gone before) last)
 
     histograms_same : map (histogram_at bounds (with_parts (replicate count None) flush.parts) cumulative)
-        (picked Histogram (shows_histogram before (with_parts (replicate count None) flush.parts)) ordered)
+        (picked Histogram (shows_histogram (before_of before) (with_parts (replicate count None) flush.parts)) ordered)
         ≡ map (histogram_row bounds flush so_far) (metrics_shown Histogram (has_histogram_row before flush) last)
     histograms_same = rows_same Histogram _ _ _ _ (λ numbered below.
         let alone = intervals_alone config report can k flush at count numbered.0 below in
@@ -186,10 +166,10 @@ module _ (config : Config) (report : Report) (can : IsShowable config report) (k
             cumulative = all i;
             bounds = bounds numbered.1.name;
           },
-          ap (λ b. has_not_gone before numbered.0 || b) alone.1,
+          λ i. left_same before numbered.0 i || alone.1 i,
         ))
 
-    rows_kept : view_kept bounds before (kept_of count flush totals cumulative) ordered
+    rows_kept : view_kept bounds (before_of before) (kept_of count flush totals cumulative) ordered
         ≡ record {
           counters = map (counter_row flush so_far) (metrics_shown Counter (has_counter_row before flush) last);
           gauges = map (gauge_row flush) (metrics_shown Gauge (has_not_gone before) last);
@@ -205,18 +185,19 @@ module _ (config : Config) (report : Report) (can : IsShowable config report) (k
     }
 
   -- the view of the figures that are kept behind the flush
-  pub view_is : (new : Progress) (metrics : List NumberedMetric) → HasFollowed config report (suc k) new
-      → new.book.state ≡ state_before (view_rules config).names report.log flush
+  pub view_is : (before : Before) (new : Progress) (metrics : List NumberedMetric)
+      → HasFollowed config report (suc k) new
+      → before ≡ before_of (state_before (view_rules config).names report.log flush)
       → metrics ≡ ordered_metrics config report
-      → view_kept (view_rules config).bounds new.book.state
+      → view_kept (view_rules config).bounds before
       (kept_of (length metrics) flush new.totals.items new.cumulative.items) metrics
       ≡ view_of (view_rules config) report.log flush (take (suc k) report.flushes)
-  view_is new metrics followed before is =
+  view_is before new metrics followed known is =
       let count : length (ordered_metrics config report) ≡ metrics_made config report =
       length-by_name row_name (numbered_metrics (last_book config report))
       ∙ length-enumerate_from 0 (metrics_of (last_book config report))
       ∙ length-map (last_book config report).metrics (λ row. row.metric) in
-      (λ i. view_kept (view_rules config).bounds (before i)
+      (λ i. view_kept (view_rules config).bounds (known i)
       (kept_of (length (is i)) flush new.totals.items new.cumulative.items) (is i))
       ∙ rows_kept
       (state_before

@@ -2,6 +2,7 @@
 //! views.
 #![tactic(auto)]
 
+mod before;
 mod copies;
 mod laws;
 mod naming;

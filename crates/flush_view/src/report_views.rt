@@ -2,16 +2,16 @@
 ghost use Rattle.std.specs.Prelude.{◌≡◌, ◌<◌, ◌≤◌, true, false, length, map, IfOk, OnOk, OnErr};
 ghost use Rattle.book_state.specs.State.{metrics_of};
 ghost use Rattle.book_state.specs.declared.limits.TheConstants.{MAX_WORKERS};
-ghost use Rattle.flush_view.specs.Kept.{IsAtStart};
+ghost use Rattle.flush_view.specs.Before.{AreRising, before_flush};
 ghost use Rattle.flush_view.specs.Replaying.{AreNext, first_state, state_after};
 ghost use Rattle.flush_view.specs.Views.{IsView, view_rules, last_state, ends_in};
 ghost use Rattle.flush_view.specs.Symbols.{live_metrics};
 ghost use Rattle.flush_view.specs.Showing.{IsShowable, first_views, view_in_turn, after_view};
 
+use crate::before::Before;
 use crate::naming::{NumberedMetric, in_order, live_in_order};
 use crate::progress::Progress;
-use crate::replaying::{apply_all, ends_in};
-use crate::sums::{no_bins, no_sums};
+use crate::replaying::{apply_with_flushes, ends_in};
 use book_state::{BookState, StateParts};
 use stat_defs::{Config, Entry, FlushView, Metric, NoMemory, Report};
 use std::alloc::Global;
@@ -29,6 +29,8 @@ pub struct ReportViews<'a> {
     whole: bool,
     // Every metric of the whole log, by full name.
     metrics: Vec<NumberedMetric>,
+    // What is known before the sweep of each flush.
+    befores: Vec<Before>,
     progress: Progress,
 }
 
@@ -52,38 +54,24 @@ fn workers_of(log: &[Entry]) -> u32
     ends_in(log) as u32
 }
 
-// The tag rules and the metrics of the book after a whole log.
+// The metrics of the book after the whole log of a report, and what is known before the sweep of each flush.
 fn replayed(
     alloc: Global,
     rules: TagRules,
     workers: u32,
-    log: &[Entry],
-) -> Result<StateParts, NoMemory>
-    requires { AreNext (first_state rules workers) log.now }
-    ensures rules { IfOk result (λ parts. parts.rules ≡ rules) }
-    ensures metrics { IfOk result (λ parts. parts.metrics.items
-        ≡ metrics_of (state_after rules workers log.now).state) }
+    report: &Report,
+) -> Result<(Vec<Metric>, Vec<Before>), NoMemory>
+    requires next { AreNext (first_state rules workers) report.now.log }
+    requires rising { AreRising 0 report.now.flushes }
+    ensures metrics { IfOk result (λ made. made.0.items
+        ≡ metrics_of (state_after rules workers report.now.log).state) }
+    ensures befores { IfOk result (λ made. made.1.items
+        ≡ map (before_flush (first_state rules workers) report.now.log) report.now.flushes) }
 {
     let mut book = BookState::new(alloc, rules, workers)?;
-    apply_all(alloc, &mut book, log)?;
-    book.into_parts(alloc)
-}
-
-// Nothing is followed yet.
-fn no_progress(
-    alloc: Global,
-    rules: TagRules,
-    workers: u32,
-    count: usize,
-) -> Result<Progress, NoMemory>
-    ensures { IfOk result (IsAtStart rules workers count) }
-{
-    Ok(Progress {
-        book: BookState::new(alloc, rules, workers)?,
-        applied: 0,
-        totals: no_sums(alloc, count)?,
-        cumulative: no_bins(alloc, count)?,
-    })
+    let befores = apply_with_flushes(alloc, &mut book, report.log.items(), report.flushes.items())?;
+    let StateParts { rules: _, metrics } = book.into_parts(alloc)?;
+    Ok((metrics, befores))
 }
 
 impl<'a> ReportViews<'a> {
@@ -100,11 +88,9 @@ impl<'a> ReportViews<'a> {
         requires showable { IsShowable config.now report.now }
         ensures { IfOk result (λ views. views ≡ first_views config.now report.now) }
     {
-        let log = report.log.items();
-        let workers = workers_of(log);
-        let parts = replayed(alloc, rules, workers, log)?;
-        let StateParts { rules, metrics } = parts;
-        let progress = no_progress(alloc, rules, workers, metrics.len())?;
+        let workers = workers_of(report.log.items());
+        let (metrics, befores) = replayed(alloc, rules, workers, report)?;
+        let progress = Progress::new(alloc, metrics.len())?;
         Ok(ReportViews {
             config,
             buckets,
@@ -112,6 +98,7 @@ impl<'a> ReportViews<'a> {
             given: 0,
             whole: true,
             metrics: in_order(alloc, metrics)?,
+            befores,
             progress,
         })
     }
@@ -128,10 +115,11 @@ impl<'a> ReportViews<'a> {
             return Ok(None);
         };
         self.whole = false;
-        self.progress.follow(alloc, report.log.items(), flush)?;
+        self.progress.follow(alloc, flush)?;
+        let before = self.befores[self.given].items();
         let view = self
             .progress
-            .view(alloc, self.buckets, &self.metrics, flush)?;
+            .view(alloc, self.buckets, before, &self.metrics, flush)?;
         self.given += 1;
         self.whole = true;
         Ok(Some(view))

@@ -3,30 +3,27 @@ ghost use Rattle.std.specs.Prelude.{◌≡◌, ◌&&◌, IfOk, IsUtf8, All, map}
 ghost use Rattle.stat_defs.specs.declared.ids.Kind.TheVariants as kind;
 ghost use Rattle.stat_defs.specs.Keys.{same_kind};
 ghost use Rattle.tag_rules.specs.Bounds.{bounds_for};
-ghost use Rattle.flush_view.specs.Views.{has_not_gone, text_row};
+ghost use Rattle.flush_view.specs.Before.{is_left};
 ghost use Rattle.flush_view.specs.Rows.{picked, shows_counter, shows_histogram, counter_at, gauge_at, histogram_at};
-ghost use Rattle.flush_view.specs.Rows.{text_before};
+ghost use Rattle.flush_view.specs.Rows.{text_at};
 
+use crate::before::{is_left, text_left};
 use crate::copies::copy_of_tagged;
 use crate::naming::{NumberedMetric, is_of_kind};
-use crate::replaying::has_not_gone;
 use crate::sums::{has_bins_at, pairs_at, sum_at};
-use book_state::BookState;
 use loglinear_bins::Bins;
-use stat_defs::{
-    Bound, CounterRow, GaugeRow, HistRow, Kind, List, MetricId, NoMemory, TextRow, Txt,
-};
+use stat_defs::{Bound, CounterRow, GaugeRow, HistRow, Kind, List, NoMemory, TextRow, Txt};
 use std::alloc::Global;
 use tag_rules::Buckets;
 
-fn shows_counter(book: &BookState, units: &[u64], numbered: &NumberedMetric) -> bool
+fn shows_counter(before: &[Option<Txt>], units: &[u64], numbered: &NumberedMetric) -> bool
     ensures { result ≡ (same_kind numbered.now.1.kind kind.Counter
-        && shows_counter book.now.state units.now numbered.now.0) }
+        && shows_counter before.now units.now numbered.now.0) }
 {
     if !is_of_kind(&numbered.1, Kind::Counter) {
         return false;
     }
-    if has_not_gone(book, numbered.0) {
+    if is_left(before, numbered.0) {
         return true;
     }
     sum_at(units, numbered.0) > 0
@@ -51,30 +48,30 @@ fn counter_row(
 /// The rows of the counters.
 pub(crate) fn counter_rows(
     alloc: Global,
-    book: &BookState,
+    before: &[Option<Txt>],
     units: &[u64],
     totals: &[u64],
     metrics: &[NumberedMetric],
 ) -> Result<List<CounterRow>, NoMemory>
     ensures { IfOk result (λ rows. rows ≡ map (counter_at units.now totals.now)
-        (picked kind.Counter (shows_counter book.now.state units.now) metrics.now)) }
+        (picked kind.Counter (shows_counter before.now units.now) metrics.now)) }
 {
     let mut rows = Vec::new(alloc);
     for numbered in metrics {
-        if shows_counter(book, units, numbered) {
+        if shows_counter(before, units, numbered) {
             rows.push(counter_row(alloc, units, totals, numbered)?)?;
         }
     }
     Ok(List::of(rows))
 }
 
-fn shows_left(book: &BookState, shown: Kind, numbered: &NumberedMetric) -> bool
-    ensures { result ≡ (same_kind numbered.now.1.kind shown && has_not_gone book.now.state numbered.now.0) }
+fn shows_left(before: &[Option<Txt>], shown: Kind, numbered: &NumberedMetric) -> bool
+    ensures { result ≡ (same_kind numbered.now.1.kind shown && is_left before.now numbered.now.0) }
 {
     if !is_of_kind(&numbered.1, shown) {
         return false;
     }
-    has_not_gone(book, numbered.0)
+    is_left(before, numbered.0)
 }
 
 fn gauge_row(alloc: Global, words: &[u64], numbered: &NumberedMetric) -> Result<GaugeRow, NoMemory>
@@ -90,70 +87,65 @@ fn gauge_row(alloc: Global, words: &[u64], numbered: &NumberedMetric) -> Result<
 /// The rows of the gauges.
 pub(crate) fn gauge_rows(
     alloc: Global,
-    book: &BookState,
+    before: &[Option<Txt>],
     words: &[u64],
     metrics: &[NumberedMetric],
 ) -> Result<List<GaugeRow>, NoMemory>
     ensures { IfOk result (λ rows. rows ≡ map (gauge_at words.now)
-        (picked kind.Gauge (has_not_gone book.now.state) metrics.now)) }
+        (picked kind.Gauge (is_left before.now) metrics.now)) }
 {
     let mut rows = Vec::new(alloc);
     for numbered in metrics {
-        if shows_left(book, Kind::Gauge, numbered) {
+        if shows_left(before, Kind::Gauge, numbered) {
             rows.push(gauge_row(alloc, words, numbered)?)?;
         }
     }
     Ok(List::of(rows))
 }
 
-fn text_of(alloc: Global, book: &BookState, id: usize) -> Result<Txt, NoMemory>
-    ensures { IfOk result (λ text. text ≡ text_before book.now.state id) }
-{
-    if id >= book.made() as usize {
-        return Txt::of(alloc, b"");
-    }
-    Ok(book.metric(MetricId(id as u32)).text.clone()?)
-}
-
 fn row_of_text(
     alloc: Global,
-    book: &BookState,
+    before: &[Option<Txt>],
     numbered: &NumberedMetric,
 ) -> Result<TextRow, NoMemory>
-    ensures { IfOk result (λ row. row ≡ text_row book.now.state numbered.now) }
+    ensures { IfOk result (λ row. row ≡ text_at before.now numbered.now) }
 {
     Ok(TextRow {
         name: numbered.1.name.clone()?,
-        text: text_of(alloc, book, numbered.0)?,
+        text: text_left(alloc, before, numbered.0)?,
     })
 }
 
 /// The rows of the text readouts.
 pub(crate) fn text_rows(
     alloc: Global,
-    book: &BookState,
+    before: &[Option<Txt>],
     metrics: &[NumberedMetric],
 ) -> Result<List<TextRow>, NoMemory>
-    ensures { IfOk result (λ rows. rows ≡ map (text_row book.now.state)
-        (picked kind.Text (has_not_gone book.now.state) metrics.now)) }
+    ensures { IfOk result (λ rows. rows ≡ map (text_at before.now)
+        (picked kind.Text (is_left before.now) metrics.now)) }
 {
     let mut rows = Vec::new(alloc);
     for numbered in metrics {
-        if shows_left(book, Kind::Text, numbered) {
-            rows.push(row_of_text(alloc, book, numbered)?)?;
+        if shows_left(before, Kind::Text, numbered) {
+            rows.push(row_of_text(alloc, before, numbered)?)?;
         }
     }
     Ok(List::of(rows))
 }
 
-fn shows_histogram(book: &BookState, intervals: &[Option<Bins>], numbered: &NumberedMetric) -> bool
+fn shows_histogram(
+    before: &[Option<Txt>],
+    intervals: &[Option<Bins>],
+    numbered: &NumberedMetric,
+) -> bool
     ensures { result ≡ (same_kind numbered.now.1.kind kind.Histogram
-        && shows_histogram book.now.state intervals.now numbered.now.0) }
+        && shows_histogram before.now intervals.now numbered.now.0) }
 {
     if !is_of_kind(&numbered.1, Kind::Histogram) {
         return false;
     }
-    if has_not_gone(book, numbered.0) {
+    if is_left(before, numbered.0) {
         return true;
     }
     has_bins_at(intervals, numbered.0)
@@ -190,7 +182,7 @@ fn histogram_row(
 /// The rows of the histograms.
 pub(crate) fn histogram_rows(
     alloc: Global,
-    book: &BookState,
+    before: &[Option<Txt>],
     buckets: &Buckets,
     intervals: &[Option<Bins>],
     cumulative: &[Option<Bins>],
@@ -198,11 +190,11 @@ pub(crate) fn histogram_rows(
 ) -> Result<List<HistRow>, NoMemory>
     requires { All (λ numbered. IsUtf8 numbered.1.name) metrics.now }
     ensures { IfOk result (λ rows. rows ≡ map (histogram_at (bounds_for buckets.now) intervals.now cumulative.now)
-        (picked kind.Histogram (shows_histogram book.now.state intervals.now) metrics.now)) }
+        (picked kind.Histogram (shows_histogram before.now intervals.now) metrics.now)) }
 {
     let mut rows = Vec::new(alloc);
     for numbered in metrics {
-        if shows_histogram(book, intervals, numbered) {
+        if shows_histogram(before, intervals, numbered) {
             rows.push(histogram_row(alloc, buckets, intervals, cumulative, numbered)?)?;
         }
     }

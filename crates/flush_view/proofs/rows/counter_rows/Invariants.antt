@@ -7,4 +7,4 @@ abbrev pub invariant-loop-numbered : goal.invariant-loop-numbered
 invariant-loop-numbered l =
     l.rows.items
     ≡ map (counter_at l.units l.totals)
-    (picked Counter (shows_counter l.book.state l.units) (take l.numbered-index l.metrics))
+    (picked Counter (shows_counter l.before l.units) (take l.numbered-index l.metrics))

@@ -8,4 +8,4 @@ abbrev pub invariant-loop-numbered : goal.invariant-loop-numbered
 invariant-loop-numbered l =
     l.rows.items
     ≡ map (histogram_at (bounds_for l.buckets) l.intervals l.cumulative)
-    (picked Histogram (shows_histogram l.book.state l.intervals) (take l.numbered-index l.metrics))
+    (picked Histogram (shows_histogram l.before l.intervals) (take l.numbered-index l.metrics))

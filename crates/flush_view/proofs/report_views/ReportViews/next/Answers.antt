@@ -1,4 +1,4 @@
-use Rattle.std.proofs.Common.{◌∙◌, List, All, Some, length, slice_get, ap, sym, subst, IsUtf8}
+use Rattle.std.proofs.Common.{◌∙◌, ◌<◌, List, All, Some, length, slice_get, ap, sym, subst, rules, IsUtf8}
 use Rattle.std.proofs.lemmas.List.Elements.{All-from_recursion}
 use Rattle.stat_defs.specs.declared.configs.BucketSpec.{BucketSpec}
 use Rattle.stat_defs.specs.declared.reports.FlushRecord.{FlushRecord}
@@ -10,21 +10,11 @@ use Rattle.flush_view.specs.Rows.{view_kept}
 use Rattle.flush_view.specs.Showing.{ViewHistory, view_in_turn}
 use Rattle.flush_view.specs.Views.{NumberedMetric}
 use Rattle.flush_view.proofs.Following.{room_alone, room_beside}
-use Rattle.flush_view.proofs.Ready.{ordered_texts, entries_next, ready_next, view_shown}
+use Rattle.flush_view.proofs.Ready.{ordered_texts, before_there, before_is, ready_next, view_shown}
 use Rattle.flush_view.proofs.report_views.ReportViews.next.Goals as goal
 
-pub follow-requires-clause-next : goal.follow-requires-clause-next
-follow-requires-clause-next c =
-    let v = c.self.inside in
-    let ready = c.self.invariant.ready (ap (λ (h : ViewHistory). h.whole) c.self.view_is ∙ c.requires.whole) in
-    let look = c.in-Some.ensures.lookup in
-    let at = get_read c.items.result.now v.given c.in-Some.flush.now look.3.0 look.1 in
-    entries_next v.config.now v.report.now v.given v.progress ready c.in-Some.flush.now
-    (ap (λ (l : List FlushRecord). slice_get l v.given) (sym c.items.ensures)
-    ∙ at) c.items-2.result.now c.items-2.ensures
-
-pub follow-requires-clause-room : goal.follow-requires-clause-room
-follow-requires-clause-room c =
+pub follow-requires : goal.follow-requires
+follow-requires c =
     let v = c.self.inside in
     let ready = c.self.invariant.ready (ap (λ (h : ViewHistory). h.whole) c.self.view_is ∙ c.requires.whole) in
     let look = c.in-Some.ensures.lookup in
@@ -60,11 +50,22 @@ invariant_of-self-2 c =
     let at = get_read c.items.result.now v.given c.in-Some.flush.now look.3.0 look.1 in
     record {
       metrics = c.self.invariant.metrics;
+      befores = c.self.invariant.befores;
       buckets = c.self.invariant.buckets;
       ready = λ whole. ready_next v.config.now v.report.now v.given v.progress ready c.in-Some.flush.now
           (ap (λ (l : List FlushRecord). slice_get l v.given) (sym c.items.ensures) ∙ at)
-          c.follow.new.self c.items-2.result.now c.items-2.ensures c.in_ok-follow.ensures;
+          c.follow.new.self c.in_ok-follow.ensures;
     }
+
+pub index-requires : goal.index-requires
+index-requires c =
+    let v = c.self.inside in
+    let ready = c.self.invariant.ready (ap (λ (h : ViewHistory). h.whole) c.self.view_is ∙ c.requires.whole) in
+    let look = c.in-Some.ensures.lookup in
+    let at = get_read c.items.result.now v.given c.in-Some.flush.now look.3.0 look.1 in
+    let there : v.given < length v.befores.items = before_there v.config.now v.report.now v.given v.progress ready c.in-Some.flush.now
+    (ap (λ (l : List FlushRecord). slice_get l v.given) (sym c.items.ensures) ∙ at) v.befores.items c.self.invariant.befores in
+    search (rules, there)
 
 pub returns-clause-shown : goal.returns-clause-shown
 returns-clause-shown c =
@@ -72,11 +73,17 @@ returns-clause-shown c =
     let ready = c.self.invariant.ready (ap (λ (h : ViewHistory). h.whole) c.self.view_is ∙ c.requires.whole) in
     let look = c.in-Some.ensures.lookup in
     let at = get_read c.items.result.now v.given c.in-Some.flush.now look.3.0 look.1 in
+    let there = before_there v.config.now v.report.now v.given v.progress ready c.in-Some.flush.now
+    (ap (λ (l : List FlushRecord). slice_get l v.given) (sym c.items.ensures) ∙ at) v.befores.items c.self.invariant.befores in
+    let known = c.items-before.ensures
+    ∙ before_is v.config.now v.report.now v.given v.progress ready c.in-Some.flush.now
+    (ap (λ (l : List FlushRecord). slice_get l v.given) (sym c.items.ensures) ∙ at) v.befores.items c.self.invariant.befores
+    c.index.result.now (get_read v.befores.items v.given c.index.result.now there c.index.ensures) in
     ap (λ (view : FlushView). Some view) c.in_ok-view.ensures
-    ∙ ap (λ (settings : List BucketSpec). Some (view_kept (bounds_for settings) c.follow.new.self.book.state
+    ∙ ap (λ (settings : List BucketSpec). Some (view_kept (bounds_for settings) c.items-before.result.now
     (kept_of (length c.deref.result.now) c.in-Some.flush.now c.follow.new.self.totals.items c.follow.new.self.cumulative.items) c.deref.result.now)) c.self.invariant.buckets
     ∙ view_shown v.config.now v.report.now v.given v.progress ready c.in-Some.flush.now
     (ap (λ (l : List FlushRecord). slice_get l v.given) (sym c.items.ensures) ∙ at)
-    c.follow.new.self c.items-2.result.now c.items-2.ensures c.in_ok-follow.ensures
-    c.deref.result.now (c.deref.ensures.value ∙ c.self.invariant.metrics)
+    c.follow.new.self c.in_ok-follow.ensures
+    c.items-before.result.now c.deref.result.now known (c.deref.ensures.value ∙ c.self.invariant.metrics)
     ∙ ap view_in_turn c.self.view_is
