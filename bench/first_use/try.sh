@@ -78,7 +78,25 @@ replay --symbols --symbols - f
 replay --format text - f
 replay --format - f
 replay --format prom --format prom - f
-replay - f --symbols
+replay --format=prom - f --format admin
+replay --format= - f
+replay --format -- - f
+replay - f --symbols --symbols
+replay --symbols=x - f
+replay --run - f
+replay -- -
+-- replay - f
+check --symbols -
+load
+load 1
+load 0 1
+load 33 1
+load 1 0
+load 1 131073
+load 01 1
+load 1 1 1
+load --symbols 1 1
+load --run --run 1 1
 WORDS
 sum=$top/crates/envoy_stats/out/script.sum
 while read -r line; do
@@ -90,6 +108,12 @@ bins 18446744073709551615 0
 replay --format admin --symbols - 'a b' f
 run - f
 check boot
+check -- -x
+replay - f --symbols
+replay - --format=prom f
+replay - f - -- --symbols --
+load 32 131072
+load 3 1 --run
 WORDS
 try 'nothing is proved again' 3 'ran x' 'proved' "$top/envoy_stats" x
 try 'a lowest crate that is not proved' 70 'crate stat_defs is not proved' 'ran' sh -c "rm $top/crates/envoy_stats/out/script.sum; BAD=stat_defs $top/envoy_stats check -"

@@ -8,3 +8,4 @@ pub mod Agrees
 pub mod Found
 pub mod Numerals
 pub mod OperandLists
+pub mod LoadsWithin

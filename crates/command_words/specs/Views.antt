@@ -27,4 +27,4 @@ said_as (said.Run asked) = running (reporting_as asked)
 said_as (said.Replay asked) = replaying (reporting_as asked)
 said_as (said.Check boot) = Check (string_bytes boot)
 said_as (said.Bins values) = Bins values.items
-said_as (said.Load run scripts events) = Load run scripts events
+said_as (said.Load asked) = Load asked.run asked.scripts asked.events

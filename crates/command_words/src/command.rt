@@ -1,6 +1,7 @@
 //! A command, with what its words name.
 ghost use Rattle.std.specs.Prelude.{◌≤◌, vec_len};
 ghost use Rattle.command_words.specs.declared.limits.TheConstants as limits;
+ghost use Rattle.load_scripts.specs.declared.limits.TheConstants as load_limits;
 
 use output_options::OutputOptions;
 
@@ -13,6 +14,18 @@ pub struct Reporting {
     ghost few: { (1 ≤ vec_len files) × (vec_len files ≤ limits.MAX_FILES) },
 }
 
+/// What the words of a load name: `[--run] W E`, so many scripts of so many events each.
+#[derive(Clone, Copy)]
+pub struct Load {
+    /// Whether the scripts are applied side by side.
+    pub run: bool,
+    pub scripts: u32,
+    pub events: u32,
+    ghost some: { 1 ≤ scripts },
+    ghost few_scripts: { scripts ≤ load_limits.MAX_SCRIPTS },
+    ghost few_events: { events ≤ load_limits.MAX_SCRIPT_EVENTS },
+}
+
 /// A command with what its words name.
 #[derive(Drop)]
 pub enum Command {
@@ -21,17 +34,9 @@ pub enum Command {
     /// `replay [--symbols] [--format F] BOOT FILE..`
     Replay(Reporting),
     /// `check BOOT`
-    Check {
-        boot: String,
-    },
+    Check { boot: String },
     /// `bins V..`
-    Bins {
-        values: Vec<u64>,
-    },
-    /// `load [--run] W E`: W scripts of E events each, applied side by side where `run` is set.
-    Load {
-        run: bool,
-        scripts: u32,
-        events: u32,
-    },
+    Bins { values: Vec<u64> },
+    /// `load [--run] W E`
+    Load(Load),
 }

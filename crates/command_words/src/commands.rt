@@ -4,11 +4,11 @@ ghost use Rattle.command_words.specs.Command.{bins_of, check_of, command, comman
 ghost use Rattle.command_words.specs.Command.{load_in, load_of, replaying, reporting_in, running};
 ghost use Rattle.command_words.specs.Views.{reporting_as, said_as, sorted_as};
 
-use crate::command::{Command, Reporting};
-use crate::limits::{MAX_SCRIPT_EVENTS, MAX_SCRIPTS};
+use crate::command::{Command, Load, Reporting};
 use crate::numbers::number_in;
 use crate::operands::{are_values, format_asked, over_files, values_in};
 use crate::sorting::{SortedWords, sorted_words};
+use load_scripts::{MAX_SCRIPT_EVENTS, MAX_SCRIPTS};
 use output_options::OutputOptions;
 use stat_defs::NoMemory;
 use std::alloc::Global;
@@ -98,11 +98,11 @@ fn load_in(run: bool, operands: &[&str]) -> Option<Command>
     let Some(events) = number_in(events, 1, MAX_SCRIPT_EVENTS) else {
         return None;
     };
-    Some(Command::Load {
+    Some(Command::Load(Load {
         run,
         scripts,
         events,
-    })
+    }))
 }
 
 fn load_of(words: &SortedWords<'_>) -> Option<Command>

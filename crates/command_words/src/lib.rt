@@ -9,9 +9,9 @@ mod operands;
 mod options;
 mod sorting;
 
-pub use command::{Command, Reporting};
+pub use command::{Command, Load, Reporting};
 pub use commands::command_of;
-pub use limits::{MAX_FILES, MAX_SCRIPT_EVENTS, MAX_SCRIPTS, MAX_VALUES};
+pub use limits::{MAX_FILES, MAX_VALUES};
 
 #[cfg(test)]
 mod tests;

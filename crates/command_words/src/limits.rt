@@ -4,12 +4,6 @@
 pub const MAX_FILES: usize = 32;
 /// Maximum number of values of one `bins`.
 pub const MAX_VALUES: usize = 64;
-/// Maximum number of scripts of one `load`.
-pub const MAX_SCRIPTS: u32 = 32;
-/// Maximum number of events of each script of a `load`.
-pub const MAX_SCRIPT_EVENTS: u32 = 131_072;
 
 // The limits that operators are told: contracts have them by name.
-const _: () = prove!(
-    MAX_FILES == 32 && MAX_VALUES == 64 && MAX_SCRIPTS == 32 && MAX_SCRIPT_EVENTS == 131_072
-);
+const _: () = prove!(MAX_FILES == 32 && MAX_VALUES == 64);

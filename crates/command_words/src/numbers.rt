@@ -1,5 +1,5 @@
 //! The number that a word says.
-ghost use Rattle.std.specs.Prelude.{◌≡◌, ◌≢◌, ◌≤◌, ◌<◌, ◌⊎◌, length, slice_index};
+ghost use Rattle.std.specs.Prelude.{◌≡◌, ◌≢◌, ◌≤◌, ◌<◌, ◌⊎◌, IfSome, length, slice_index};
 ghost use Rattle.std.specs.Bool.{MatchBool};
 ghost use Rattle.command_words.specs.Command.{number_in, value_in};
 
@@ -31,7 +31,8 @@ pub(crate) fn value_in(word: &str) -> Option<u64>
 
 /// The number from `least` to `most` that the word says.
 pub(crate) fn number_in(word: &str, least: u32, most: u32) -> Option<u32>
-    ensures { result ≡ number_in least most word.now }
+    ensures value { result ≡ number_in least most word.now }
+    ensures within { IfSome result (λ n. (least ≤ n) × (n ≤ most)) }
 {
     let value = value_in(word)?;
     if value < u64::from(least) || u64::from(most) < value {

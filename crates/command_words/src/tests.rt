@@ -135,6 +135,11 @@ fn bins_text(alloc: Global, values: &[u64]) -> Result<String, Fail> {
     Ok(text)
 }
 
+fn load_text(alloc: Global, asked: Load) -> Result<String, Fail> {
+    let how = if asked.run { " side-by-side" } else { "" };
+    Ok(format!(in alloc; "load{how} {} {}", asked.scripts, asked.events)?)
+}
+
 fn command_text(alloc: Global, command: &Option<Command>) -> Result<String, Fail> {
     match command {
         None => Ok(String::from_str(alloc, "none")?),
@@ -142,20 +147,7 @@ fn command_text(alloc: Global, command: &Option<Command>) -> Result<String, Fail
         Some(Command::Replay(asked)) => reporting_text(alloc, "replay", asked),
         Some(Command::Check { boot }) => Ok(format!(in alloc; "check {}", boot.as_str())?),
         Some(Command::Bins { values }) => bins_text(alloc, values),
-        Some(
-            Command::Load {
-                run: true,
-                scripts,
-                events,
-            },
-        ) => Ok(format!(in alloc; "load side-by-side {scripts} {events}")?),
-        Some(
-            Command::Load {
-                run: false,
-                scripts,
-                events,
-            },
-        ) => Ok(format!(in alloc; "load {scripts} {events}")?),
+        Some(Command::Load(asked)) => load_text(alloc, *asked),
     }
 }
 

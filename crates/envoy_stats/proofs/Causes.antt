@@ -1,10 +1,11 @@
 -- A call of the program in which nothing went wrong has status 0, or memory was wanting.
-use Rattle.std.proofs.Common.{◌≡◌, Some, refl}
+use Rattle.std.proofs.Common.{◌≡◌, true, false, Some, refl}
 use Rattle.run_report.specs.RunReport.{IsRunOf}
-use Rattle.stats_commands.specs.Command.{Command, Run, Replay, Check, Bins, command}
+use Rattle.command_words.specs.Command.{Command, Run, Replay, Check, Bins, Load, command}
+use Rattle.load_run.specs.LoadRun.{IsLoadRunOf}
 use Rattle.stats_commands.specs.World.{World, Sight}
 use Rattle.stats_commands.specs.Flawless.{NamesFlawless, IsDoneOrWants}
-use Rattle.stats_commands.proofs.Causes.{done_reports, done_quiet}
+use Rattle.stats_commands.proofs.Causes.{done_reports, done_summary, done_quiet}
 use Rattle.envoy_stats.specs.Running.{ProgramFailsByCause}
 
 pub program_fails_by_cause : {K F S O E : Type 0} (see : Sight K F S O E) → ProgramFailsByCause see
@@ -21,3 +22,7 @@ program_fails_by_cause see before after words outcome is flawless = by flawless.
         done_quiet see before after outcome flawless.no_faults (Check boot) (command words) is.call e refl named
     by (Bins values) e named =
         done_quiet see before after outcome flawless.no_faults (Bins values) (command words) is.call e refl named
+    by (Load true scripts n) e named =
+        done_summary see before after outcome flawless.no_faults IsLoadRunOf scripts n (is.loaded scripts n e)
+    by (Load false scripts n) e named =
+        done_quiet see before after outcome flawless.no_faults (Load false scripts n) (command words) is.call e refl named

@@ -1,4 +1,5 @@
 pub mod RunShown
+pub mod LoadRuns
 pub mod RunCalls
 mod Table
 mod Causes

@@ -1,10 +1,11 @@
 -- Each call of the program keeps the table of statuses.
-use Rattle.std.proofs.Common.{◌≡◌, Option, Some, None, refl}
+use Rattle.std.proofs.Common.{◌≡◌, true, false, Option, Some, None, refl}
 use Rattle.run_report.specs.RunReport.{IsRunOf}
-use Rattle.stats_commands.specs.Command.{Command, Run, Replay, Check, Bins, command}
+use Rattle.command_words.specs.Command.{Command, Run, Replay, Check, Bins, Load, command}
+use Rattle.load_run.specs.LoadRun.{IsLoadRunOf}
 use Rattle.stats_commands.specs.World.{World, Sight}
 use Rattle.stats_commands.specs.Statuses.{KeepsTable}
-use Rattle.stats_commands.proofs.Table.{of_quiet, of_refused, of_reports}
+use Rattle.stats_commands.proofs.Table.{of_quiet, of_refused, of_reports, of_summary}
 use Rattle.envoy_stats.specs.Running.{ProgramKeepsTable}
 
 pub program_keeps : {K F S O E : Type 0} (see : Sight K F S O E) → ProgramKeepsTable see
@@ -19,3 +20,7 @@ program_keeps see before after words outcome is = by (command words) refl
         of_quiet see before after outcome (Replay options boot names) (command words) is.call e refl
     by (Some (Check boot)) e = of_quiet see before after outcome (Check boot) (command words) is.call e refl
     by (Some (Bins values)) e = of_quiet see before after outcome (Bins values) (command words) is.call e refl
+    by (Some (Load true scripts n)) e =
+        of_summary see before after outcome (command words) IsLoadRunOf scripts n (is.loaded scripts n e)
+    by (Some (Load false scripts n)) e =
+        of_quiet see before after outcome (Load false scripts n) (command words) is.call e refl

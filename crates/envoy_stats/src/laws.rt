@@ -1,7 +1,8 @@
 //! Laws, each the contract of a function that does nothing.
 ghost use Rattle.stats_commands.specs.World.{sight};
-ghost use Rattle.envoy_stats.specs.Running.{ProgramKeepsTable, ProgramFailsByCause};
+ghost use Rattle.envoy_stats.specs.Running.{ProgramKeepsTable, ProgramFailsByCause, LoadsAlike};
 
+use load_run::same_summary;
 use stats_io::{Shelf, Sink};
 use tag_rules::PatternMaker;
 
@@ -15,3 +16,10 @@ pub fn program_keeps_the_table<K: PatternMaker, F: Shelf, O: Sink, E: Sink>()
 pub fn program_fails_by_cause<K: PatternMaker, F: Shelf, O: Sink, E: Sink>()
     ensures { ProgramFailsByCause (sight K.memory F.holds F.state F.S.state O.state E.state) }
 {}
+
+/// A law: `load --run W E` writes what `load W E` writes, byte for byte, whatever order the threads took.
+pub fn loads_alike<K: PatternMaker, F: Shelf, O: Sink, E: Sink>()
+    ensures { LoadsAlike (sight K.memory F.holds F.state F.S.state O.state E.state) }
+{
+    same_summary();
+}

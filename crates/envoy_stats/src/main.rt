@@ -1,6 +1,6 @@
 //! The statistics store as a program: `run` applies event files side by side and writes all flushes and readings,
-//! `replay` applies them one after another and writes one flush, `check` tries a bootstrap, and `bins` tells the bins of
-//! values.
+//! `replay` applies them one after another and writes one flush, `check` tries a bootstrap, `bins` writes the bins of
+//! values, and `load` applies events that it makes itself.
 #![tactic(auto)]
 
 ghost use Rattle.std.specs.Prelude.{◌≡◌, IfOk, IfErr, map, string_bytes};
@@ -8,11 +8,13 @@ ghost use Rattle.stats_commands.specs.World.{world, sight};
 ghost use Rattle.stats_commands.specs.Outcome.{IsUnreadable};
 ghost use Rattle.envoy_stats.specs.Running.{Serves};
 
+mod asked;
 #[cfg(test)]
 mod example_texts;
 #[cfg(test)]
 mod failing_parts;
 mod laws;
+mod load;
 mod program;
 mod run;
 #[cfg(test)]
@@ -21,7 +23,7 @@ mod run_rows;
 mod tests;
 
 pub use flush_view::flush_view;
-pub use laws::{program_fails_by_cause, program_keeps_the_table};
+pub use laws::{loads_alike, program_fails_by_cause, program_keeps_the_table};
 use name_map::HashKey;
 pub use program::{envoy_stats, envoy_stats_with};
 use stats_commands::{NO_COMMAND, NO_MEMORY, OUT_OF_MEMORY, USAGE, say};

@@ -1,39 +1,24 @@
 //! The program's call.
-ghost use Rattle.std.specs.Prelude.{◌≡◌, Some, IfSome, IfNone, map, string_bytes};
-ghost use Rattle.stats_commands.specs.Command.{command, quiet_command, running, reporting_as};
+ghost use Rattle.std.specs.Prelude.{map, string_bytes};
 ghost use Rattle.stats_commands.specs.World.{world, sight};
 ghost use Rattle.envoy_stats.specs.Running.{IsProgramCall};
 
+use crate::asked::{Asked, asked_of};
+use crate::load::load;
 use crate::run::run;
+use command_words::command_of;
 use name_map::HashKey;
-use stats_commands::{Command, Outcome, Reporting, command_of, quiet_stats_with};
+use stats_commands::{Outcome, give_up, serve_quiet};
 use stats_io::{Shelf, Sink};
 use std::alloc::Global;
 use std::sync::Wait;
 use std::thread::Threads;
 use tag_rules::PatternMaker;
 
-// What a run is asked for, where the words say one.
-fn run_asked(words: &[String]) -> Option<Reporting<'_>>
-    ensures asked { IfSome result (λ asked. command (map string_bytes words.now)
-        ≡ Some (running (reporting_as asked))) }
-    ensures other { IfNone result (quiet_command (map string_bytes words.now)
-        ≡ command (map string_bytes words.now)) }
-{
-    let Some(said) = command_of(words) else {
-        return None;
-    };
-    match said {
-        Command::Run(asked) => Some(asked),
-        Command::Replay(_) => None,
-        Command::Check { .. } => None,
-        Command::Bins { .. } => None,
-    }
-}
-
 /// The program. `run [--symbols] [--format F] BOOT FILE..` applies the events of 1 to 32 files side by side to one store,
-/// a worker a file, with a flusher and a reader beside them, and writes all flushes and readings. Every other command
-/// starts no thread, and is that of [`quiet_stats_with`], statuses included.
+/// a worker a file, with a flusher and a reader beside them, and writes all flushes and readings. `load --run W E` applies
+/// scripts that it makes in the same way, under the usual bootstrap, and writes a summary. Every other command starts no
+/// thread, and is that of [`stats_commands::quiet_stats_with`], statuses included.
 ///
 /// At every moment of every interleaving, each counter's latched deltas and pending word together are its workers'
 /// accepted units, each once; merged bins are those of the turned halves' values inserted directly, each value in one
@@ -53,9 +38,13 @@ pub fn envoy_stats_with<R: Threads + Wait + Sync, K: PatternMaker, F: Shelf, O: 
         (world maker.old shelf.old out.old err.old) (world maker.new shelf.new out.new err.new)
         (map string_bytes words.now) result }
 {
-    match run_asked(words) {
-        Some(asked) => run(rt, alloc, key, asked, maker, shelf, out, err),
-        None => quiet_stats_with(alloc, key, words, maker, shelf, out, err),
+    let Ok(said) = command_of(alloc, words) else {
+        return give_up(err);
+    };
+    match asked_of(said) {
+        Asked::Run(asked) => run(rt, alloc, key, &asked, maker, shelf, out, err),
+        Asked::Load(asked) => load(rt, alloc, key, asked, maker, shelf, out, err),
+        Asked::Quiet(said) => serve_quiet(alloc, key, said, maker, shelf, out, err),
     }
 }
 

@@ -7,10 +7,11 @@ ghost use Rattle.stats_commands.specs.Replay.{IsBuilt, Records};
 ghost use Rattle.envoy_stats.specs.Running.{Runs};
 
 use boot_load::{Boot, LoadFault, load};
+use command_words::Reporting;
 use name_map::HashKey;
 use run_report::run_names;
 use stat_defs::NoMemory;
-use stats_commands::{Outcome, Recorded, Reporting, give_up, refuse_boot, tell};
+use stats_commands::{Outcome, Recorded, give_up, refuse_boot, tell};
 use stats_io::{Shelf, Sink};
 use std::alloc::Global;
 use std::sync::Wait;
@@ -54,7 +55,7 @@ pub fn run<R: Threads + Wait + Sync, K: PatternMaker, F: Shelf, O: Sink, E: Sink
     rt: &R,
     alloc: Global,
     key: HashKey,
-    asked: Reporting<'_>,
+    asked: &Reporting,
     maker: &mut K,
     shelf: &mut F,
     out: &mut O,
@@ -62,10 +63,10 @@ pub fn run<R: Threads + Wait + Sync, K: PatternMaker, F: Shelf, O: Sink, E: Sink
 ) -> Outcome
     ensures { Runs (sight K.memory F.holds F.state F.S.state O.state E.state)
         (world maker.old shelf.old out.old err.old) (world maker.new shelf.new out.new err.new)
-        asked.entry.options asked.entry.boot.now (map string_bytes asked.entry.files.now) result }
+        asked.now.options (string_bytes asked.now.boot) (map string_bytes asked.now.files.items) result }
 {
-    match load(alloc, asked.boot, maker, shelf) {
-        Ok(boot) => match record(rt, alloc, key, boot, asked.files, shelf) {
+    match load(alloc, asked.boot.as_str(), maker, shelf) {
+        Ok(boot) => match record(rt, alloc, key, boot, &asked.files, shelf) {
             Ok(recorded) => tell(alloc, asked.options, recorded, out, err),
             Err(NoMemory) => give_up(err),
         },

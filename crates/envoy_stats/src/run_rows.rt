@@ -345,3 +345,30 @@ fn a_run_writes_what_a_replay_writes(rt: HostRuntime) -> Result<(), Fail> {
     }
     Ok(())
 }
+
+// What a load writes.
+fn load_over<R: Threads + Wait + Sync>(rt: &R, alloc: Global, words: &str) -> Result<Played, Fail> {
+    let out = MemSink::new(alloc, 100_000, 100, Vec::new(alloc))?;
+    run_into(
+        rt,
+        alloc,
+        words,
+        MemShelf::new(Vec::new(alloc), Vec::new(alloc)),
+        out,
+    )
+}
+
+#[test]
+fn a_load_side_by_side_writes_what_a_load_writes(rt: HostRuntime) -> Result<(), Fail> {
+    let alloc = rt.alloc();
+    for words in ["load 1 1", "load 3 1", "load 4 300", "load 32 40"] {
+        let alone = load_over(&rt, alloc, words)?;
+        let side_by_side = load_over(&rt, alloc, format!(in alloc; "{words} --run")?.as_str())?;
+        assert_eq!(rt; alone.outcome.status, 0, "{words}");
+        assert_eq!(rt; side_by_side.outcome.status, 0, "{words}");
+        assert!(rt; side_by_side.outcome.report.is_none(), "{words}");
+        assert!(rt; !alone.out.bytes().is_empty(), "{words}");
+        assert!(rt; alone.out.bytes() == side_by_side.out.bytes(), "{words}");
+    }
+    Ok(())
+}

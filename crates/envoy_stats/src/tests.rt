@@ -34,7 +34,10 @@ replay f1 f2\x01{\"stats_config\":{\"stats_matcher\":{\"exclusion_list\":{\"patt
 replay f1 f2\x01{\"stats_run\":{\"scopes\":[{\"label\":\"root\"}]}}\x03\x01\x012\x01\x01boot: bad key at stats_run.scopes[0].label\n\x02\
 replay f1 f2\x01{\"stats_run\":{\"reads\":65}}\x03\x01\x012\x01\x01boot: out of range at stats_run.reads\n\x02\
 bins 0 7 10 99 100 109 110 12345 18446744073709551615\x01\x01\x010\x010 0 0\n7 70 0\n10 10 1\n99 99 1\n100 10 2\n109 10 2\n110 11 2\n12345 12 4\n18446744073709551615 18 19\n\x01\x02\
+load 3 1\x01\x01\x010\x01# load 3 1\nevents 3 accepted 3 dropped 0\ncounters 1 units 526\ngauges 1 sum 709\nhistograms 1 values 1\nbin 43 4 1\n\x01\x02\
 check -\x01\x01\x010\x01ok: 4 tag rules, 0 patterns, 0 bucket settings, 1 scopes\n\x01\x02\
+replay - f1 --format=admin\x01inc root a 0\n\x01\x010\x01# last\na: 0\n# worker 1: 1 accepted, 0 dropped\n\x01\x02\
+replay -- - f1\x01inc root a 0\n\x01\x010\x01# last\n# worker 1: 1 accepted, 0 dropped\n\x01\x02\
 check f1\x01{\"stats_config\":{\"stats_tags\":[{\"tag_name\":\"region\",\"fixed_value\":\"eu-1\"}],\"stats_matcher\":{\"exclusion_list\":{\"patterns\":[{\"prefix\":\"cluster.api.internal.\"},{\"safe_regex\":{\"regex\":\".*\\\\.debug\"}}]}},\"histogram_bucket_settings\":[{\"match\":{\"suffix\":\"_ms\"},\"buckets\":[10,50,100,1000]}]},\"stats_run\":{\"scopes\":[{\"label\":\"web\",\"prefix\":\"http.web.\"},{\"label\":\"api\",\"prefix\":\"cluster.api\"}]}}\x01\x010\x01ok: 5 tag rules, 2 patterns, 1 bucket settings, 3 scopes\n\x01\x02\
 check f1\x01{\"stats_config\":{\"histogram_bucket_settings\":[{\"match\":{\"safe_regex\":{\"regex\":\"[\"}},\"buckets\":[1]}]}}\x01\x012\x01\x01boot: bad pattern at stats_config.histogram_bucket_settings[0].match.safe_regex.regex\n\x02\
 check f1\x01[\x01\x012\x01\x01boot: not json\n\x02\
@@ -60,10 +63,10 @@ replay - f1 f2\x01open s web\ninc s rq 2\ninc root a 0\nadd root g acc 9\nrec s 
 
 // Words that are no command: a list a line, its words parted by spaces.
 const NO_COMMANDS: &str =
-    "\nreplay\nreplay -\nreplay - \nreplay - -f\nreplay -f f\nreplay f\nreplay - f -f\nrun --format x - f\nrun - f\nreplay --symbols\nreplay --symbols --symbols - f1\nreplay --format prom --format prom - f1\nreplay --format x - f1\nreplay --format - f1\nreplay --format=prom - f1\nreplay - --symbols f1\nreplay - f1 --format prom\nreplay --symbol - f1\ncheck\ncheck -f\ncheck - -\nbins\nbins 01\nbins 00\nbins +1\nbins -1\nbins 1 x\nbins 1 \nbins 18446744073709551616\nbin 1";
+    "\nreplay\nreplay -\nreplay - \nreplay - -f\nreplay -f f\nreplay f\nreplay - f -f\nrun --format x - f\nrun - f\nreplay --symbols\nreplay --symbols --symbols - f1\nreplay --format prom --format prom - f1\nreplay --format x - f1\nreplay --format - f1\nreplay - f1 --format\nreplay --symbols=x - f1\nreplay --run - f1\nreplay --symbol - f1\n-- replay - f1\ncheck\ncheck -f\ncheck - -\ncheck --symbols -\nbins\nbins 01\nbins 00\nbins +1\nbins -1\nbins 1 x\nbins 1 \nbins 18446744073709551616\nbin 1\nload\nload 1\nload 0 1\nload 33 1\nload 1 0\nload 1 131073\nload --symbols 1 1\nload --run 1 1\n--help\n-h\n--version";
 
 const USAGE: &[u8] =
-    b"usage: envoy_stats run|replay [--symbols] [--format statsd|prom|admin] BOOT FILE.. | check BOOT | bins V..\n";
+    b"usage: envoy_stats run|replay [--symbols] [--format statsd|prom|admin] BOOT FILE.. | check BOOT | bins V.. | load [--run] W E\n";
 
 const TWO_INCS: &[u8] = b"inc root a 3\ninc root a 4\n";
 

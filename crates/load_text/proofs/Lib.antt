@@ -1,2 +1,3 @@
 pub mod Room
 mod Appending
+pub mod ReportsFit

@@ -18,25 +18,14 @@ use Rattle.loglinear_bins.proofs.MergedBins.{sums_rise}
 use Rattle.book_state.specs.declared.limits.TheConstants.{MAX_WORKERS}
 use Rattle.ledger.specs.Ledger.{RunPlan, Account}
 use Rattle.ledger.specs.Work.{Work}
-use Rattle.flush_view.specs.ByName.{by_name, put_by_name, comes_before}
+use Rattle.flush_view.specs.ByName.{by_name}
 use Rattle.flush_view.specs.Views.{NumberedMetric, histogram_row, parts_on, merged_parts}
 use Rattle.flush_view.proofs.BinsShown.{flushes_lawful}
 use Rattle.flush_view.proofs.Cumulative.{cumulative}
 use Rattle.flush_view.proofs.Recorded.{AreBounded, events_of, events_in_files, values_of, all_values_fit, all_values_few}
 use Rattle.flush_view.proofs.Showable.{lawful}
+use Rattle.flush_view.proofs.Viewing.{length-by_name}
 use Rattle.load_text.specs.Summary as summary
-
-length-put : {X : Type 0} (name : X → List ℕ) (x : X) (xs : List X) → length (put_by_name name x xs) ≡ suc (length xs)
-length-put name x [] = refl
-length-put name x (y ∷ ys) = by_case (comes_before name y x) (length-put name x ys) where
-  by_case : (b : Bool) → length (put_by_name name x ys) ≡ suc (length ys)
-      → length (cond b (y ∷ put_by_name name x ys) (x ∷ y ∷ ys)) ≡ suc (suc (length ys))
-  by_case true rest = ap suc rest
-  by_case false rest = refl
-
-length-by_name : {X : Type 0} (name : X → List ℕ) (xs : List X) → length (by_name name xs) ≡ length xs
-length-by_name name [] = refl
-length-by_name name (x ∷ xs) = length-put name x (by_name name xs) ∙ ap suc (length-by_name name xs)
 
 fewer : {X : Type 0} (p : X → Bool) (xs : List X) → length (filter p xs) ≤ length xs
 fewer p [] = omega arith

@@ -1,5 +1,5 @@
 mod Numbered
-mod Shown
+pub mod Shown
 mod FlushTexts
 mod Told
 mod WholeText

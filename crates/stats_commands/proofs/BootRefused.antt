@@ -1,5 +1,5 @@
 -- A bootstrap that was not loaded.
-use Rattle.std.proofs.Common.{◌≡◌, ◌≢◌, ℕ, None, Err, List, codes, refl, sym, ap, subst, inl, inr, arith}
+use Rattle.std.proofs.Common.{◌≡◌, ◌≢◌, ◌⊎◌, ℕ, None, Err, List, codes, refl, sym, ap, subst, inl, inr, arith}
 use Rattle.stat_defs.specs.declared.configs.Config.{Config}
 use Rattle.stat_defs.specs.declared.reports.Report.{Report}
 use Rattle.stats_io.specs.States.{SinkState}
@@ -9,7 +9,7 @@ use Rattle.boot_load.specs.declared.fault.LoadFault.{LoadFault}
 use Rattle.boot_load.specs.declared.fault.LoadFault.TheVariants.{TooBig, Faulty, BadPattern, OpenFailed, ReadFailed, NoMemory}
 use Rattle.output_options.specs.declared.OutputOptions.{OutputOptions}
 use Rattle.stats_commands.specs.World.{World, Sight}
-use Rattle.stats_commands.specs.Outcome.{IsSaid, IsBootFault, Checks, Reports, status_of_boot, boot_faults_of}
+use Rattle.stats_commands.specs.Outcome.{IsSaid, IsUnstarted, IsBootFault, Checks, Reports, status_of_boot, boot_faults_of}
 use Rattle.stats_commands.specs.Replay.{RefusesBoot}
 use Rattle.stats_commands.specs.declared.status.TheConstants.{NO_COMMAND}
 use Rattle.stats_commands.specs.declared.outcome.Outcome.{Outcome}
@@ -52,12 +52,18 @@ module _ {K F S O E : Type 0} (see : Sight K F S O E) (before after : World K F 
       subst (λ (o : Outcome). Reports see before after Comes options boot names o.status o.report o.boot_faults) (sym is.0)
       (inr (refl, record { status_is = refl; written = inl unwritten; said = is.1 }))
 
-  pub check_refused : (outcome : Outcome) → RefusesBoot (see.err before.err) (see.err after.err) fault outcome
-      → Checks see before after boot outcome.status outcome.boot_faults
-  check_refused outcome (inl is) = inr (inl (
+  -- that was said, or that memory was wanting
+  pub fault_or_unstarted : (outcome : Outcome) → RefusesBoot (see.err before.err) (see.err after.err) fault outcome
+      → IsBootFault see before after boot outcome.status outcome.boot_faults
+      ⊎ ((outcome.boot_faults ≡ 0) × IsUnstarted before.out after.out (see.err before.err) (see.err after.err) outcome.status)
+  fault_or_unstarted outcome (inl is) = inl (
       is_boot_fault outcome.status outcome.boot_faults (ap (λ (o : Outcome). o.status) is.0) (ap (λ (o : Outcome). o.boot_faults) is.0) is.1
-      ))
-  check_refused outcome (inr is) = inr (inr (
+      )
+  fault_or_unstarted outcome (inr is) = inr (
     ap (λ (o : Outcome). o.boot_faults) is.0,
     record { status_is = ap (λ (o : Outcome). o.status) is.0; unwritten = unwritten; said = is.1 },
-  ))
+  )
+
+  pub check_refused : (outcome : Outcome) → RefusesBoot (see.err before.err) (see.err after.err) fault outcome
+      → Checks see before after boot outcome.status outcome.boot_faults
+  check_refused outcome is = inr (fault_or_unstarted outcome is)

@@ -1,5 +1,5 @@
 -- A call in which nothing went wrong has status 0, or memory was wanting.
-use Rattle.std.proofs.Common.{◌≡◌, ◌≢◌, ◌≤◌, ℕ, Option, Some, None, Ok, Err, List, [], ◌∷◌, length, length-append, map, refl, sym, ap, ◌∙◌, subst, inl, inr, arith}
+use Rattle.std.proofs.Common.{◌≡◌, ◌≢◌, ◌≤◌, ◌⊎◌, ℕ, true, false, Option, Some, None, Ok, Err, List, [], ◌∷◌, codes, length, length-append, map, refl, sym, ap, ◌∙◌, subst, inl, inr, arith}
 use Rattle.std.specs.List.{AllByRecursion}
 use Rattle.std.specs.Option.{option_and_then}
 use Rattle.std.specs.Io.KnownBytes.{Consumes}
@@ -26,10 +26,13 @@ use Rattle.output_options.specs.declared.OutputOptions.{OutputOptions}
 use Rattle.replay_report.specs.ReplayReport.{IsReplayOf}
 use Rattle.stats_commands.specs.declared.status.TheConstants.{DONE}
 use Rattle.stats_commands.specs.declared.outcome.Outcome.{Outcome}
-use Rattle.stats_commands.specs.Command.{Command, Run, Replay, Check, Bins, command, without_threads, quiet_command}
+use Rattle.command_words.specs.Command.{Command, Run, Replay, Check, Bins, Load, command}
+use Rattle.load_report.specs.LoadReport.{IsLoadOf}
+use Rattle.boot_file.proofs.Empty.{usual_config, usual_boots}
+use Rattle.stats_commands.specs.Quiet.{without_threads, quiet_command}
 use Rattle.stats_commands.specs.World.{World, Sight}
 use Rattle.stats_commands.specs.BinLines.{bin_lines}
-use Rattle.stats_commands.specs.Outcome.{IsWritten, Prints, IsBootFault, Checks, Reports, IsCall, ends_of, status_of_all, boot_faults_of}
+use Rattle.stats_commands.specs.Outcome.{IsWritten, IsUnstarted, Prints, IsBootFault, Checks, Reports, IsSummarized, Summarizes, IsCall, ends_of, status_of_all, boot_faults_of}
 use Rattle.stats_commands.specs.Flawless.{IsToldBoot, IsFlawlessBoot, IsFlawlessFile, EndsWithoutFaults, HasNoFaults, NamesFlawless, IsDoneOrWants, CallsFailByCause}
 
 -- bytes that stand at the front of others are no more than these
@@ -143,6 +146,28 @@ module _ {K F S O E : Type 0} (see : Sight K F S O E) (before after : World K F 
   done_checks boot status flawless (inr (inl is)) = absurd (no_boot_fault boot status flawless is)
   done_checks boot status flawless (inr (inr up)) = inr up.1.status_is
 
+  -- the usual bootstrap says a configuration
+  usual_flawless : (content : Option (List ℕ)) → IsFlawlessBoot content (codes "-")
+  usual_flawless content = record {
+    bytes = codes "{}";
+    told = inl (refl, refl);
+    short = omega arith;
+    config = usual_config;
+    says = usual_boots;
+  }
+
+  pub done_summary : (Comes : Config → ℕ → ℕ → Report → Type 0) (scripts n : ℕ)
+      → Summarizes see before after Comes scripts n outcome → IsDoneOrWants outcome.status
+  done_summary Comes scripts n is = by is.comes
+    where
+      by : ((outcome.boot_faults ≡ 0) × IsSummarized see before after Comes scripts n outcome.status)
+          ⊎ (IsBootFault see before after (codes "-") outcome.status outcome.boot_faults ⊎ ((outcome.boot_faults ≡ 0)
+          × IsUnstarted before.out after.out (see.err before.err) (see.err after.err) outcome.status))
+          → IsDoneOrWants outcome.status
+      by (inl done) = inl (written_whole done.1.text DONE outcome.status done.1.printed.written)
+      by (inr (inl fault)) = absurd (no_boot_fault (codes "-") outcome.status (usual_flawless (see.holds before.shelf (codes "-"))) fault)
+      by (inr (inr up)) = inr up.1.status_is
+
 -- what is said of a report that came of files, by a run or a replay
 pub record TellsFiles {F S : Type 0} (shelf : F → ShelfState) (source : S → SourceState)
     (holds : List ℕ → Option (List ℕ)) (names : List (List ℕ)) (before after : F) (report : Report) : Type 0 where
@@ -196,6 +221,9 @@ module _ {K F S O E : Type 0} (see : Sight K F S O E) (before after : World K F 
       done_checks see before after outcome none boot outcome.status named (is.checked boot e).1
   done_quiet (Bins values) says is e quiet named =
       done_printed see before after outcome none (bin_lines values) outcome.status (is.binned values e).2.printed
+  done_quiet (Load true scripts n) says is e quiet named = absurd cc
+  done_quiet (Load false scripts n) says is e quiet named =
+      done_summary see before after outcome none IsLoadOf scripts n (is.loaded scripts n e)
 
 -- a command that is served where no thread may be started is none that starts one
 quiet_is : (all : Option Command) (said : Command) → option_and_then without_threads all ≡ Some said
@@ -210,6 +238,10 @@ quiet_is (Some (Check boot)) said e =
     subst (λ (c : Command). without_threads c ≡ Some c) same refl
 quiet_is (Some (Bins values)) said e =
     let same : Bins values ≡ said = cc in
+    subst (λ (c : Command). without_threads c ≡ Some c) same refl
+quiet_is (Some (Load true scripts n)) said e = cc
+quiet_is (Some (Load false scripts n)) said e =
+    let same : Load false scripts n ≡ said = cc in
     subst (λ (c : Command). without_threads c ≡ Some c) same refl
 
 pub calls_fail_by_cause : {K F S O E : Type 0} (see : Sight K F S O E) → CallsFailByCause see

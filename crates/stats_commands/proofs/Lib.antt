@@ -4,8 +4,7 @@ pub mod Replayed
 pub mod HeldAlike
 pub mod Shown
 pub mod Checked
-pub mod CommandWords
-pub mod ValueWords
+pub mod Summed
 pub mod Calls
 pub mod Table
 pub mod Causes

@@ -1,5 +1,5 @@
 -- The report of a replay can be shown.
-use Rattle.std.proofs.Common.{◌≡◌, ◌≤◌, ◌∙◌, ℕ, Option, List, length, map, refl, arith}
+use Rattle.std.proofs.Common.{◌≡◌, ◌≤◌, ℕ, Option, List, length, map, refl, arith}
 use Rattle.std.proofs.lemmas.List.{length-map}
 use Rattle.stat_defs.specs.Configs.{IsConfig}
 use Rattle.stats_io.specs.States.{SourceState, ShelfState}
@@ -8,7 +8,7 @@ use Rattle.flush_view.proofs.Showable.{ledgers_show}
 use Rattle.replay_report.specs.declared.replaying.TheConstants.{MAX_FILES}
 use Rattle.file_reading.specs.FileRead.{FileRead}
 use Rattle.replay_report.specs.ReplayReport.{IsReplayOf}
-use Rattle.stats_commands.specs.Replay.{IsRecorded, Records}
+use Rattle.stats_commands.specs.Replay.{Records}
 use Rattle.stats_commands.specs.declared.replay.Recorded.{Recorded}
 
 module _ {F S : Type 0} (shelf : F → ShelfState) (source : S → SourceState) (holds : List ℕ → Option (List ℕ)) where

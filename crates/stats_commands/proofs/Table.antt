@@ -1,5 +1,5 @@
 -- A call keeps the table of statuses.
-use Rattle.std.proofs.Common.{◌≡◌, ◌≢◌, ◌⊎◌, ℕ, Option, Some, None, List, [], ◌∷◌, refl, ap, ◌∙◌, subst, inl, inr, arith}
+use Rattle.std.proofs.Common.{◌≡◌, ◌≢◌, ◌⊎◌, ℕ, true, false, Option, Some, None, List, [], ◌∷◌, codes, refl, ap, ◌∙◌, subst, inl, inr, arith}
 use Rattle.std.specs.Option.{option_and_then}
 use Rattle.stat_defs.specs.declared.configs.Config.{Config}
 use Rattle.stat_defs.specs.declared.reports.FileEnd.{FileEnd}
@@ -10,11 +10,13 @@ use Rattle.boot_load.specs.declared.fault.LoadFault.{LoadFault}
 use Rattle.boot_load.specs.declared.fault.LoadFault.TheVariants as unloaded
 use Rattle.output_options.specs.declared.OutputOptions.{OutputOptions}
 use Rattle.replay_report.specs.ReplayReport.{IsReplayOf}
-use Rattle.stats_commands.specs.Command.{Command, Run, Replay, Check, Bins, command, without_threads, quiet_command}
+use Rattle.command_words.specs.Command.{Command, Run, Replay, Check, Bins, Load, command}
+use Rattle.load_report.specs.LoadReport.{IsLoadOf}
+use Rattle.stats_commands.specs.Quiet.{without_threads, quiet_command}
 use Rattle.stats_commands.specs.BinLines.{bin_lines}
 use Rattle.stats_commands.specs.World.{World, Sight}
 use Rattle.stats_commands.specs.FaultLines.{out_of_memory, said_of}
-use Rattle.stats_commands.specs.Outcome.{IsSaid, IsWritten, IsPrinted, IsUnstarted, Prints, IsRefused, IsBootFault, Checks, IsCutShort, IsGivenUp, Reports, IsBinned, IsCall}
+use Rattle.stats_commands.specs.Outcome.{IsSaid, IsWritten, IsPrinted, IsUnstarted, Prints, IsRefused, IsUnread, Refuses, IsBootFault, Checks, IsCutShort, IsGivenUp, Reports, IsBinned, IsSummarized, Summarizes, IsCall}
 use Rattle.stats_commands.specs.Outcome.{ends_of, status_of_all, status_of_boot}
 use Rattle.stats_commands.specs.Statuses.{WritesText, BreaksOff, WritesLittle, IsUnloaded, IsOfFiles, KeepsTable, CallsKeepTable}
 use Rattle.stats_commands.specs.declared.outcome.Outcome.{Outcome}
@@ -161,6 +163,14 @@ module _ {K F S O E : Type 0} (see : Sight K F S O E) (before after : World K F 
       by (inl printed) = of_printed _ no_report printed
       by (inr up) = of_unstarted no_report up
 
+  -- nothing was read
+  of_unread : report ≡ None → IsUnread see before after status → Table
+  of_unread no_report is = at_no_memory is.status_is no_report (inl is.out) is.said
+
+  pub of_words : says ≡ None → report ≡ None → Refuses see before after status → Table
+  of_words none no_report (inl is) = at_no_command is.0 none no_report is.1
+  of_words none no_report (inr is) = of_unread no_report is
+
   -- a report's text was written, or a front of it
   of_written : (told : Report) (text : List ℕ) → report ≡ Some told
       → IsWritten (see.out before.out) (see.out after.out) text (status_of_all (ends_of told)) status
@@ -202,6 +212,20 @@ module _ {K F S O E : Type 0} (see : Sight K F S O E) (before after : World K F 
   of_reports status (Some report) boot_faults is =
       of_written see before after says (Some report) status report _ refl is.1.written is.1.said
 
+-- a load, alone or side by side
+pub of_summary : {K F S O E : Type 0} (see : Sight K F S O E) (before after : World K F O E) (outcome : Outcome) (says : Option Command)
+    (Comes : Config → ℕ → ℕ → Report → Type 0) (scripts n : ℕ) → Summarizes see before after Comes scripts n outcome
+    → KeepsTable see before after says outcome.status outcome.report
+of_summary see before after outcome says Comes scripts n is = by is.comes
+  where
+    by : ((outcome.boot_faults ≡ 0) × IsSummarized see before after Comes scripts n outcome.status)
+        ⊎ (IsBootFault see before after (codes "-") outcome.status outcome.boot_faults ⊎ ((outcome.boot_faults ≡ 0)
+        × IsUnstarted before.out after.out (see.err before.err) (see.err after.err) outcome.status))
+        → KeepsTable see before after says outcome.status outcome.report
+    by (inl done) = of_printed see before after says outcome.report outcome.status done.1.text is.report done.1.printed
+    by (inr (inl fault)) = of_boot see before after says outcome.report outcome.status (codes "-") outcome.boot_faults is.report fault
+    by (inr (inr up)) = of_unstarted see before after says outcome.report outcome.status is.report up.1
+
 -- a command that starts no thread
 module _ {K F S O E : Type 0} (see : Sight K F S O E) (before after : World K F O E) (outcome : Outcome) where
   pub of_quiet : (said : Command) (says : Option Command) → IsCall see before after says outcome → says ≡ Some said
@@ -216,12 +240,15 @@ module _ {K F S O E : Type 0} (see : Sight K F S O E) (before after : World K F 
   of_quiet (Bins values) says is e quiet =
       let binned = is.binned values e in
       of_binned see before after says outcome.report outcome.status values binned.0 binned.2
+  of_quiet (Load false scripts n) says is e quiet =
+      of_summary see before after outcome says IsLoadOf scripts n (is.loaded scripts n e)
+  of_quiet (Load true scripts n) says is e quiet = absurd cc
 
   pub of_refused : (says : Option Command) → IsCall see before after says outcome → says ≡ None
       → KeepsTable see before after says outcome.status outcome.report
   of_refused says is none =
       let refused = is.refused none in
-      at_no_command see before after says outcome.report outcome.status (is.usage_status.1 none) none refused.0 refused.2
+      of_words see before after says outcome.report outcome.status none refused.0 refused.2
 
 pub calls_keep : {K F S O E : Type 0} (see : Sight K F S O E) → CallsKeepTable see
 calls_keep see before after words outcome is = by (command words) refl
@@ -236,3 +263,7 @@ calls_keep see before after words outcome is = by (command words) refl
         of_quiet see before after outcome (Check boot) (quiet_command words) is (ap (λ said. option_and_then without_threads said) e) refl
     by (Some (Bins values)) e =
         of_quiet see before after outcome (Bins values) (quiet_command words) is (ap (λ said. option_and_then without_threads said) e) refl
+    by (Some (Load true scripts n)) e =
+        of_refused see before after outcome (quiet_command words) is (ap (λ said. option_and_then without_threads said) e)
+    by (Some (Load false scripts n)) e =
+        of_quiet see before after outcome (Load false scripts n) (quiet_command words) is (ap (λ said. option_and_then without_threads said) e) refl

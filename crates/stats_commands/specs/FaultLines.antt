@@ -8,7 +8,7 @@ use Rattle.stats_commands.specs.declared.status.TheConstants.{UNWRITTEN}
 
 abbrev pub usage : List ℕ
 usage =
-    codes "usage: envoy_stats run|replay [--symbols] [--format statsd|prom|admin] BOOT FILE.. | check BOOT | bins V..\n"
+    codes "usage: envoy_stats run|replay [--symbols] [--format statsd|prom|admin] BOOT FILE.. | check BOOT | bins V.. | load [--run] W E\n"
 
 abbrev pub out_of_memory : List ℕ
 out_of_memory = codes "out of memory\n"

@@ -12,7 +12,8 @@ use Rattle.boot_file.specs.Boot.{boot}
 use Rattle.boot_load.specs.declared.reading.TheConstants.{MAX_BOOT_BYTES}
 use Rattle.stats_commands.specs.declared.status.TheConstants.{DONE, NO_MEMORY}
 use Rattle.stats_commands.specs.declared.outcome.Outcome.{Outcome}
-use Rattle.stats_commands.specs.Command.{Command, Run, Replay, Check, Bins, quiet_command}
+use Rattle.command_words.specs.Command.{Command, Run, Replay, Check, Bins, Load}
+use Rattle.stats_commands.specs.Quiet.{quiet_command}
 use Rattle.stats_commands.specs.World.{World, Sight}
 use Rattle.stats_commands.specs.Outcome.{IsCall}
 
@@ -59,6 +60,7 @@ module _ {K F S O E : Type 0} (see : Sight K F S O E) (before after : World K F 
       × AllByRecursion (λ name. IsFlawlessFile (see.holds before.shelf name)) names
   NamesFlawless (Check boot) = IsFlawlessBoot (see.holds before.shelf boot) boot
   NamesFlawless (Bins values) = Unit {0}
+  NamesFlawless (Load run scripts n) = Unit {0}
 
   -- nothing went wrong in a call that the words say, which came to this outcome
   pub record IsFlawless (says : Option Command) (outcome : Outcome) : Type 0 where

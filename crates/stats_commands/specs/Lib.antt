@@ -2,8 +2,9 @@ pub mod World
 pub mod FaultLines
 pub mod BinLines
 pub mod LoadedLine
-pub mod Command
+pub mod Quiet
 pub mod Outcome
 pub mod Replay
+pub mod Summing
 pub mod Statuses
 pub mod Flawless

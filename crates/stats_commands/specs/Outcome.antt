@@ -1,5 +1,5 @@
 -- How a call ends, and what it leaves. This project's own.
-use Rattle.std.specs.Prelude.{◌≡◌, ◌≢◌, ◌⊎◌, ◌↔◌, ◌==◌, if◌then◌else◌, ℕ, Option, Some, None, Ok, Err, List, [], ◌∷◌}
+use Rattle.std.specs.Prelude.{◌≡◌, ◌≢◌, ◌⊎◌, ◌==◌, false, if◌then◌else◌, ℕ, Option, Some, None, Ok, Err, List, [], ◌∷◌}
 use Rattle.std.specs.Prelude.{map, codes}
 use Rattle.std.specs.Io.KnownBytes.{Appends}
 use Rattle.std.specs.IoError.{error_kind}
@@ -24,7 +24,9 @@ use Rattle.output_options.specs.declared.OutputOptions.{OutputOptions}
 use Rattle.stats_commands.specs.declared.status.TheConstants.{DONE, NO_COMMAND, BAD_BOOT, BAD_FILE, UNREADABLE, UNWRITTEN}
 use Rattle.stats_commands.specs.declared.status.TheConstants.{NO_MEMORY}
 use Rattle.stats_commands.specs.declared.outcome.Outcome.{Outcome}
-use Rattle.stats_commands.specs.Command.{Command, Replay, Check, Bins}
+use Rattle.command_words.specs.Command.{Command, Replay, Check, Bins, Load}
+use Rattle.load_report.specs.LoadReport.{IsLoadOf}
+use Rattle.load_text.specs.Summarized.{IsSummaryOf}
 use Rattle.stats_commands.specs.World.{World, Sight}
 use Rattle.stats_commands.specs.BinLines.{bin_lines}
 use Rattle.stats_commands.specs.LoadedLine.{loaded_line}
@@ -103,6 +105,18 @@ module _ {K F S O E : Type 0} (see : Sight K F S O E) (before after : World K F 
     pub out : after.out ≡ before.out
     pub said : IsSaid (see.err before.err) (see.err after.err) usage
 
+  -- memory was wanting before the words were read: all but `err` is as it was
+  pub record IsUnread (status : ℕ) : Type 0 where
+    pub status_is : status ≡ NO_MEMORY
+    pub maker : after.maker ≡ before.maker
+    pub shelf : after.shelf ≡ before.shelf
+    pub out : after.out ≡ before.out
+    pub said : IsSaid (see.err before.err) (see.err after.err) out_of_memory
+
+  -- words that are no command are told so, where memory is there to read them
+  abbrev pub Refuses : ℕ → Type 0
+  Refuses status = ((status ≡ NO_COMMAND) × IsRefused) ⊎ IsUnread status
+
   module _ (boot : List ℕ) where
     -- the bootstrap was not loaded, and nothing was written; for `-` no file was opened
     pub record IsBootFault (status boot_faults : ℕ) : Type 0 where
@@ -180,18 +194,41 @@ module _ {K F S O E : Type 0} (see : Sight K F S O E) (before after : World K F 
     pub shelf : after.shelf ≡ before.shelf
     pub printed : Prints see.out before.out after.out (see.err before.err) (see.err after.err) (bin_lines values) status
 
+  -- A load: `Comes` says which report comes of so many scripts of so many events each under a configuration.
+  module _ (Comes : Config → ℕ → ℕ → Report → Type 0) (scripts n : ℕ) where
+    -- the usual bootstrap was loaded with all its patterns, this report came of the scripts, and its summary was written
+    pub record IsSummarized (status : ℕ) : Type 0 where
+      pub loaded : Boot
+      pub boot_loaded : Loads see.source (see.holds before.shelf (codes "-")) (codes "-") (see.shelf before.shelf)
+          (see.shelf after.shelf) (see.maker before.maker) (see.maker after.maker) (Ok loaded)
+      pub report : Report
+      pub comes : Comes loaded.config scripts n report
+      pub text : List ℕ
+      pub is_summary : IsSummaryOf loaded.config scripts n report text
+      pub printed : IsPrinted (see.out before.out) (see.out after.out) (see.err before.err) (see.err after.err)
+          text status
+
+    -- the scripts were applied, or the bootstrap was refused, or memory was wanting; no file was opened in any case
+    pub record Summarizes (outcome : Outcome) : Type 0 where
+      pub report : outcome.report ≡ None
+      pub shelf : after.shelf ≡ before.shelf
+      pub comes : ((outcome.boot_faults ≡ 0) × IsSummarized outcome.status)
+          ⊎ (IsBootFault (codes "-") outcome.status outcome.boot_faults ⊎ ((outcome.boot_faults ≡ 0)
+          × IsUnstarted before.out after.out (see.err before.err) (see.err after.err) outcome.status))
+
   -- What a call does whose words say this command, or none. Status 1 is that of words that are no command, and each
   -- command that starts no thread has what it comes to; a report comes of a replay alone, and faults of the bootstrap's
   -- source of a command that has one.
   pub record IsCall (says : Option Command) (outcome : Outcome) : Type 0 where
-    pub usage_status : (outcome.status ≡ NO_COMMAND) ↔ (says ≡ None)
-    pub refused : says ≡ None → (outcome.report ≡ None) × (outcome.boot_faults ≡ 0) × IsRefused
+    pub usage_status : outcome.status ≡ NO_COMMAND → says ≡ None
+    pub refused : says ≡ None → (outcome.report ≡ None) × (outcome.boot_faults ≡ 0) × Refuses outcome.status
     pub replayed : (options : OutputOptions) (boot : List ℕ) (names : List (List ℕ))
         → says ≡ Some (Replay options boot names) → Replays options boot names outcome
     pub checked : (boot : List ℕ) → says ≡ Some (Check boot)
         → (outcome.report ≡ None) × Checks boot outcome.status outcome.boot_faults
     pub binned : (values : List ℕ) → says ≡ Some (Bins values)
         → (outcome.report ≡ None) × (outcome.boot_faults ≡ 0) × IsBinned values outcome.status
+    pub loaded : (scripts n : ℕ) → says ≡ Some (Load false scripts n) → Summarizes IsLoadOf scripts n outcome
 
 -- the words could not be read: for want of memory, or since one of them is no text
 abbrev pub IsUnreadable : SinkState → SinkState → Error → ℕ → Type 0

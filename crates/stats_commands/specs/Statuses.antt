@@ -8,7 +8,8 @@ use Rattle.boot_load.specs.BootLine.{boot_line}
 use Rattle.stats_commands.specs.declared.status.TheConstants.{DONE, NO_COMMAND, BAD_BOOT, BAD_FILE, UNREADABLE, UNWRITTEN}
 use Rattle.stats_commands.specs.declared.status.TheConstants.{NO_MEMORY}
 use Rattle.stats_commands.specs.declared.outcome.Outcome.{Outcome}
-use Rattle.stats_commands.specs.Command.{Command, quiet_command}
+use Rattle.command_words.specs.Command.{Command}
+use Rattle.stats_commands.specs.Quiet.{quiet_command}
 use Rattle.stats_commands.specs.World.{World, Sight}
 use Rattle.stats_commands.specs.FaultLines.{out_of_memory, said_of}
 use Rattle.stats_commands.specs.Outcome.{IsSaid, IsRefused, IsCall, ends_of, status_of_all, status_of_boot}

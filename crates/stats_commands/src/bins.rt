@@ -1,11 +1,8 @@
 //! `bins V..`.
-ghost use Rattle.std.specs.Prelude.{◌≡◌, None, IfOk, map, string_bytes};
-ghost use Rattle.std.specs.List.{filter_map};
-ghost use Rattle.stats_commands.specs.Command.{value_in};
+ghost use Rattle.std.specs.Prelude.{◌≡◌, None, IfOk, string_bytes};
 ghost use Rattle.stats_commands.specs.BinLines.{value_line, bin_line, bin_lines};
 ghost use Rattle.stats_commands.specs.Outcome.{Prints};
 
-use crate::command::value_in;
 use crate::outcome::{Outcome, give_up, print};
 use loglinear_bins::bin_of;
 use stat_defs::{Bin, NoMemory};
@@ -26,18 +23,6 @@ fn bin_line(alloc: Global, value: u64) -> Result<String, NoMemory>
     value_line(alloc, value, bin_of(value))
 }
 
-// The values that the words say.
-fn values_in(alloc: Global, words: &[String]) -> Result<Vec<u64>, NoMemory>
-    ensures { IfOk result (λ values. values.items ≡ filter_map (λ word. value_in (string_bytes word)) words.now) }
-{
-    Ok(
-        words
-            .iter()
-            .filter_map(|word| value_in(word.as_str()))
-            .collect(alloc)?,
-    )
-}
-
 // A line for each value.
 fn bin_lines(alloc: Global, values: &[u64]) -> Result<Vec<u8>, NoMemory>
     ensures { IfOk result (λ text. text.items ≡ bin_lines values.now) }
@@ -50,22 +35,14 @@ fn bin_lines(alloc: Global, values: &[u64]) -> Result<Vec<u8>, NoMemory>
     Ok(text)
 }
 
-// The lines on the values that the words say.
-fn lines_of(alloc: Global, words: &[String]) -> Result<Vec<u8>, NoMemory>
-    ensures { IfOk result (λ text. text.items ≡ bin_lines (filter_map value_in (map string_bytes words.now))) }
-{
-    let values = values_in(alloc, words)?;
-    bin_lines(alloc, &values)
-}
-
-/// Tells the bins of the values that the words say.
-pub fn bins<O: Sink, E: Sink>(alloc: Global, words: &[String], out: &mut O, err: &mut E) -> Outcome
+/// Writes the bins of values.
+pub fn bins<O: Sink, E: Sink>(alloc: Global, values: &[u64], out: &mut O, err: &mut E) -> Outcome
     ensures report { result.report ≡ None }
     ensures boot_faults { result.boot_faults ≡ 0 }
     ensures printed { Prints O.state out.old out.new (E.state err.old) (E.state err.new)
-        (bin_lines (filter_map value_in (map string_bytes words.now))) result.status }
+        (bin_lines values.now) result.status }
 {
-    match lines_of(alloc, words) {
+    match bin_lines(alloc, values) {
         Ok(text) => Outcome {
             status: print(&text, out, err),
             report: None,

@@ -4,20 +4,19 @@
 
 mod bins;
 mod check;
-mod command;
 mod laws;
+mod load;
 mod outcome;
 mod quiet;
 mod replay;
-mod reporting;
 mod status;
+mod summing;
 mod telling;
 
-pub use command::{Command, MAX_VALUES, command_of};
 pub use laws::{calls_fail_by_cause, calls_keep_the_table};
 pub use outcome::{Outcome, give_up, refuse_boot};
-pub use quiet::{quiet_stats, quiet_stats_with};
+pub use quiet::{quiet_stats, quiet_stats_with, serve_quiet};
 pub use replay::{Recorded, tell};
-pub use reporting::Reporting;
 pub use status::{BAD_BOOT, BAD_FILE, DONE, NO_COMMAND, NO_MEMORY, UNREADABLE, UNWRITTEN};
+pub use summing::tell_summary;
 pub use telling::{OUT_OF_MEMORY, USAGE, say};

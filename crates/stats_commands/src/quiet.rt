@@ -1,6 +1,8 @@
 //! The commands that start no thread.
-ghost use Rattle.std.specs.Prelude.{◌≡◌, None, map, string_bytes};
-ghost use Rattle.stats_commands.specs.Command.{quiet_command};
+ghost use Rattle.std.specs.Prelude.{◌≡◌, None, map, option_map, string_bytes};
+ghost use Rattle.std.specs.Option.{option_and_then};
+ghost use Rattle.command_words.specs.Views.{said_as};
+ghost use Rattle.stats_commands.specs.Quiet.{quiet_command, without_threads};
 ghost use Rattle.stats_commands.specs.FaultLines.{usage};
 ghost use Rattle.stats_commands.specs.World.{world, sight};
 ghost use Rattle.stats_commands.specs.Outcome.{IsSaid, IsCall};
@@ -8,12 +10,14 @@ ghost use Rattle.stats_commands.specs.declared.status.TheConstants as statuses;
 
 use crate::bins::bins;
 use crate::check::check;
-use crate::command::{Command, command_of};
-use crate::outcome::Outcome;
+use crate::load::load;
+use crate::outcome::{Outcome, give_up};
 use crate::replay::replay;
 use crate::status;
 use crate::telling::{USAGE, say};
+use command_words::{Command, command_of};
 use name_map::HashKey;
+use stat_defs::NoMemory;
 use stats_io::{Shelf, Sink};
 use std::alloc::Global;
 use tag_rules::PatternMaker;
@@ -31,10 +35,44 @@ fn refuse_words<E: Sink>(err: &mut E) -> Outcome
     }
 }
 
-/// The commands that start no thread: `run` is none here. `replay [--symbols] [--format F] BOOT FILE..` loads a bootstrap, applies the
-/// events of 1 to 32 files one after another to one store, and writes its one flush in the format that is asked for:
-/// `statsd`, which is usual, `prom` or `admin`. `check BOOT` loads a bootstrap with all its patterns and writes a line
-/// on it. `bins V..` writes the bin of each of 1 to 64 values.
+/// What comes of a command that was read, or of words that are none: as [`quiet_stats_with`] tells.
+pub fn serve_quiet<K: PatternMaker, F: Shelf, O: Sink, E: Sink>(
+    alloc: Global,
+    key: HashKey,
+    command: Option<Command>,
+    maker: &mut K,
+    shelf: &mut F,
+    out: &mut O,
+    err: &mut E,
+) -> Outcome
+    ensures { IsCall (sight K.memory F.holds F.state F.S.state O.state E.state)
+        (world maker.old shelf.old out.old err.old) (world maker.new shelf.new out.new err.new)
+        (option_and_then without_threads (option_map said_as command)) result }
+{
+    let Some(command) = command else {
+        return refuse_words(err);
+    };
+    match command {
+        Command::Run(_) => refuse_words(err),
+        Command::Replay(asked) => replay(alloc, key, &asked, maker, shelf, out, err),
+        Command::Check { boot } => check(alloc, boot.as_str(), maker, shelf, out, err),
+        Command::Bins { values } => bins(alloc, &values, out, err),
+        Command::Load(asked) => {
+            if asked.run {
+                refuse_words(err)
+            } else {
+                load(alloc, key, asked, maker, shelf, out, err)
+            }
+        }
+    }
+}
+
+/// The commands that start no thread: `run` and `load --run` are none here. `replay [--symbols] [--format F] BOOT FILE..`
+/// loads a bootstrap, applies the events of 1 to 32 files one after another to one store, and writes its one flush in the
+/// format that is asked for: `statsd`, which is usual, `prom` or `admin`. `check BOOT` loads a bootstrap with all its
+/// patterns and writes a line on it. `bins V..` writes the bin of each of 1 to 64 values. `load W E` applies the events
+/// of 1 to 32 scripts that it makes, of 1 to 131,072 events each, one after another under the usual bootstrap, and writes
+/// a summary.
 ///
 /// - Status 0: every file was read to its end, or the command has none, and all was written.
 /// - Status 1: the words are no command. Nothing was opened or written.
@@ -63,14 +101,9 @@ pub fn quiet_stats_with<K: PatternMaker, F: Shelf, O: Sink, E: Sink>(
         (world maker.old shelf.old out.old err.old) (world maker.new shelf.new out.new err.new)
         (quiet_command (map string_bytes words.now)) result }
 {
-    let Some(command) = command_of(words) else {
-        return refuse_words(err);
-    };
-    match command {
-        Command::Run(_) => refuse_words(err),
-        Command::Replay(asked) => replay(alloc, key, asked, maker, shelf, out, err),
-        Command::Check { boot } => check(alloc, boot, maker, shelf, out, err),
-        Command::Bins { values } => bins(alloc, values, out, err),
+    match command_of(alloc, words) {
+        Ok(command) => serve_quiet(alloc, key, command, maker, shelf, out, err),
+        Err(NoMemory) => give_up(err),
     }
 }
 

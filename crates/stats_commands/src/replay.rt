@@ -9,11 +9,11 @@ ghost use Rattle.stats_commands.specs.Outcome.{Replays, ends_of};
 ghost use Rattle.stats_commands.specs.Replay.{IsBuilt, IsRecorded, Records, EndsAs, EndsWith};
 
 use crate::outcome::{Outcome, give_up, refuse_boot};
-use crate::reporting::Reporting;
 use crate::status;
 use crate::status::status_of_all;
 use crate::telling::{WRITE_FAILED, fault_lines, say};
 use boot_load::{Boot, LoadFault, load};
+use command_words::Reporting;
 use name_map::HashKey;
 use output_options::OutputOptions;
 use replay_report::replay_files;
@@ -127,7 +127,7 @@ pub fn tell<O: Sink, E: Sink>(
 pub fn replay<K: PatternMaker, F: Shelf, O: Sink, E: Sink>(
     alloc: Global,
     key: HashKey,
-    asked: Reporting<'_>,
+    asked: &Reporting,
     maker: &mut K,
     shelf: &mut F,
     out: &mut O,
@@ -135,10 +135,10 @@ pub fn replay<K: PatternMaker, F: Shelf, O: Sink, E: Sink>(
 ) -> Outcome
     ensures { Replays (sight K.memory F.holds F.state F.S.state O.state E.state)
         (world maker.old shelf.old out.old err.old) (world maker.new shelf.new out.new err.new)
-        asked.entry.options asked.entry.boot.now (map string_bytes asked.entry.files.now) result }
+        asked.now.options (string_bytes asked.now.boot) (map string_bytes asked.now.files.items) result }
 {
-    match load(alloc, asked.boot, maker, shelf) {
-        Ok(boot) => match record(alloc, key, boot, asked.files, shelf) {
+    match load(alloc, asked.boot.as_str(), maker, shelf) {
+        Ok(boot) => match record(alloc, key, boot, &asked.files, shelf) {
             Ok(recorded) => tell(alloc, asked.options, recorded, out, err),
             Err(NoMemory) => give_up(err),
         },

@@ -10,7 +10,7 @@ use std::alloc::Global;
 
 /// What words that are no command are answered.
 pub const USAGE: &[u8] =
-    b"usage: envoy_stats run|replay [--symbols] [--format statsd|prom|admin] BOOT FILE.. | check BOOT | bins V..\n";
+    b"usage: envoy_stats run|replay [--symbols] [--format statsd|prom|admin] BOOT FILE.. | check BOOT | bins V.. | load [--run] W E\n";
 
 /// What is said where memory was wanting.
 pub const OUT_OF_MEMORY: &[u8] = b"out of memory\n";

@@ -1,4 +1,4 @@
-use Rattle.std.proofs.Common.{◌≡◌, ◌≤◌, ◌∙◌, length, map, string_bytes, refl, arith}
+use Rattle.std.proofs.Common.{◌≤◌, length, map, string_bytes, arith}
 use Rattle.std.proofs.lemmas.List.{length-map}
 use Rattle.replay_report.specs.declared.replaying.TheConstants.{MAX_FILES}
 use Rattle.stats_commands.proofs.Shown.{records}

@@ -1,0 +1,3 @@
+pub mod ScriptSoFar
+pub mod ScriptsSoFar
+pub mod ScriptsReported

@@ -1,0 +1,118 @@
+-- Scripts that were applied have the report of their events.
+use Rattle.std.proofs.Common.{◌≡◌, ◌≤◌, ◌+◌, ◌*◌, ℕ, zero, suc, Result, Ok, Err, IfOk, Some, List, [], ◌∷◌, map, length, refl, ap, sym, ◌∙◌, subst, arith}
+use Rattle.std.specs.List.{zip, flat_map, range_with_len, AllZip, AllByRecursion}
+use Rattle.std.proofs.lemmas.Nat.{mul-le}
+use Rattle.std.proofs.lemmas.List.{length-map, length-replicate}
+use Rattle.std.proofs.lemmas.List.FromFn.{length-map-range_with_len}
+use Rattle.stat_defs.specs.declared.configs.Config.{Config}
+use Rattle.stat_defs.specs.declared.events.Event.{Event}
+use Rattle.stat_defs.specs.declared.history.Verdict.{Verdict}
+use Rattle.stat_defs.specs.declared.memory.NoMemory.{NoMemory}
+use Rattle.stat_defs.specs.declared.reports.LastFlush.{LastFlush}
+use Rattle.stat_defs.specs.declared.reports.Report.{Report}
+use Rattle.stat_defs.specs.declared.reports.WorkerEnd.{WorkerEnd}
+use Rattle.event_script.specs.FileEvents.{AreEventsOf}
+use Rattle.load_scripts.specs.declared.limits.TheConstants.{MAX_SCRIPTS, MAX_SCRIPT_EVENTS}
+use Rattle.load_scripts.specs.Load.{script_events, script_text, scripts, script_texts}
+use Rattle.load_scripts.proofs.Files.{script_is_file}
+use Rattle.lone_worker.specs.declared.worker.TheConstants.{MAX_EVENTS}
+use Rattle.ledger.specs.Work.{Work, events_in, verdicts_in, work_of, together}
+use Rattle.ledger.specs.Ledger.{TakenAtFault, AreRead, IsReportOf, last_flush_alone, plan_of}
+use Rattle.ledger.proofs.WorkLists.{lengths, events_back, verdicts_back}
+use Rattle.plain_store.specs.Store.{StoreHistory, new_store, Finishes}
+use Rattle.replay_report.specs.Applying.{with_applied, AreApplied}
+use Rattle.replay_report.specs.FileRun.{all_verdicts, report_with}
+use Rattle.replay_report.proofs.OneThread.{history, swept, account, shown}
+use Rattle.load_report.specs.LoadRun.{all_script_events, AreScriptsApplied, whole_end, script_ends}
+use Rattle.load_report.specs.LoadReport.{IsLoadOf}
+
+-- the limits leave room for all scripts in a new store
+pub room_for_all : (config : Config) (first : StoreHistory) (count n : ℕ) → first ≡ new_store config
+    → count ≤ MAX_SCRIPTS → n ≤ MAX_SCRIPT_EVENTS → length first.worker.events + count * n ≤ MAX_EVENTS
+room_for_all config first count n new few small =
+    let none : length first.worker.events ≡ 0 = ap (λ (s : StoreHistory). length s.worker.events) new in
+    let room = mul-le count n MAX_SCRIPTS MAX_SCRIPT_EVENTS few small in omega (arith, none, room)
+
+-- the events of work, and its verdicts, are the work
+zipped : (work : Work) → work ≡ zip (events_in work) (verdicts_in work)
+zipped [] = refl
+zipped (told ∷ work) = ap (λ (l : Work). told ∷ l) (zipped work)
+
+-- lists of events, one after another, are the work of one worker
+as_together : (events : List (List Event)) (verdicts : List (List Verdict)) → lengths verdicts ≡ lengths events
+    → together events verdicts ≡ zip (flat_map (λ es. es) events) (all_verdicts verdicts) ∷ []
+as_together events verdicts each =
+    let work : Work = flat_map work_of (zip events verdicts) in
+    ap (λ (w : Work). w ∷ []) (zipped work
+    ∙ ap (λ (es : List Event). zip es (verdicts_in work)) (events_back events verdicts each)
+    ∙ ap (λ (vs : List Verdict). zip (flat_map (λ es. es) events) vs) (verdicts_back events verdicts each))
+
+-- each script from this one on is a whole file of its events
+are_files : (n first count : ℕ) → n ≤ MAX_SCRIPT_EVENTS → first + count ≤ MAX_SCRIPTS + 1
+    → AllZip (λ content file. AreEventsOf content file.0.end file.0.taken file.1)
+    (map (λ script. Some (script_text script n)) (range_with_len first count))
+    (zip (script_ends count) (map (λ script. script_events script n) (range_with_len first count)))
+are_files n first zero small few = tt
+are_files n first (suc count) small few = (
+  (script_text first n, refl, script_is_file first n (omega (arith, few)) small),
+  are_files n (first + 1) count small (omega (arith, few)),
+)
+
+none_taken : (count : ℕ) → AllByRecursion (λ end. TakenAtFault end.end end.taken) (script_ends count)
+none_taken zero = tt
+none_taken (suc count) = (refl, none_taken count)
+
+module _ (count n : ℕ) (verdicts : List (List Verdict)) (given : LastFlush) where
+  abbrev report : Report
+  report = report_with verdicts (script_ends count) given
+
+  many_texts : length (script_texts count n) ≡ count
+  many_texts = length-map-range_with_len (λ (script : ℕ). Some (script_text script n)) 1 count
+
+  many_scripts : length (scripts count n) ≡ count
+  many_scripts = length-map-range_with_len (λ (script : ℕ). script_events script n) 1 count
+
+  read : lengths verdicts ≡ lengths (scripts count n) → count ≤ MAX_SCRIPTS → n ≤ MAX_SCRIPT_EVENTS
+      → AreRead (script_texts count n) (scripts count n) report
+  read each few small = record {
+    an_end_each = length-replicate count whole_end ∙ sym many_texts;
+    verdicts_each = sym (length-map verdicts (λ (vs : List Verdict). length vs))
+        ∙ ap (λ (l : List ℕ). length l) each ∙ length-map (scripts count n) (λ (es : List Event). length es)
+        ∙ many_scripts ∙ sym many_texts;
+    a_verdict_each = each;
+    read = are_files n 1 count small (omega (arith, few));
+    counted = none_taken count;
+  }
+
+  -- the report of a store that all events of the scripts were applied to
+  is_load : (config : Config) (store : StoreHistory) → count ≤ MAX_SCRIPTS → n ≤ MAX_SCRIPT_EVENTS
+      → AreScriptsApplied (new_store config) count n verdicts store → Finishes store given
+      → IsLoadOf config count n report
+  is_load config store few small are finishes =
+      let events : List Event = all_script_events count n in
+      let told : List Verdict = all_verdicts verdicts in
+      let ends : List WorkerEnd = script_ends count in
+      let applied : AreApplied (new_store config) events told store = are.are_applied in
+      let at_end : Finishes (with_applied (new_store config) events told applied.entries) given =
+      subst (λ (s : StoreHistory). Finishes s given) applied.applied finishes in
+      subst
+      (λ (workers : List Work). IsReportOf (script_texts count n) (scripts count n)
+      (last_flush_alone (plan_of config)) workers report)
+      (sym (as_together (scripts count n) verdicts are.a_verdict_each)) (record {
+        read = read are.a_verdict_each few small;
+        history = history config events told applied.entries given at_end verdicts ends applied.a_verdict_each;
+        swept = swept config events told applied.entries given at_end verdicts ends applied.mine;
+        account = account config events told applied.entries given at_end verdicts ends;
+        shown = shown config events told applied.entries given at_end verdicts ends;
+      })
+
+  pub reported : (config : Config) (first store : StoreHistory) (ends : List WorkerEnd) → count ≤ MAX_SCRIPTS
+      → n ≤ MAX_SCRIPT_EVENTS → first ≡ new_store config → AreScriptsApplied first count n verdicts store
+      → Finishes store given → ends ≡ script_ends count → (answer : Result Report NoMemory)
+      → IfOk answer (λ made. made ≡ report_with verdicts ends given) → IfOk answer (IsLoadOf config count n)
+  reported config first store ends few small new are finishes ended (Ok made) is =
+      subst (λ (r : Report). IsLoadOf config count n r)
+      (sym (is ∙ ap (λ (es : List WorkerEnd). report_with verdicts es given) ended))
+      (is_load config store few small
+      (subst (λ (s : StoreHistory). AreScriptsApplied s count n verdicts store) new are) finishes)
+  reported config first store ends few small new are finishes ended (Err fault) is = tt

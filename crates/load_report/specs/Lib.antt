@@ -1,0 +1,2 @@
+pub mod LoadRun
+pub mod LoadReport

@@ -1,0 +1,5 @@
+mod ScriptsRead
+mod NamesFit
+mod GaugesApart
+mod EventsCounted
+mod ViewsTold

@@ -1,0 +1,3 @@
+pub mod LoadRun
+pub mod Files
+pub mod Laws
