@@ -1,6 +1,7 @@
 //! Want of memory.
 
 use std::alloc::{AllocError, AllocFailed};
+use std::error::Error;
 use std::fmt::{Display, Formatter, Result as Written, Write};
 
 /// There was no memory. After this answer the object is as it was, where its call says nothing else.
@@ -16,6 +17,8 @@ impl Display for NoMemory {
         f.write_str("out of memory")
     }
 }
+
+impl Error for NoMemory {}
 
 impl From<AllocError> for NoMemory {
     fn from(_: AllocError) -> Self {
