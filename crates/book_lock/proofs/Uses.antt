@@ -1,8 +1,8 @@
 -- What a caller may leave, what a call of the book adds to its log, and how the seats of a new lock are taken off their
 -- list.
-use Rattle.std.proofs.Common.{◌≡◌, ℕ, ◌+◌, ◌*◌, ◌<◌, ◌≤◌, length, subst, List, [], ◌∷◌, ◌++◌, map, sym, refl, ap, ◌∙◌, arith, Some, Result, Ok, Err, MatchResult, append-nil, All}
+use Rattle.std.proofs.Common.{◌≡◌, ℕ, ◌+◌, ◌*◌, ◌<◌, ◌≤◌, length, subst, List, [], ◌∷◌, ◌++◌, map, sym, refl, ap, ◌∙◌, arith, Some, Result, Ok, Err, MatchResult, append-nil, length-append, All}
 use Rattle.std.proofs.lemmas.List.{map-append}
-use Rattle.std.proofs.lemmas.List.Elements.{All-nil, All-cons, All-pop}
+use Rattle.std.proofs.lemmas.List.Elements.{All-nil, All-cons, All-pop, All-weaker}
 use Rattle.atomic_table.specs.Seated.{TableId}
 use Rattle.stat_defs.specs.declared.history.Entry.{Entry}
 use Rattle.stat_defs.specs.Books.{BookHistory}
@@ -26,6 +26,18 @@ names-as-found misses p q log log' names e f = let room : q.room ≡ p.room = ap
   within = All-nil _;
   rising = tt;
   small = All-nil _;
+}
+
+-- and with a longer log
+pub names-kept : (q : LockPart) (log log' more : List Entry) (names names' : List NameOp) → log' ≡ log ++ more → names' ≡ names → MayName q log names → MayName q log' names'
+names-kept q log log' more names names' grown same m = let long = ap length grown in let sum = length-append log more in record {
+  more = m.more;
+  goes_on = same ∙ m.goes_on;
+  few = subst (λ (l : List NameOp). length l ≤ q.room) (sym same) m.few;
+  late = m.late;
+  within = All-weaker (λ c. at_of c ≤ length log) (λ c. at_of c ≤ length log') (λ c h. omega arith) m.more m.within;
+  rising = m.rising;
+  small = m.small;
 }
 
 -- and with new ones that were made by entries past the log that was found

@@ -1,10 +1,11 @@
 -- What clauses read of a shared book and of its seats (this project's own).
 use Rattle.std.specs.Prelude.{◌≡◌, ℕ, zero, suc, List, [], ◌∷◌, length, map, All}
 use Rattle.stat_defs.specs.Books.{BookHistory}
+use Rattle.stat_defs.specs.declared.history.NameOp.{NameOp}
 use Rattle.seat_history.specs.declared.known.LogKnown.{LogKnown}
 use Rattle.seat_history.specs.History.{new_known}
 use Rattle.book_lock.specs.declared.lock.LockSeat.{LockSeat}
-use Rattle.book_lock.specs.Seats.{lock_id, first_book, seats_of, seat_lock, seat_known}
+use Rattle.book_lock.specs.Seats.{lock_id, first_book, seats_of, seat_lock, seat_part, seat_known}
 use Rattle.locked_book.specs.declared.shared.SharedBook.{SharedBook}
 use Rattle.locked_book.specs.declared.shared.LockedBook.{LockedBook}
 
@@ -18,6 +19,10 @@ seat_count book = seats_of book.lock
 -- what a seat knows of the book's log
 abbrev pub known_by : LockedBook → LogKnown
 known_by seat = seat_known seat.seat
+
+-- the changes of names that a seat found, left or loaded last
+abbrev pub names_by : LockedBook → List NameOp
+names_by seat = (seat_part seat.seat).names
 
 -- the seat is one of this book's
 abbrev pub IsSeatOf : SharedBook → LockedBook → Type 0
