@@ -16,7 +16,7 @@ use Rattle.metric_words.specs.declared.counter_view.CountKind.TheVariants as cou
 use Rattle.metric_words.specs.declared.gauge_view.GaugeKind.TheVariants as gauge
 use Rattle.metric_words.specs.Counters.{step_of}
 use Rattle.metric_words.specs.CounterLedger.{CounterKnown, after_step}
-use Rattle.metric_words.specs.Gauges.{gauge_step}
+use Rattle.metric_words.specs.Gauges.{gauge_step, written}
 use Rattle.metric_words.specs.GaugeLedger.{GaugeKnown, after_gauge_step}
 use Rattle.name_changes.specs.Changes.{newest}
 use Rattle.name_changes.proofs.Cutting.{changes-grow}
@@ -27,11 +27,11 @@ use Rattle.book_lock.specs.History.{Tells}
 use Rattle.book_lock.proofs.Standing.{later-not, later-then}
 use Rattle.flush_words.specs.Words.{after_loads, after_gauge_loads}
 use Rattle.flush_words.proofs.Appending.{loads-write-none}
-use Rattle.run_ledger.specs.Told.{words_on, words_read}
+use Rattle.run_ledger.specs.Told.{words_on, words_read, words_loaded}
 use Rattle.run_ledger.specs.Grows.{Loads}
 use Rattle.run_ledger.proofs.Grows.{run_grows}
 use Rattle.admin_side.specs.Shown.{Shows}
-use Rattle.admin_side.specs.Reader.{NamedRead, ReaderKnown, IsReadingOf, ReaderAccounts, with_part}
+use Rattle.admin_side.specs.Reader.{NamedRead, ReaderKnown, IsReadingOf, ReaderAccounts}
 use Rattle.admin_side.specs.Telling.{told_at}
 
 pub are-loads : (rs : List Reading) (k : CounterKnown) → Loads rs k.own.steps (after_loads rs k).own.steps
@@ -78,9 +78,20 @@ words-told log id (r ∷ reads) = ap (λ (l : List ℕ). words_on id r.shown.cou
 still-read : (all all' : List NameOp) (reads : List NamedRead) → GoesOnLater all all' → AllByRecursion (IsReadingOf all) reads → AllByRecursion (IsReadingOf all') reads
 still-read all all' reads on each = all-weaker (IsReadingOf all) (IsReadingOf all') (λ read is. record { known = later-then read.names all all' is.known on; shows = is.shows }) reads each
 
--- a reader that looked, and did nothing else
-pub reader-looked : (k : ReaderKnown) (part : LockPart) → GoesOnLater k.part.names part.names → ReaderAccounts k → ReaderAccounts (with_part part k)
-reader-looked k part on was = record {
+-- a reader that has done nothing
+pub reader-new : (k : ReaderKnown) → k.counters.own.steps ≡ [] → k.gauges.own.steps ≡ [] → k.gauges.taken ≡ [] → k.reads ≡ [] → ReaderAccounts k
+reader-new k counts levels alone none = record {
+  loaded = λ id. ap (words_loaded id) counts ∙ sym (ap (flat_map (λ (read : NamedRead). words_on id read.shown.counters)) none);
+  each = subst (AllByRecursion (IsReadingOf k.part.names)) (sym none) tt;
+  rise = subst (λ (reads : List NamedRead). IsNonDecreasing (map (λ read. read.shown.at) reads)) (sym none) (λ i j d le lt. absurd (omega (arith, lt)));
+  idle = λ id. ap (written id) levels;
+  alone = alone;
+}
+
+-- a reader that looked, and did nothing else, whatever is known of the lock
+pub reader-looked : (k : ReaderKnown) (lock : TableId) (part : LockPart) → GoesOnLater k.part.names part.names → ReaderAccounts k
+    → ReaderAccounts (record { lock = lock; part = part; counters = k.counters; gauges = k.gauges; reads = k.reads })
+reader-looked k lock part on was = record {
   loaded = was.loaded;
   each = still-read k.part.names part.names k.reads on was.each;
   rise = was.rise;
@@ -106,15 +117,15 @@ rise-more all reads read rising each at rise =
     (λ d some. let low = each-below all reads rising each (length (map at_of reads) - 1) d (omega (arith, some)) in omega (arith, low, at)))
 
 -- one reading more
-pub reader-read : (k : ReaderKnown) (part : LockPart) (shown : ReadRecord) → Tells k.part part.names → Shows part.names shown → ReaderAccounts k
+pub reader-read : (k : ReaderKnown) (lock : TableId) (part : LockPart) (shown : ReadRecord) → Tells k.part part.names → Shows part.names shown → ReaderAccounts k
     → ReaderAccounts (record {
-      lock = k.lock;
+      lock = lock;
       part = part;
       counters = after_loads shown.counters k.counters;
       gauges = after_gauge_loads shown.gauges k.gauges;
       reads = k.reads ++ record { shown = shown; names = part.names } ∷ [];
     })
-reader-read k part shown tells shows was =
+reader-read k lock part shown tells shows was =
     let read : NamedRead = record { shown = shown; names = part.names } in
     let earlier = still-read k.part.names part.names k.reads tells.known was.each in record {
       loaded = λ id. run_grows.loads id (map (told_at []) k.reads) (told_at [] read) k.counters.own.steps (after_loads shown.counters k.counters).own.steps
