@@ -1,5 +1,5 @@
 -- What a reading of the changes brings to the names that a reader knows.
-use Rattle.std.proofs.Common.{◌≡◌, ℕ, ◌*◌, List, [], ◌∷◌, ◌++◌, length, drop, refl, ap, sym, ◌∙◌, subst}
+use Rattle.std.proofs.Common.{◌≡◌, ℕ, ◌*◌, List, [], ◌++◌, length, drop, ap, sym, ◌∙◌, subst}
 use Rattle.stat_defs.specs.declared.history.NameOp.{NameOp}
 use Rattle.stat_defs.specs.Changes.{GoesOnLater}
 use Rattle.book_lock.specs.declared.view.LockPart.{LockPart}

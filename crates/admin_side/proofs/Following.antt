@@ -1,10 +1,10 @@
 -- Changes that are known, and those that go on from them.
-use Rattle.std.proofs.Common.{◌≡◌, ℕ, zero, suc, ◌+◌, ◌<◌, List, [], ◌∷◌, ◌++◌, length, drop, get_or, slice_get, Some, ◌-◌, refl, ap, sym, ◌∙◌, subst, arith, append_assoc, All}
+use Rattle.std.proofs.Common.{◌≡◌, ℕ, zero, suc, ◌+◌, List, [], ◌∷◌, ◌++◌, length, drop, slice_get, Some, ◌-◌, refl, ap, sym, ◌∙◌, arith}
 use Rattle.std.specs.Option.{option_map_or}
 use Rattle.std.proofs.lemmas.Option.{none-some}
 use Rattle.stat_defs.specs.declared.history.NameOp.{NameOp}
 use Rattle.stat_defs.specs.Changes.{at_of, GoesOnLater}
-use Rattle.name_changes.specs.Changes.{newest_from, newest}
+use Rattle.name_changes.specs.Changes.{newest_from}
 
 -- what is past the known ones stands behind them
 pub goes-past : (known all : List NameOp) → GoesOnLater known all → all ≡ known ++ drop (length known) all

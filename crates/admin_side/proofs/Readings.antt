@@ -5,7 +5,6 @@ use Rattle.std.specs.List.Sorted.{IsNonDecreasing}
 use Rattle.std.proofs.lemmas.List.{map-append}
 use Rattle.std.proofs.lemmas.List.Sorted.{IsNonDecreasingBy-push}
 use Rattle.atomic_table.specs.Seated.{TableId}
-use Rattle.stat_defs.specs.Books.{BookHistory}
 use Rattle.stat_defs.specs.Changes.{NeverFalls, GoesOnLater}
 use Rattle.stat_defs.specs.declared.history.Entry.{Entry}
 use Rattle.stat_defs.specs.declared.history.NameOp.{NameOp}
@@ -64,7 +63,6 @@ went-on k k' c = (c.finds.log.0, ap (λ z. z.known) c.leaves ∙ (ap (λ b. b.lo
 
 pub config-stays : (k k' : LogKnown) → Calls IsAsFound k k' → (k'.config ≡ k.config) × (k'.workers ≡ k.workers)
 config-stays k k' c = (ap (λ z. z.config) c.leaves, ap (λ z. z.workers) c.leaves)
-
 
 pub same_lock : (k old : ReaderKnown) {id lock : TableId} → k ≡ old → old.lock ≡ id → lock ≡ id → lock ≡ k.lock
 same_lock k old same was is = is ∙ sym (ap (λ (z : ReaderKnown). z.lock) same ∙ was)

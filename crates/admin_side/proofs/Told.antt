@@ -1,5 +1,5 @@
 -- Readings of changes that a log makes account for the log.
-use Rattle.std.proofs.Common.{◌≡◌, ℕ, ◌+◌, ◌&&◌, not, Bool, true, false, cond, List, [], ◌∷◌, map, filter, length, take, drop, refl, ap, sym, ◌∙◌}
+use Rattle.std.proofs.Common.{◌≡◌, ℕ, ◌+◌, ◌&&◌, not, Bool, true, false, cond, List, [], ◌∷◌, map, filter, take, drop, refl, ap, sym, ◌∙◌}
 use Rattle.std.specs.List.{AllByRecursion}
 use Rattle.std.proofs.lemmas.List.{take-append-drop, length-take-le}
 use Rattle.stat_defs.specs.declared.configs.ScopeSpec.{ScopeSpec}
@@ -17,7 +17,6 @@ use Rattle.name_changes.specs.Changes.{changes_in, live_names, names_not_gone, n
 use Rattle.name_changes.proofs.Folding.{known-changes-give-names}
 use Rattle.name_list.specs.Ids.{ids_of}
 use Rattle.ledger.proofs.Names.{kinds}
-use Rattle.run_ledger.specs.Told.{ReadTold}
 use Rattle.run_ledger.specs.Accounts.{ReadAccounts, listed}
 use Rattle.book_lock.proofs.Standing.{later-then}
 use Rattle.admin_side.specs.Reader.{NamedRead, IsReadingOf}

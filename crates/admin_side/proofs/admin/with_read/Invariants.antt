@@ -1,4 +1,3 @@
-
 use Rattle.admin_side.proofs.admin.with_read.Given as goal
 
 abbrev pub ghost-and_for : goal.ghost-and_for

@@ -1,5 +1,4 @@
-use Rattle.std.proofs.Common.{ap, sym, ◌∙◌}
-use Rattle.stat_defs.specs.Changes.{at_of}
+use Rattle.std.proofs.Common.{sym, ◌∙◌}
 use Rattle.admin_side.proofs.Following.{newest-end}
 use Rattle.admin_side.proofs.known_names.newest_of.Goals as goal
 

@@ -1,7 +1,7 @@
 use Rattle.std.proofs.Common.{map}
 use Rattle.std.proofs.lemmas.Result.{IfOk-weaker}
 use Rattle.locked_book.specs.Sharing.{first_of, seat_count, known_by, names_by}
-use Rattle.locked_book.specs.Ending.{GivesNames, IsLastOf}
+use Rattle.locked_book.specs.Ending.{IsLastOf}
 use Rattle.locked_book.proofs.NamesGiven.{last_gives}
 use Rattle.locked_book.proofs.FirstChanges.{last_first}
 use Rattle.locked_book.proofs.ending.close_book.Goals as goal

@@ -9,7 +9,7 @@ use Rattle.metric_words.specs.GaugeLedger.{gauge_known}
 use Rattle.locked_book.specs.Sharing.{part_of, names_by}
 use Rattle.admin_side.specs.declared.words.ReadWords.{ReadWords}
 use Rattle.admin_side.specs.Shown.{Shows}
-use Rattle.admin_side.specs.Reader.{NamedRead, ReaderKnown, ReaderAccounts, Reads}
+use Rattle.admin_side.specs.Reader.{ReaderKnown, ReaderAccounts, Reads}
 use Rattle.admin_side.specs.ReaderKept.{shown, named_by}
 use Rattle.admin_side.proofs.Readings.{reader-looked, reader-read, same_lock, loads-bank, gauge_loads-bank}
 use Rattle.admin_side.proofs.admin.Admin.read.Goals as goal

@@ -3,7 +3,7 @@ use Rattle.stat_defs.specs.declared.history.NameOp.{NameOp}
 use Rattle.stat_defs.specs.Changes.{id_of, GoesOnLater}
 use Rattle.book_state.specs.declared.limits.TheConstants.{MAX_METRICS}
 use Rattle.name_changes.specs.Changes.{newest_from, newest}
-use Rattle.locked_book.specs.Sharing.{part_of, names_by}
+use Rattle.locked_book.specs.Sharing.{part_of}
 use Rattle.admin_side.proofs.Following.{newest-both}
 use Rattle.admin_side.proofs.Brought.{names-read, all-read}
 use Rattle.admin_side.proofs.known_names.KnownNames.bring_up.Goals as goal
