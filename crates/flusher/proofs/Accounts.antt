@@ -37,7 +37,7 @@ use Rattle.run_ledger.specs.Accounts.{FlushAccounts}
 use Rattle.run_ledger.specs.Grows.{Latches}
 use Rattle.run_ledger.proofs.Grows.{run_grows}
 use Rattle.store_parts.specs.Ids.{StoreIds}
-use Rattle.admin_side.specs.Reader.{rules_by}
+use Rattle.flusher.specs.Flusher.{rules_by}
 use Rattle.admin_side.proofs.Listed.{listed-is}
 use Rattle.admin_side.proofs.Readings.{all-push, gauge_loads-taken}
 use Rattle.flusher.specs.Shown.{Flushed}

@@ -17,7 +17,7 @@ use Rattle.locked_book.specs.Lists.{Lists, SweepsListed}
 use Rattle.run_ledger.specs.Told.{FlushTold}
 use Rattle.run_ledger.specs.Accounts.{FlushAccounts}
 use Rattle.run_ledger.proofs.Grows.{run_grows}
-use Rattle.admin_side.specs.Reader.{rules_by}
+use Rattle.flusher.specs.Flusher.{rules_by}
 use Rattle.admin_side.proofs.Readings.{all-weaker, went-on, config-stays}
 use Rattle.flusher.specs.Flusher.{RoundAccounts, begun_by, sweep_of, at_of}
 

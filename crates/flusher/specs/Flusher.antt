@@ -35,8 +35,14 @@ use Rattle.run_ledger.specs.Told.{FlushTold, halves_of}
 use Rattle.run_ledger.specs.Accounts.{FlushAccounts}
 use Rattle.store_parts.specs.declared.store.Store.{Store}
 use Rattle.store_parts.specs.Ids.{StoreIds, ids_of}
-use Rattle.admin_side.specs.Reader.{rules_by}
 use Rattle.flusher.specs.Shown.{Flushed}
+use Rattle.seat_history.specs.History.{known_history}
+use Rattle.book_state.specs.State.{NameRules}
+use Rattle.stat_book.specs.Calls.{rules_of}
+
+-- the rules of the names of the book, as the seat knows it
+abbrev pub rules_by : LogKnown → NameRules
+rules_by seat = rules_of (known_history seat)
 
 -- a round that is begun: what its sweep listed, the log that the sweep found, and the sweep's entry
 pub record Begun : Type 0 where
