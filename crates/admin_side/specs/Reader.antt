@@ -1,52 +1,53 @@
 -- What a reader of a store knows and tells (this project's own). Its own calls alone change it.
 use Rattle.std.specs.Prelude.{◌≡◌, ℕ, ◌≤◌, List, [], ◌∷◌, ◌++◌, map}
-use Rattle.std.specs.List.{AllByRecursion}
+use Rattle.std.specs.List.{AllByRecursion, flat_map}
 use Rattle.std.specs.List.Sorted.{IsNonDecreasing}
 use Rattle.atomic_table.specs.Seated.{TableId}
+use Rattle.stat_defs.specs.declared.history.NameOp.{NameOp}
 use Rattle.stat_defs.specs.declared.reports.ReadRecord.{ReadRecord}
-use Rattle.seat_history.specs.declared.known.LogKnown.{LogKnown}
-use Rattle.seat_history.specs.History.{known_history}
+use Rattle.stat_defs.specs.Changes.{GoesOnLater}
 use Rattle.book_state.specs.declared.limits.TheConstants.{MAX_METRICS}
-use Rattle.book_state.specs.State.{NameRules}
-use Rattle.stat_book.specs.Calls.{rules_of}
-use Rattle.book_access.specs.Calling.{Calls}
-use Rattle.book_access.specs.Making.{IsAsFound}
+use Rattle.book_lock.specs.declared.view.LockPart.{LockPart}
 use Rattle.book_lock.specs.Seats.{lock_id}
 use Rattle.metric_words.specs.declared.counter_bank.CounterBank.{CounterBank}
 use Rattle.metric_words.specs.declared.gauge_bank.GaugeBank.{GaugeBank}
 use Rattle.metric_words.specs.CounterLedger.{CounterKnown, bank_id, size_of}
 use Rattle.metric_words.specs.Gauges.{written}
 use Rattle.metric_words.specs.GaugeLedger.{GaugeKnown, gauges_id, gauges_size}
-use Rattle.locked_book.specs.declared.listing.Listing.{Listing}
 use Rattle.locked_book.specs.declared.shared.SharedBook.{SharedBook}
-use Rattle.locked_book.specs.Lists.{ListsNames}
 use Rattle.flush_words.specs.Words.{after_loads, after_gauge_loads}
-use Rattle.run_ledger.specs.Told.{ReadTold, words_read, words_loaded}
-use Rattle.run_ledger.specs.Accounts.{ReadAccounts}
+use Rattle.run_ledger.specs.Told.{words_on, words_loaded}
 use Rattle.admin_side.specs.Shown.{Shows}
+use Rattle.admin_side.specs.Looking.{BringsUp, Looks}
 
--- the lock of its book; what its seats know of the log, of the counters and of the gauges; and its readings, in order
+-- a reading, and the changes of names that it knew
+pub record NamedRead : Type 0 where
+  pub shown : ReadRecord
+  pub names : List NameOp
+
+-- The lock of its book; what its seats know of the book and of its names, with their steps, of the counters and of the
+-- gauges; and its readings, in order.
 pub record ReaderKnown : Type 0 where
   pub lock : TableId
-  pub seat : LogKnown
+  pub part : LockPart
   pub counters : CounterKnown
   pub gauges : GaugeKnown
-  pub reads : List ReadTold
+  pub reads : List NamedRead
 
-abbrev pub new_reader : TableId → LogKnown → CounterKnown → GaugeKnown → ReaderKnown
-new_reader lock seat counters gauges = record {
+abbrev pub new_reader : TableId → LockPart → CounterKnown → GaugeKnown → ReaderKnown
+new_reader lock part counters gauges = record {
   lock = lock;
-  seat = seat;
+  part = part;
   counters = counters;
   gauges = gauges;
   reads = [];
 }
 
--- the same, whose seat of the book knows this of the log
-abbrev pub with_seat : LogKnown → ReaderKnown → ReaderKnown
-with_seat seat k = record {
+-- the same, whose seat of the book knows this and made these steps
+abbrev pub with_part : LockPart → ReaderKnown → ReaderKnown
+with_part part k = record {
   lock = k.lock;
-  seat = seat;
+  part = part;
   counters = k.counters;
   gauges = k.gauges;
   reads = k.reads;
@@ -60,35 +61,38 @@ pub record IsReaderOf (book : SharedBook) (counters : CounterBank) (gauges : Gau
   pub gauges_bank : k.gauges.bank ≡ gauges_id gauges
   pub sizes : (MAX_METRICS ≤ size_of counters) × (MAX_METRICS ≤ gauges_size gauges)
 
--- the log that its seat knows was found, and nothing else was done
-pub record FindsOnly (k k' : ReaderKnown) : Type 0 where
-  pub found : Calls IsAsFound k.seat k'.seat
-  pub rest : k' ≡ with_seat k'.seat k
+-- it looked at the published changes of names, and did nothing else
+pub record LooksOnly (k k' : ReaderKnown) : Type 0 where
+  pub looks : Looks k.part k'.part
+  pub rest : k' ≡ with_part k'.part k
 
--- One reading more. Under the lock it took the listing of the log that it found, and then it loaded each metric of the
--- listing once, and shows what its loads found.
+-- One reading more. It loaded the number of the published changes of names once, and then the words of those past the
+-- ones that it had; and then it loaded each counter and each gauge that is not gone by all of them once, and shows what
+-- its loads found.
 pub record Reads (shown : ReadRecord) (k k' : ReaderKnown) : Type 0 where
-  pub listing : Listing
-  pub names : Calls (ListsNames listing) k.seat k'.seat
-  pub shows : Shows listing shown
+  pub had : List NameOp
+  pub changes : BringsUp had k.part k'.part
+  pub shows : Shows k'.part.names shown
   pub told : k' ≡ record {
     lock = k.lock;
-    seat = k'.seat;
+    part = k'.part;
     counters = after_loads shown.counters k.counters;
     gauges = after_gauge_loads shown.gauges k.gauges;
-    reads = k.reads ++ record { shown = shown; found = k'.seat.known } ∷ [];
+    reads = k.reads ++ record { shown = shown; names = k'.part.names } ∷ [];
   }
 
--- the rules of the names of the book, as the seat knows it
-abbrev pub rules_by : LogKnown → NameRules
-rules_by seat = rules_of (known_history seat)
+-- a reading shows what the changes give that it knew, and these changes go on, later, to be all of these
+pub record IsReadingOf (all : List NameOp) (read : NamedRead) : Type 0 where
+  pub known : GoesOnLater read.names all
+  pub shows : Shows read.names read.shown
 
 -- What is true of a reader at every moment: its readings of a counter are what its loads of it found, in order; each
--- reading accounts for the log that its seat knows, so that none is of a shorter log than an earlier one; and it has
--- written no gauge, and taken in no other seat.
+-- reading is of changes that its seat knows, and none of fewer entries of the log than an earlier one; and it has written
+-- no gauge, and taken in no other seat.
 pub record ReaderAccounts (k : ReaderKnown) : Type 0 where
-  pub loaded : (id : ℕ) → words_loaded id k.counters.own.steps ≡ words_read id k.reads
-  pub each : AllByRecursion (ReadAccounts (rules_by k.seat) k.seat.workers k.seat.known) k.reads
+  pub loaded : (id : ℕ) → words_loaded id k.counters.own.steps
+      ≡ flat_map (λ read. words_on id read.shown.counters) k.reads
+  pub each : AllByRecursion (IsReadingOf k.part.names) k.reads
   pub rise : IsNonDecreasing (map (λ read. read.shown.at) k.reads)
   pub idle : (id : ℕ) → written id k.gauges.own.steps ≡ 0
   pub alone : k.gauges.taken ≡ []

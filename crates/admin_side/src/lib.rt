@@ -1,11 +1,13 @@
 //! The admin reader of a store whose book and words threads share.
 //!
-//! A reading takes the names of the metrics that are not gone under the lock of the book, and loads each word of theirs
-//! once, without it.
+//! A reading brings the names that the reader knows up to the published changes of the book's names, and loads each word
+//! of theirs once. It takes no turn of the book's lock.
 #![tactic(auto)]
 
 mod admin;
+mod known_names;
 mod words;
 
 pub use admin::Admin;
+pub use known_names::KnownNames;
 pub use words::ReadWords;

@@ -1,7 +1,8 @@
 //! The end of a lock.
 ghost use Rattle.std.specs.Prelude.{◌≡◌, ◌<◌, [], map};
 ghost use Rattle.book_lock.specs.History.{IsOneHistory};
-ghost use Rattle.book_lock.specs.Seats.{lock_id, first_book, seats_of, seat_part, seat_known, AreAll};
+ghost use Rattle.book_lock.specs.Naming.{NamesAreOne};
+ghost use Rattle.book_lock.specs.Seats.{lock_id, first_book, seats_of, room_of, seat_part, seat_known, AreAll};
 
 use crate::lock::{BookLock, LockSeat};
 use crate::steps::Place;
@@ -12,8 +13,9 @@ impl<B: Booked + Drop> BookLock<B> {
     /// The book, once all seats are back.
     pub fn close(self, seats: Vec<LockSeat<B>>) -> B
         requires { AreAll (lock_id self) (seats_of self) seats.items }
-        ensures { IsOneHistory (B.history (first_book self)) (seats_of self) (map seat_known seats.items)
+        ensures history { IsOneHistory (B.history (first_book self)) (seats_of self) (map seat_known seats.items)
             (B.history result) }
+        ensures names { NamesAreOne (room_of self) (map seat_part seats.items) (B.changed result) }
     {
         let all = self.gather(seats);
         let BookLock { table } = self;

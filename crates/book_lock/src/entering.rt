@@ -1,13 +1,15 @@
 //! How a seat comes to the book, leaves it, and asks for the number of releases. None of these calls takes
 //! memory.
-ghost use Rattle.std.specs.Prelude.{◌≡◌, ◌≤◌};
+ghost use Rattle.std.specs.Prelude.{◌≡◌, ◌≤◌, length};
+ghost use Rattle.book_lock.specs.Naming.{FindsNames, MayName};
 ghost use Rattle.seat_history.specs.History.{Finds, MayLeave};
 ghost use Rattle.book_lock.specs.History.{Entered, took, missed, left, counted};
-ghost use Rattle.book_lock.specs.Seats.{lock_id, seat_part, seat_known, AtRest, HasBook, held_book, OnHeld, OnBusy};
+ghost use Rattle.book_lock.specs.Seats.{lock_id, seat_part, seat_known, AtRest, HasBook, held_book, held_found};
+ghost use Rattle.book_lock.specs.Seats.{OnHeld, OnHeldWhole, OnBusy};
 
 use crate::held::{Held, Try};
 use crate::lock::{BookLock, LockSeat};
-use crate::steps;
+use crate::{steps, words};
 use stat_defs::Booked;
 use std::hint::spin_loop;
 use std::sync::Wait;
@@ -35,7 +37,11 @@ impl<B: Booked + Drop> BookLock<B> {
         requires { AtRest (lock_id self.now) seat.old }
         ensures seat { HasBook (lock_id self.now) seat.new }
         ensures found { Finds (seat_known seat.old) (B.history (held_book result)) }
-        ensures part { Entered (B.history (held_book result)).log (seat_part seat.old) (seat_part seat.new) }
+        ensures names { FindsNames (seat_part seat.old) (B.history (held_book result)).log
+            (B.changed (held_book result)) }
+        ensures count { held_found result ≡ length (B.changed (held_book result)) }
+        ensures part { Entered (B.history (held_book result)).log (B.changed (held_book result)) (seat_part seat.old)
+            (seat_part seat.new) }
     {
         let mut pauses = 1;
         for _ in rt.forever() {
@@ -52,24 +58,35 @@ impl<B: Booked + Drop> BookLock<B> {
         requires { AtRest (lock_id self.now) seat.old }
         ensures held { OnHeld result (λ book. HasBook (lock_id self.now) seat.new) }
         ensures found { OnHeld result (λ book. Finds (seat_known seat.old) (B.history book)) }
-        ensures took { OnHeld result (λ b. seat_part seat.new ≡ took (B.history b).log (seat_part seat.old)) }
+        ensures names { OnHeld result (λ book. FindsNames (seat_part seat.old) (B.history book).log (B.changed book)) }
+        ensures count { OnHeldWhole result (λ held. held_found held ≡ length (B.changed (held_book held))) }
+        ensures took { OnHeld result (λ b. seat_part seat.new
+            ≡ took (B.history b).log (B.changed b) (seat_part seat.old)) }
         ensures busy { OnBusy result (λ word. (word ≡ 1) × AtRest (lock_id self.now) seat.new) }
         ensures missed { OnBusy result (λ word. seat_part seat.new ≡ missed word (seat_part seat.old)) }
     {
         match steps::take(&self.table.shared, &mut seat.place) {
-            Ok(book) => Try::Held(Held { book }),
+            Ok(book) => {
+                let found = book.changes();
+                Try::Held(Held { book, found })
+            }
             Err(word) => Try::Busy(word),
         }
     }
 
-    /// Publishes the number of the book's releases, and gives the turn back with the book.
+    /// Stores the words of the book's new changes of names, publishes the number of its changes and then that of its
+    /// releases, and gives the turn back with the book.
     pub fn leave(&self, seat: &mut LockSeat<B>, held: Held<B>)
         requires seat { HasBook (lock_id self.now) seat.old }
         requires book { MayLeave (seat_known seat.old) (B.history (held_book held)) }
+        requires found { held_found held ≡ length (seat_part seat.old).names }
+        requires names { MayName (seat_part seat.old) (B.history (held_book held)).log (B.changed (held_book held)) }
         ensures seat { AtRest (lock_id self.now) seat.new }
-        ensures part { seat_part seat.new ≡ left (B.history (held_book held)).log (seat_part seat.old) }
+        ensures part { seat_part seat.new ≡ left (B.history (held_book held)).log (B.changed (held_book held))
+            (seat_part seat.old) }
     {
-        let Held { book } = held;
+        let Held { book, found } = held;
+        words::store_names(&self.table.shared, &mut seat.place, &*book, found);
         steps::give(&self.table.shared, &mut seat.place, book);
     }
 

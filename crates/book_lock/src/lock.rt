@@ -1,5 +1,6 @@
 //! A lock, and its seats.
-ghost use Rattle.std.specs.Prelude.{◌≡◌, ◌<◌, length};
+ghost use Rattle.std.specs.Prelude.{◌≡◌, ◌+◌, ◌*◌, ◌<◌, ◌≤◌, length};
+ghost use Rattle.book_lock.specs.declared.limits.TheConstants.{MAX_CHANGES};
 
 use crate::plays::Locking;
 use crate::steps::Place;
@@ -8,13 +9,15 @@ use atomic_table::Table;
 use stat_defs::Booked;
 use std::alloc::Global;
 
-/// A lock round a book. Word 0 of its table is the turn, 1 while a seat has it, and word 8, which is on another cache
-/// line, the number of releases; the slot has the book while no seat does.
+/// A lock round a book. Word 0 of its table is the turn, 1 while a seat has it, word 8 the number of releases, word 16
+/// the number of published changes of names, each on a cache line of its own, and behind it stand two words of each
+/// change; the slot has the book while no seat does.
 #[derive(Drop)]
 pub struct BookLock<B: Booked> {
     pub(crate) table: Table<Option<Box<B>>, LockView, LockKey<B>, Locking, Global>,
-    ghost sized: { (table.shared.table_id.words ≡ 9) × (table.shared.table_id.slots ≡ 1)
-        × (0 < table.shared.key.seats) },
+    ghost sized: { (table.shared.table_id.words ≡ 17 + 2 * table.shared.key.room)
+        × (table.shared.table_id.slots ≡ 1) × (0 < table.shared.key.seats)
+        × (table.shared.key.room ≤ MAX_CHANGES) },
 }
 
 /// A seat of a lock. Contracts alone see its part.

@@ -1,10 +1,13 @@
 -- What clauses read of a shared book and of its seats (this project's own).
 use Rattle.std.specs.Prelude.{◌≡◌, ℕ, zero, suc, List, [], ◌∷◌, length, map, All}
 use Rattle.stat_defs.specs.Books.{BookHistory}
+use Rattle.stat_defs.specs.declared.history.NameOp.{NameOp}
 use Rattle.seat_history.specs.declared.known.LogKnown.{LogKnown}
 use Rattle.seat_history.specs.History.{new_known}
 use Rattle.book_lock.specs.declared.lock.LockSeat.{LockSeat}
-use Rattle.book_lock.specs.Seats.{lock_id, first_book, seats_of, seat_lock, seat_known}
+use Rattle.book_lock.specs.declared.view.LockPart.{LockPart}
+use Rattle.book_lock.specs.History.{Tells, told}
+use Rattle.book_lock.specs.Seats.{lock_id, first_book, seats_of, seat_lock, seat_part, seat_known}
 use Rattle.locked_book.specs.declared.shared.SharedBook.{SharedBook}
 use Rattle.locked_book.specs.declared.shared.LockedBook.{LockedBook}
 
@@ -15,9 +18,22 @@ first_of book = first_book book.lock
 abbrev pub seat_count : SharedBook → ℕ
 seat_count book = seats_of book.lock
 
--- what a seat knows of the book's log
+-- what a seat knows of the book and of its own steps, of the book's log, and of the changes of names: those that it
+-- found, left or loaded last
+abbrev pub part_of : LockedBook → LockPart
+part_of seat = seat_part seat.seat
+
 abbrev pub known_by : LockedBook → LogKnown
 known_by seat = seat_known seat.seat
+
+abbrev pub names_by : LockedBook → List NameOp
+names_by seat = (part_of seat).names
+
+-- one load of the number of changes, and no other step
+pub record LooksOnly (p q : LockPart) : Type 0 where
+  pub names : List NameOp
+  pub tells : Tells p names
+  pub part : q ≡ told names p
 
 -- the seat is one of this book's
 abbrev pub IsSeatOf : SharedBook → LockedBook → Type 0

@@ -1,7 +1,8 @@
 //! The end of a shared book.
-ghost use Rattle.std.specs.Prelude.{◌≡◌, ◌≤◌, [], IfOk, length, map, vec_capacity};
+ghost use Rattle.std.specs.Prelude.{◌≡◌, ◌≤◌, [], All, IfOk, length, map, vec_capacity};
 ghost use Rattle.book_lock.specs.History.{IsOneHistory};
-ghost use Rattle.locked_book.specs.Sharing.{first_of, seat_count, known_by, bare_seat, AreAllSeats};
+ghost use Rattle.locked_book.specs.Sharing.{first_of, seat_count, known_by, names_by, bare_seat, AreAllSeats};
+ghost use Rattle.locked_book.specs.Ending.{GivesNames, AreFirstOf};
 
 use crate::shared::{LockedBook, SharedBook};
 use book_lock::LockSeat;
@@ -13,7 +14,10 @@ impl SharedBook {
     /// The book, once all its seats are back. Where there is no memory, it is gone.
     pub fn close(self, alloc: Global, seats: Vec<LockedBook>) -> Result<Book, NoMemory>
         requires { AreAllSeats self seats.items }
-        ensures { IfOk result (λ book. IsOneHistory (first_of self) (seat_count self) (map known_by seats.items) book) }
+        ensures history { IfOk result (λ book. IsOneHistory (first_of self) (seat_count self)
+            (map known_by seats.items) book) }
+        ensures names { IfOk result (λ book. All (GivesNames book) (map names_by seats.items)) }
+        ensures changes { IfOk result (λ book. All (AreFirstOf book) (map names_by seats.items)) }
     {
         let Ok(mut bare) = Vec::with_capacity(alloc, seats.len()) else {
             drop(seats);
@@ -22,7 +26,9 @@ impl SharedBook {
         };
         bare_seats(seats, &mut bare);
         let SharedBook { lock } = self;
-        Ok(lock.close(bare))
+        let book = lock.close(bare);
+        let _log = book.log();
+        Ok(book)
     }
 }
 

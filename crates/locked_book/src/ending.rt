@@ -1,10 +1,11 @@
 //! The last sweep of a book, and its log.
-ghost use Rattle.std.specs.Prelude.{◌≡◌, IfOk, length, map};
+ghost use Rattle.std.specs.Prelude.{◌≡◌, All, IfOk, length, map};
 ghost use Rattle.std.specs.List.{range_with_len};
+ghost use Rattle.seat_history.specs.History.{with_log};
 ghost use Rattle.stat_book.specs.Calls.{state_of, IsLegal};
-ghost use Rattle.locked_book.specs.Sharing.{first_of, seat_count, known_by, AreAllSeats};
+ghost use Rattle.locked_book.specs.Sharing.{first_of, seat_count, known_by, names_by, AreAllSeats};
 ghost use Rattle.locked_book.specs.Lists.{AreMetrics};
-ghost use Rattle.locked_book.specs.Ending.{as_id, counters_made, IsLastOf, EndsBook};
+ghost use Rattle.locked_book.specs.Ending.{as_id, counters_made, GivesNames, AreFirstOf, IsLastOf, EndsBook};
 
 use crate::listing::{Listing, of_kind};
 use crate::shared::{LockedBook, SharedBook};
@@ -63,13 +64,19 @@ fn end_of(alloc: Global, book: Book) -> Result<BookEnd, NoMemory>
 
 /// The end of a shared book: all its seats give it back, and it is swept once more. Where there is no memory, all is
 /// gone. It takes time in the metrics that were made, and does not wait.
+///
+/// The changes of names that each seat found, left or loaded give the names that were not gone in the first entries of
+/// the log.
 pub fn close_book(
     alloc: Global,
     book: SharedBook,
     seats: Vec<LockedBook>,
 ) -> Result<BookEnd, NoMemory>
     requires { AreAllSeats book seats.items }
-    ensures { IfOk result (λ end. EndsBook (first_of book) (seat_count book) (map known_by seats.items) end) }
+    ensures ends { IfOk result (λ end. EndsBook (first_of book) (seat_count book) (map known_by seats.items) end) }
+    ensures names { IfOk result (λ end. All (GivesNames (with_log end.log (first_of book))) (map names_by seats.items)) }
+    ensures changes { IfOk result (λ end. All (AreFirstOf (with_log end.log (first_of book)))
+        (map names_by seats.items)) }
 {
     let book = book.close(alloc, seats)?;
     end_of(alloc, book)

@@ -10,6 +10,7 @@ mod closing;
 mod ending;
 mod listing;
 mod making;
+mod reading;
 mod shared;
 mod sweeping;
 

@@ -1,23 +1,30 @@
 //! How a shared book and its seats are made.
-ghost use Rattle.std.specs.Prelude.{◌≡◌, ◌<◌, ◌≤◌, [], IfOk, length, map, vec_capacity};
+ghost use Rattle.std.specs.Prelude.{◌≡◌, ◌*◌, ◌<◌, ◌≤◌, [], IfOk, length, map, vec_capacity};
+ghost use Rattle.book_state.specs.declared.limits.TheConstants.{MAX_METRICS};
+ghost use Rattle.stat_book.specs.NameChanges.{changes_of};
 ghost use Rattle.book_lock.specs.Seats.{lock_id, first_book, AreNew};
 ghost use Rattle.locked_book.specs.Sharing.{first_of, seat_count, bare_seat, AreNewSeats};
 
 use crate::shared::{LockedBook, SharedBook};
 use book_lock::{BookLock, LockSeat};
+use book_state::MAX_METRICS;
 use stat_book::Book;
 use stat_defs::NoMemory;
 use std::alloc::Global;
 
+// Two changes of names for each metric that may be made: it is made once, and becomes gone at most once.
+const ROOM: u32 = 2 * MAX_METRICS as u32;
+
 impl SharedBook {
-    /// Puts a book behind a lock with so many seats, which come in the order of their numbers from 0. Where there is no
-    /// memory, the book is gone.
+    /// Puts a book that has made no metric behind a lock with so many seats, which come in the order of their numbers
+    /// from 0. Where there is no memory, the book is gone.
     pub fn new(
         alloc: Global,
         book: Book,
         seats: u32,
     ) -> Result<(SharedBook, Vec<LockedBook>), NoMemory>
-        requires { 0 < seats }
+        requires seats { 0 < seats }
+        requires new { changes_of book ≡ [] }
         ensures book { IfOk result (λ r. (first_of r.0 ≡ book) × (seat_count r.0 ≡ seats)) }
         ensures seats { IfOk result (λ r. AreNewSeats r.0 seats r.1.items) }
     {
@@ -25,7 +32,7 @@ impl SharedBook {
             drop(book);
             return Err(NoMemory);
         };
-        let (lock, bare) = BookLock::new(alloc, book, seats)?;
+        let (lock, bare) = BookLock::new(alloc, book, seats, ROOM)?;
         number_seats(&lock, bare, seats, &mut numbered);
         Ok((SharedBook { lock }, numbered))
     }
@@ -38,7 +45,7 @@ fn number_seats(
     count: u32,
     numbered: &mut Vec<LockedBook>,
 )
-    requires seats { AreNew (lock_id lock.now) (first_book lock.now) count seats.items }
+    requires seats { AreNew (lock_id lock.now) (first_book lock.now) (2 * MAX_METRICS) count seats.items }
     requires room { (numbered.old.items ≡ []) × (count ≤ vec_capacity numbered.old) }
     ensures { map bare_seat numbered.new.items ≡ seats.items }
 {

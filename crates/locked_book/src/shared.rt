@@ -1,6 +1,7 @@
 //! The book, and its seats.
-ghost use Rattle.std.specs.Prelude.{◌≡◌};
-ghost use Rattle.book_lock.specs.Seats.{AtRest, seat_lock, seat_number};
+ghost use Rattle.std.specs.Prelude.{◌≡◌, ◌*◌};
+ghost use Rattle.book_state.specs.declared.limits.TheConstants.{MAX_METRICS};
+ghost use Rattle.book_lock.specs.Seats.{AtRest, seat_lock, seat_part, seat_number};
 
 use book_lock::{BookLock, LockSeat};
 use stat_book::Book;
@@ -26,4 +27,5 @@ pub struct LockedBook {
     pub(crate) number: u32,
     ghost numbered: { seat_number seat ≡ number },
     ghost rests: { AtRest (seat_lock seat) seat },
+    ghost roomy: { (seat_part seat).room ≡ 2 * MAX_METRICS },
 }

@@ -13,7 +13,6 @@ use admin_side::Admin;
 use event_script::{Lines, Step, line_says_lawful_events};
 use flush_cells::Pass;
 use flusher::Flusher;
-use locked_book::Way;
 use recorder::Recorder;
 use stat_defs::{Event, EventRef, FlushRecord, NoMemory, ReadRecord, Verdict};
 use stats_io::SureSource;
@@ -114,10 +113,9 @@ pub(crate) fn read<R: Wait>(desk: &Desk<'_, R>, admin: &mut Admin) -> Result<Rea
         gauges,
         cells: _,
     } = desk.store;
-    let way = Way { rt: desk.rt, book };
-    match admin.read(&way, desk.alloc, counters, gauges) {
+    match admin.read(book, desk.alloc, counters, gauges) {
         Ok(shown) => Ok(shown),
-        Err(NoMemory) => admin.read(&way, desk.alloc, counters, gauges),
+        Err(NoMemory) => admin.read(book, desk.alloc, counters, gauges),
     }
 }
 

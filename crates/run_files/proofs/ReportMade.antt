@@ -2,6 +2,7 @@
 use Rattle.std.proofs.Common.{◌≡◌, ℕ, suc, List, [], ◌∷◌, ◌++◌, map, length, refl, sym, ap, ◌∙◌, subst}
 use Rattle.std.specs.List.{AllZip, zip}
 use Rattle.std.proofs.lemmas.List.{map-append}
+use Rattle.std.proofs.lemmas.Simd.{map-map}
 use Rattle.stat_defs.specs.declared.configs.Config.{Config}
 use Rattle.stat_defs.specs.declared.events.Event.{Event}
 use Rattle.stat_defs.specs.declared.reports.FlushRecord.{FlushRecord}
@@ -20,7 +21,8 @@ use Rattle.run_ledger.specs.Accounts.{StoreAccounts, RunAccounts, FollowsEvents}
 use Rattle.run_ledger.proofs.Accounts.{run_accounts}
 use Rattle.store_parts.specs.declared.store.Store.{Store}
 use Rattle.recorder.specs.Ending.{told_at_end}
-use Rattle.admin_side.specs.Reader.{ReaderKnown}
+use Rattle.admin_side.specs.Reader.{NamedRead, ReaderKnown}
+use Rattle.admin_side.specs.Telling.{told_at}
 use Rattle.flusher.specs.Flusher.{FlusherKnown}
 use Rattle.store_closing.specs.Closes.{Closes, told_of, plan_told, events_told, report_told}
 use Rattle.worker_run.specs.declared.given.Given.{Given}
@@ -85,7 +87,7 @@ module _ {S : Type 0} (state : S → SourceState) (config : Config) (store : Sto
     (worked : AreWorked state store 1 files workers)
     (flushed : flushes ≡ map (λ (flush : FlushTold). flush.shown) flusher.flushes)
     (flush_count : length flushes ≡ config.flushes)
-    (read : reads ≡ map (λ (reading : ReadTold). reading.shown) reader.reads)
+    (read : reads ≡ map (λ (reading : NamedRead). reading.shown) reader.reads)
     (read_count : length reads ≡ config.reads)
     (closes : Closes store (map (λ x. x.ended) workers) flusher reader last)
     (is : report ≡ record {
@@ -98,6 +100,9 @@ module _ {S : Type 0} (state : S → SourceState) (config : Config) (store : Sto
   abbrev told : RunTold
   told = told_of (map (λ x. x.ended) workers) flusher reader closes.flush
 
+  told_read : reads ≡ map (λ (reading : ReadTold). reading.shown) told.reads
+  told_read = read ∙ sym (map-map (λ (reading : ReadTold). reading.shown) (told_at (closes.flush.found ++ closes.flush.sweep ∷ [])) reader.reads)
+
   all_flushed : flushes ++ last.last ∷ [] ≡ map (λ flush. flush.shown) (flusher.flushes ++ closes.flush ∷ [])
   all_flushed =
       ap (λ (l : List FlushRecord). l ++ last.last ∷ []) flushed
@@ -109,7 +114,7 @@ module _ {S : Type 0} (state : S → SourceState) (config : Config) (store : Sto
     verdicts = (verdicts_told state store 1 files workers worked ∙ sym (told_verdicts workers)) i;
     flushes = all_flushed i;
     log = last.log;
-    reads = read i;
+    reads = told_read i;
     ends = map (λ x. x.end) workers;
   })
 
@@ -117,7 +122,7 @@ module _ {S : Type 0} (state : S → SourceState) (config : Config) (store : Sto
   planned = ap (λ (c : Config). plan_told c told) configured ∙ (λ i. record (plan_of config) {
     flushes =
         shown_count (λ (flush : FlushTold). flush.shown) flusher.flushes flushes config.flushes flushed flush_count i;
-    reads = shown_count (λ (reading : ReadTold). reading.shown) reader.reads reads config.reads read read_count i;
+    reads = shown_count (λ (reading : ReadTold). reading.shown) told.reads reads config.reads told_read read_count i;
   })
 
   accounted : StoreAccounts (plan_of config) (map events_by workers) told report

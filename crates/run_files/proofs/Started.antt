@@ -3,11 +3,11 @@ use Rattle.std.proofs.Common.{◌≡◌, ℕ, suc, List, [], ◌∷◌, map, All
 use Rattle.std.specs.List.{AllByRecursion}
 use Rattle.std.proofs.lemmas.List.Elements.{All-from_recursion}
 use Rattle.ledger.specs.Lists.{EachNumbered}
-use Rattle.run_ledger.specs.Told.{FlushTold, ReadTold}
+use Rattle.run_ledger.specs.Told.{FlushTold}
 use Rattle.store_parts.specs.declared.store.Store.{Store}
 use Rattle.recorder.specs.Knowing.{RecorderKnown}
 use Rattle.recorder.specs.Tied.{IsNewWorker}
-use Rattle.admin_side.specs.Reader.{ReaderKnown}
+use Rattle.admin_side.specs.Reader.{NamedRead, ReaderKnown}
 use Rattle.flusher.specs.Flusher.{FlusherKnown}
 use Rattle.store_opening.specs.Opening.{IsNewFlusher, IsNewReader}
 use Rattle.worker_run.specs.declared.given.Job.{Job}
@@ -44,5 +44,5 @@ none_flushed store k new = record {
 pub none_read : (store : Store) (n : ℕ) (k : ReaderKnown) → IsNewReader store n k → HasRead store [] k
 none_read store n k new = record {
   of = new.of;
-  shown = ap (λ (l : List ReadTold). map (λ (read : ReadTold). read.shown) l) (sym new.reads);
+  shown = ap (λ (l : List NamedRead). map (λ (read : NamedRead). read.shown) l) (sym new.reads);
 }

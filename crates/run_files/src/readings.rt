@@ -4,7 +4,6 @@ ghost use Rattle.run_files.specs.Readings.{HasRead, AreReadings};
 
 use crate::hall::Hall;
 use admin_side::Admin;
-use locked_book::Way;
 use run_gates::Gate;
 use stat_defs::{NoMemory, ReadRecord};
 use std::sync::Wait;
@@ -31,11 +30,8 @@ fn read_one<R: Wait, G: Gate>(
     if hall.is_stopped() {
         return Err(NoMemory);
     }
-    let way = Way {
-        rt: hall.rt,
-        book: &hall.store.book,
-    };
-    let shown = admin.read(&way, hall.alloc, &hall.store.counters, &hall.store.gauges)?;
+    let store = hall.store;
+    let shown = admin.read(&store.book, hall.alloc, &store.counters, &store.gauges)?;
     records.push(shown)?;
     Ok(())
 }
@@ -57,7 +53,7 @@ fn read_rounds<R: Wait, G: Gate>(
     Ok(records)
 }
 
-/// Makes this number of readings, each behind the gate. May wait. It returns without the rest where the run stops.
+/// Makes this number of readings, each behind the gate, which may wait. It returns without the rest where the run stops.
 pub(crate) fn read_all<R: Wait, G: Gate>(
     hall: &Hall<'_, R, G>,
     mut admin: Admin,

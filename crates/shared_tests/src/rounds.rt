@@ -13,7 +13,6 @@ use crate::working::{Desk, text};
 use admin_side::Admin;
 use flush_cells::Pass;
 use flusher::Flusher;
-use locked_book::Way;
 use std::process::Abort;
 use std::sync::Wait;
 
@@ -75,12 +74,9 @@ pub(crate) fn reader_calls<R: Wait + Abort>(desk: &Desk<'_, R>, mut admin: Admin
     requires { IsReaderOf desk.now.store.now.book desk.now.store.now.counters desk.now.store.now.gauges admin }
     ensures { IsReaderOf desk.now.store.now.book desk.now.store.now.counters desk.now.store.now.gauges result.0 }
 {
-    let way = Way {
-        rt: desk.rt,
-        book: &desk.store.book,
-    };
+    let store = desk.store;
     let shown = admin
-        .read(&way, desk.alloc, &desk.store.counters, &desk.store.gauges)
+        .read(&store.book, desk.alloc, &store.counters, &store.gauges)
         .expect(desk.rt, "a reading");
     let answer = read_text(desk.alloc, &shown).expect(desk.rt, "a text");
     (admin, answer)

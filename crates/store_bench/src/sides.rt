@@ -10,7 +10,6 @@ use crate::party::Party;
 use admin_side::Admin;
 use flush_cells::Pass;
 use flusher::Flusher;
-use locked_book::Way;
 use stat_defs::{FlushRecord, NoMemory, ReadRecord};
 use std::alloc::Global;
 use std::sync::Wait;
@@ -86,12 +85,8 @@ impl Sides<'_> {
     /// Makes a reading.
     pub(crate) fn read<R: Wait + AllocGlobal>(&mut self, rt: &R) -> Result<ReadRecord, NoMemory> {
         let store = self.store;
-        let way = Way {
-            rt,
-            book: &store.book,
-        };
         self.admin
-            .read(&way, rt.alloc(), &store.counters, &store.gauges)
+            .read(&store.book, rt.alloc(), &store.counters, &store.gauges)
     }
 }
 

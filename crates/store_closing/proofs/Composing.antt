@@ -15,12 +15,15 @@ use Rattle.stat_defs.specs.declared.reports.Delta.{Delta}
 use Rattle.stat_defs.specs.declared.reports.FlushRecord.{FlushRecord}
 use Rattle.stat_defs.specs.declared.reports.LastFlush.{LastFlush}
 use Rattle.stat_defs.specs.declared.reports.ReadRecord.{ReadRecord}
-use Rattle.seat_history.specs.History.{SeatHistory, entries_by, past}
+use Rattle.seat_history.specs.History.{SeatHistory, entries_by, past, with_log}
 use Rattle.book_state.specs.declared.limits.TheConstants.{MAX_METRICS}
 use Rattle.book_state.specs.State.{NameRules, State}
 use Rattle.book_state.specs.Step.{overdue_in}
 use Rattle.book_state.specs.Log.{openings, replay, Legal}
 use Rattle.stat_book.specs.Calls.{rules_of, state_of, IsLegal, name_rules}
+use Rattle.stat_defs.specs.Changes.{GoesOnLater}
+use Rattle.name_changes.specs.Changes.{changes_in}
+use Rattle.stat_book.specs.NameChanges.{changes_of}
 use Rattle.book_lock.specs.History.{IsOneHistory}
 use Rattle.locked_book.specs.declared.listing.Listing.{Listing}
 use Rattle.locked_book.specs.Sharing.{first_of, seat_count, known_by}
@@ -46,13 +49,16 @@ use Rattle.recorder.specs.declared.ended.Ended.{Ended}
 use Rattle.recorder.specs.Ending.{told_at_end}
 use Rattle.recorder.specs.Tied.{HasFollowedToEnd}
 use Rattle.admin_side.specs.Reader.{ReaderKnown, ReaderAccounts}
+use Rattle.admin_side.specs.Telling.{told_at}
 use Rattle.admin_side.proofs.Listed.{listed-is}
+use Rattle.admin_side.proofs.Readings.{words-told}
+use Rattle.admin_side.proofs.Told.{reads-account}
 use Rattle.flusher.proofs.Accounts.{are-latches}
 use Rattle.flusher.proofs.Rising.{rises-more}
 use Rattle.flusher.specs.Flusher.{FlusherKnown, FlusherAccounts, sweeps_of}
 use Rattle.store_closing.specs.Closes.{HaveEnded, Closes, EachFollows, IsEmptied, told_of, plan_told, events_told, report_told}
 use Rattle.store_closing.specs.Pieces.{EndsCounters, seats_at_end, counts_at_end, gauges_at_end}
-use Rattle.store_closing.proofs.Reports.{apart_own, flushes_on, reads_on, each_and_last}
+use Rattle.store_closing.proofs.Reports.{apart_own, flushes_on, each_and_last}
 use Rattle.store_closing.proofs.Pending.{AddsTo, none_pending}
 use Rattle.store_closing.proofs.Parties.{workers_account, workers_follow, workers_add}
 
@@ -89,8 +95,9 @@ module _ (store : Store) (ended : List Ended) (flusher : FlusherKnown) (reader :
 
   module _ (have : HaveEnded store ended) (none : flusher.round ≡ None) (number : flusher.seat.number ≡ 0) (fa : FlusherAccounts flusher) (ra : ReaderAccounts reader)
       (new : first.log ≡ openings 0 first.config.scopes)
-      (history : IsOneHistory first (seat_count store.book) (seats_at_end flusher.seat ended reader.seat) found)
+      (history : IsOneHistory first (seat_count store.book) (seats_at_end flusher.seat ended reader.part.seat) found)
       (last : BookHistory) (sweeps : SweepsListed listing 0 found last) (legal : IsLegal last)
+      (known : GoesOnLater reader.part.names (changes_of (with_log last.log first)))
       (at : shown.at ≡ listing.at) (deltas : map id_of_delta shown.deltas ≡ ids_made Counter (state_of last))
       (counters : EndsCounters (counts_at_end ended) flusher.counters reader.counters shown.deltas)
       (gauges : map id_of_reading shown.gauges ≡ listing.gauges)
@@ -104,14 +111,14 @@ module _ (store : Store) (ended : List Ended) (flusher : FlusherKnown) (reader :
     told = told_of ended flusher reader flush
 
     -- the seats' histories
-    all_seats : AllByRecursion (SeatHistory first found.log) (seats_at_end flusher.seat ended reader.seat)
-    all_seats = recursion_from_All (SeatHistory first found.log) (seats_at_end flusher.seat ended reader.seat) history.each
+    all_seats : AllByRecursion (SeatHistory first found.log) (seats_at_end flusher.seat ended reader.part.seat)
+    all_seats = recursion_from_All (SeatHistory first found.log) (seats_at_end flusher.seat ended reader.part.seat) history.each
 
     by_flusher : SeatHistory first found.log flusher.seat
     by_flusher = all_seats.0
 
-    behind_it : AllByRecursion (SeatHistory first found.log) (map (λ (e : Ended). known_by e.seat) ended) × AllByRecursion (SeatHistory first found.log) (reader.seat ∷ [])
-    behind_it = all_parts (SeatHistory first found.log) (map (λ (e : Ended). known_by e.seat) ended) (reader.seat ∷ []) all_seats.1
+    behind_it : AllByRecursion (SeatHistory first found.log) (map (λ (e : Ended). known_by e.seat) ended) × AllByRecursion (SeatHistory first found.log) (reader.part.seat ∷ [])
+    behind_it = all_parts (SeatHistory first found.log) (map (λ (e : Ended). known_by e.seat) ended) (reader.part.seat ∷ []) all_seats.1
 
     by_workers : AllByRecursion (λ (e : Ended). SeatHistory first found.log (known_by e.seat)) ended
     by_workers = unmapped ended behind_it.0
@@ -119,9 +126,6 @@ module _ (store : Store) (ended : List Ended) (flusher : FlusherKnown) (reader :
         unmapped : (xs : List Ended) → AllByRecursion (SeatHistory first found.log) (map (λ (e : Ended). known_by e.seat) xs) → AllByRecursion (λ (e : Ended). SeatHistory first found.log (known_by e.seat)) xs
         unmapped [] is = tt
         unmapped (x ∷ xs) is = (is.0, unmapped xs is.1)
-
-    by_reader : SeatHistory first found.log reader.seat
-    by_reader = behind_it.1.0
 
     -- how many workers there are
     count : length told.workers ≡ W
@@ -186,14 +190,11 @@ module _ (store : Store) (ended : List Ended) (flusher : FlusherKnown) (reader :
         (let long = length-append flusher.flushes (flush ∷ []) in omega (arith, long)) flushes_account last_accounts
 
     -- the readings
-    reads_more : log ≡ reader.seat.known ++ (by_reader.known.0 ++ sweep_entry found ∷ [])
-    reads_more = ap (λ (l : List Entry). l ++ sweep_entry found ∷ []) by_reader.known.1 ∙ append_assoc reader.seat.known by_reader.known.0 (sweep_entry found ∷ [])
+    known_log : GoesOnLater reader.part.names (changes_in R W log)
+    known_log = subst (λ (h : BookHistory). GoesOnLater reader.part.names (changes_of (with_log h.log first))) last_is known
 
-    each_read : AllByRecursion (ReadAccounts R W log) reader.reads
-    each_read =
-        reads_on R W reader.seat.known log (by_reader.known.0 ++ sweep_entry found ∷ []) reader.reads reads_more
-        (subst (λ (n : ℕ). AllByRecursion (ReadAccounts R n reader.seat.known) reader.reads) (ap (λ (h : BookHistory). h.workers) by_reader.made_with)
-        (subst (λ (rules : NameRules). AllByRecursion (ReadAccounts rules reader.seat.workers reader.seat.known) reader.reads) (ap rules_of by_reader.made_with) ra.each))
+    each_read : AllByRecursion (ReadAccounts R W log) told.reads
+    each_read = reads-account R first.config.scopes W log legal_log reader.part.names reader.reads known_log ra.each
 
     -- the places of flushes rise
     below_last : AllByRecursion (λ f. shown_at f < shown.at) flusher.flushes
@@ -276,7 +277,7 @@ module _ (store : Store) (ended : List Ended) (flusher : FlusherKnown) (reader :
     counters_account : CountersAccount (plan_told first.config told) told (report_told told log)
     counters_account = record {
       latched = latched_is;
-      loaded = ra.loaded;
+      loaded = λ id. ra.loaded id ∙ sym (words-told log id reader.reads);
       counted = λ id within.
           let here = few in
           let same_count = ap (λ (n : ℕ). length (replay R n log).metrics) count in
@@ -290,7 +291,7 @@ module _ (store : Store) (ended : List Ended) (flusher : FlusherKnown) (reader :
       last_sweep = refl;
       sweeps = store_entries;
       flushes_rise = subst IsStrictlyIncreasing (sym flush_places) (rises-more shown_at flusher.flushes shown.at below_last fa.rise);
-      reads_rise = subst IsNonDecreasing (sym (map-map (λ (r : ReadRecord). r.at) (λ (r : ReadTold). r.shown) reader.reads)) ra.rise;
+      reads_rise = subst IsNonDecreasing (sym (map-map (λ (r : ReadRecord). r.at) (λ (r : ReadTold). r.shown) told.reads ∙ map-map (λ (r : ReadTold). r.shown.at) (told_at log) reader.reads)) ra.rise;
     }
 
     told_is : IsTold (plan_told first.config told) (events_told told) told (report_told told log)
@@ -302,7 +303,7 @@ module _ (store : Store) (ended : List Ended) (flusher : FlusherKnown) (reader :
       log_is = log_is;
       each_worker = each_account;
       each_flush = subst (λ (n : ℕ). EachNumbered (λ k f. FlushAccounts R n log (suc k == length (all_flushes told)) f) 0 (all_flushes told)) (sym count) each_flush;
-      each_read = subst (λ (n : ℕ). AllByRecursion (ReadAccounts R n log) reader.reads) (sym count) each_read;
+      each_read = subst (λ (n : ℕ). AllByRecursion (ReadAccounts R n log) told.reads) (sym count) each_read;
       halves = each_half;
       counters = counters_account;
       words = subst (λ (l : List GaugePart). AllByRecursion (λ r. LeftBy r.id.0 l r.word) shown.gauges) (sym (map-map (λ (w : WorkerTold). w.gauges) told_at_end ended)) words;

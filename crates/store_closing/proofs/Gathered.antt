@@ -4,13 +4,15 @@ use Rattle.std.specs.Prelude.{All}
 use Rattle.std.specs.List.{AllByRecursion, flat_map}
 use Rattle.std.specs.Option.{IsSomeAnd}
 use Rattle.std.proofs.lemmas.List.{length-map, length-append}
-use Rattle.std.proofs.lemmas.List.Elements.{All-nil, All-cons, All-append, All-from_recursion}
+use Rattle.std.proofs.lemmas.List.Elements.{All-nil, All-cons, All-head, All-tail, All-append, All-from_recursion}
 use Rattle.atomic_table.specs.Seated.{TableId}
+use Rattle.stat_defs.specs.Changes.{GoesOnLater}
+use Rattle.stat_defs.specs.declared.history.NameOp.{NameOp}
 use Rattle.merge_round.specs.Halves.{HalfState}
 use Rattle.turn_cell.specs.declared.cell.TurnCell.{TurnCell}
 use Rattle.turn_cell.specs.Tokens.{cell_id, note_known}
 use Rattle.locked_book.specs.declared.shared.LockedBook.{LockedBook}
-use Rattle.locked_book.specs.Sharing.{IsSeatOf, first_of, AreAllSeats}
+use Rattle.locked_book.specs.Sharing.{IsSeatOf, first_of, names_by, AreAllSeats}
 use Rattle.metric_words.specs.declared.counter_seats.WorkerSeat.{WorkerSeat}
 use Rattle.metric_words.specs.declared.gauge_seats.GaugeSeat.{GaugeSeat}
 use Rattle.metric_words.specs.declared.gauge_view.GaugePart.{GaugePart}
@@ -138,3 +140,12 @@ halves_same [] [] same = refl
 halves_same [] (e ∷ ended) same = absurd (omega (arith, same))
 halves_same (c ∷ cells) [] same = absurd (omega (arith, same))
 halves_same (c ∷ cells) (e ∷ ended) same = ap (λ (l : List HalfValues). ((told_at_end e).turned ++ (told_at_end e).active ∷ []) ∷ l) (halves_same cells ended (omega (arith, same)))
+
+-- what is known of the changes that each seat knew, at the last seat
+pub last_known : (all : List NameOp) (first : LockedBook) (between : List LockedBook) (last : LockedBook) (seats : List LockedBook) → seats ≡ first ∷ (between ++ last ∷ [])
+    → All (λ names. GoesOnLater names all) (map names_by seats) → GoesOnLater (names_by last) all
+last_known all first between last seats is known =
+    at_end between (All-tail (λ names. GoesOnLater names all) (names_by first) (map names_by (between ++ last ∷ [])) (subst (λ (l : List LockedBook). All (λ names. GoesOnLater names all) (map names_by l)) is known)) where
+      at_end : (xs : List LockedBook) → All (λ names. GoesOnLater names all) (map names_by (xs ++ last ∷ [])) → GoesOnLater (names_by last) all
+      at_end [] k = All-head (λ names. GoesOnLater names all) (names_by last) [] k
+      at_end (x ∷ xs) k = at_end xs (All-tail (λ names. GoesOnLater names all) (names_by x) (map names_by (xs ++ last ∷ [])) k)

@@ -6,8 +6,8 @@ use Rattle.book_state.specs.State.{NameRules}
 use Rattle.ledger.specs.Lists.{EachNumbered}
 use Rattle.ledger.specs.Work.{Work, events_in, verdicts_in, apart}
 use Rattle.ledger.proofs.Members.{all_as}
-use Rattle.run_ledger.specs.Told.{WorkerTold, FlushTold, ReadTold}
-use Rattle.run_ledger.specs.Accounts.{FlushAccounts, ReadAccounts}
+use Rattle.run_ledger.specs.Told.{WorkerTold, FlushTold}
+use Rattle.run_ledger.specs.Accounts.{FlushAccounts}
 use Rattle.run_ledger.proofs.Grows.{run_grows}
 
 cons_both : {X : Type 0} (x y : X) (xs ys : List X) → x ≡ y → xs ≡ ys → ◌≡◌ {A = List X} (x ∷ xs) (y ∷ ys)
@@ -23,18 +23,12 @@ pub apart_own : (workers : List WorkerTold)
 apart_own [] = refl
 apart_own (w ∷ workers) = cons_both _ _ _ _ (sym (zip_own w.work)) (apart_own workers)
 
--- flushes and readings account for a log that went on
+-- flushes account for a log that went on
 pub flushes_on : (rules : NameRules) (workers : ℕ) (log log' more : List Entry) (flushes : List FlushTold) → log' ≡ log ++ more
     → AllByRecursion (FlushAccounts rules workers log false) flushes → AllByRecursion (FlushAccounts rules workers log' false) flushes
 flushes_on rules workers log log' more flushes e all =
     subst (λ (l : List Entry). AllByRecursion (FlushAccounts rules workers l false) flushes) (sym e)
     (all_as (FlushAccounts rules workers log false) (FlushAccounts rules workers (log ++ more) false) flushes (λ flush is. run_grows.flush rules workers log more flush is) all)
-
-pub reads_on : (rules : NameRules) (workers : ℕ) (log log' more : List Entry) (reads : List ReadTold) → log' ≡ log ++ more
-    → AllByRecursion (ReadAccounts rules workers log) reads → AllByRecursion (ReadAccounts rules workers log') reads
-reads_on rules workers log log' more reads e all =
-    subst (λ (l : List Entry). AllByRecursion (ReadAccounts rules workers l) reads) (sym e)
-    (all_as (ReadAccounts rules workers log) (ReadAccounts rules workers (log ++ more)) reads (λ read is. run_grows.read rules workers log more read is) all)
 
 -- all but the last of a list, and the last one, where the last is told by its number
 pub each_and_last : {X : Type 0} (P : Bool → X → Type 0) (n : ℕ) (xs : List X) (last : X) (count : ℕ) → count ≡ n + length xs + 1

@@ -1,5 +1,5 @@
 -- The end of a store: the last flush, and the report that its parties make together (this project's own).
-use Rattle.std.specs.Prelude.{◌≡◌, ℕ, ◌<◌, [], List, length, map}
+use Rattle.std.specs.Prelude.{◌≡◌, ℕ, ◌<◌, List, [], ◌∷◌, ◌++◌, length, map}
 use Rattle.stat_defs.specs.declared.configs.Config.{Config}
 use Rattle.stat_defs.specs.declared.events.Event.{Event}
 use Rattle.stat_defs.specs.declared.history.Entry.{Entry}
@@ -20,6 +20,7 @@ use Rattle.recorder.specs.declared.ended.Ended.{Ended}
 use Rattle.recorder.specs.Ending.{told_at_end}
 use Rattle.recorder.specs.Tied.{HasEnded, HasFollowedToEnd}
 use Rattle.admin_side.specs.Reader.{ReaderKnown}
+use Rattle.admin_side.specs.Telling.{told_at}
 use Rattle.flusher.specs.Flusher.{FlusherKnown}
 
 -- all workers of the store have ended; this is what they left, in order
@@ -33,7 +34,7 @@ told_of ended flusher reader last = record {
   workers = map told_at_end ended;
   flushes = flusher.flushes;
   last = last;
-  reads = reader.reads;
+  reads = map (told_at (last.found ++ last.sweep ∷ [])) reader.reads;
   flusher = (after_latches last.shown.deltas flusher.counters).own.steps;
   reader = reader.counters.own.steps;
 }

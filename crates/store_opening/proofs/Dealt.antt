@@ -89,7 +89,7 @@ module _ (made : Made) (is : IsMade made) (first : LockedBook) (left : Dealing)
 
 -- the reader of the last seat
 pub is_new_reader : (made : Made) → IsMade made → (last : LockedBook) (left : Dealing) (rest : List LockedBook) (k : ReaderKnown) → AreLeft made.store (length made.store.cells.items) left
-    → into_iter_items left.seats ≡ last ∷ rest → k ≡ new_reader (seat_lock last.seat) (known_by last) (read_known made.counts.reader) (gauge_known made.levels.reader)
+    → into_iter_items left.seats ≡ last ∷ rest → k ≡ new_reader (seat_lock last.seat) (part_of last) (read_known made.counts.reader) (gauge_known made.levels.reader)
     → IsNewReader made.store ((first_of made.store.book).workers + 1) k
 is_new_reader made is last left rest k are taken made_so =
     let seat = (first_one (IsSeatFor made.store) (suc (length made.store.cells.items)) (into_iter_items left.seats) rest last taken are.seats).0 in

@@ -27,7 +27,7 @@ pub record IsNewFlusher (store : Store) (k : FlusherKnown) : Type 0 where
 -- the reader of the store, whose seats of the book and of the gauges have this number, and which has made no reading
 pub record IsNewReader (store : Store) (n : ℕ) (k : ReaderKnown) : Type 0 where
   pub of : IsReaderOf store.book store.counters store.gauges k
-  pub number : k.seat.number ≡ n
+  pub number : k.part.seat.number ≡ n
   pub gauges : k.gauges.own.seat ≡ n
   pub reads : k.reads ≡ []
 

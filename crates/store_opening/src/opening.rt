@@ -104,7 +104,7 @@ fn deal(alloc: Global, key: HashKey, made: Made, mut recorders: Vec<Recorder>) -
         store,
         recorders,
         flusher: new_flusher(alloc, first, counts.flusher, levels.flusher, tokens),
-        admin: Admin::new(last, words),
+        admin: Admin::new(alloc, last, words),
     }
 }
 

@@ -1,5 +1,4 @@
-use Rattle.locked_book.specs.Sharing.{known_by}
 use Rattle.admin_side.proofs.admin.with_read.Given as goal
 
 abbrev pub ghost-and_for : goal.ghost-and_for
-ghost-and_for a = record { shown = a.given.now.0.now; found = (known_by a.given.now.1.now).known }
+ghost-and_for a = record { shown = a.given.now.0.now; names = a.given.now.1.now }

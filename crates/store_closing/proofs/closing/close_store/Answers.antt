@@ -24,8 +24,14 @@ use Rattle.cells_end.specs.LastRound.{IsLastRound, halves_at_end}
 use Rattle.store_parts.specs.Ids.{StoreIds, ids_of, lock_of}
 use Rattle.recorder.specs.declared.ended.Ended.{Ended}
 use Rattle.store_closing.specs.Pieces.{EndsCounters, seats_at_end, counts_at_end, gauges_at_end}
-use Rattle.store_closing.proofs.Gathered.{seats_gathered, counts_gathered, gauges_gathered, others_are, others_count, cells_gathered, halves_same}
+use Rattle.store_closing.proofs.Gathered.{seats_gathered, counts_gathered, gauges_gathered, last_known, others_are, others_count, cells_gathered, halves_same}
 use Rattle.store_closing.proofs.Composing.{closes}
+use Rattle.stat_defs.specs.Changes.{GoesOnLater}
+use Rattle.stat_defs.specs.declared.history.Entry.{Entry}
+use Rattle.stat_defs.specs.declared.history.NameOp.{NameOp}
+use Rattle.seat_history.specs.History.{with_log}
+use Rattle.stat_book.specs.NameChanges.{changes_of}
+use Rattle.book_lock.specs.declared.view.LockPart.{LockPart}
 use Rattle.store_closing.proofs.closing.close_store.Goals as goal
 
 pub close_book-requires : goal.close_book-requires
@@ -93,12 +99,16 @@ end_cells-requires c =
 pub returns : goal.returns
 returns c =
     let store = c.args.store in let ended = c.args.ended.items in let have = c.requires.workers in let own = c.into_parts-own in let own_told = own.ensures in
-    let reader = c.into_seats-reader_seat in let sorted = c.in_ok-sorted.ensures in let end = c.in_ok-end.end in let book = c.in_ok-end.ensures in
+    let reader = c.into_seats-reader_seat in let sorted = c.in_ok-sorted.ensures in let end = c.in_ok-end.end in let book = c.in_ok-end.ensures.ends in
     let deltas = c.in_ok-deltas.deltas.items in let words = c.in_ok-words.words.items in let parts = c.in_ok-parts.parts.items in
-    let seats : map known_by c.in_ok-sorted.sorted.seats.items ≡ seats_at_end c.args.flusher.seat ended c.args.admin.seat =
+    let seats : map known_by c.in_ok-sorted.sorted.seats.items ≡ seats_at_end c.args.flusher.seat ended c.args.admin.part.seat =
     ap (λ (l : List LockedBook). map known_by l) sorted.seats
     ∙ ap (λ (l : List LogKnown). known_by own.result.seat ∷ l) (map-append known_by (map (λ (e : Ended). e.seat) ended) (reader.result.0 ∷ []) ∙ ap (λ (l : List LogKnown). l ++ known_by reader.result.0 ∷ []) (map-map known_by (λ (e : Ended). e.seat) ended))
-    ∙ (λ i. own_told.seat i ∷ (map (λ (e : Ended). known_by e.seat) ended ++ reader.ensures.seat.0 i ∷ [])) in
+    ∙ (λ i. own_told.seat i ∷ (map (λ (e : Ended). known_by e.seat) ended ++ (reader.ensures.seat.0 i).seat ∷ [])) in
+    let known : GoesOnLater c.args.admin.part.names (changes_of (with_log book.last.last.log (first_of store.book))) =
+    subst (λ (l : List Entry). GoesOnLater c.args.admin.part.names (changes_of (with_log l (first_of store.book)))) book.last.log
+    (subst (λ (n : List NameOp). GoesOnLater n (changes_of (with_log end.log (first_of store.book)))) (ap (λ (p : LockPart). p.names) reader.ensures.seat.0)
+    (last_known (changes_of (with_log end.log (first_of store.book))) own.result.seat (map (λ (e : Ended). e.seat) ended) reader.result.0 c.in_ok-sorted.sorted.seats.items sorted.seats c.in_ok-end.ensures.changes)) in
     let counts : map worker_part c.in_ok-sorted.sorted.counts.items ≡ counts_at_end ended = ap (λ (l : List WorkerSeat). map worker_part l) sorted.counts ∙ map-map worker_part (λ (e : Ended). e.counts) ended in
     let none = ap (λ (k : GaugeKnown). k.taken) reader.ensures.words.1 ∙ reader.ensures.accounts.alone in
     let others = ap (λ (l : List GaugeSeat). flat_map gauge_all l) sorted.gauges ∙ others_are store ended reader.result.1.gauges have none in
@@ -108,7 +118,7 @@ returns c =
     closes store ended c.args.flusher c.args.admin book.found end.listing (record { at = end.listing.at; deltas = deltas; gauges = words; parts = parts }) c.in_ok-sorted.sorted.ends.items
     have c.requires.flusher.1 c.requires.flusher.0.number own_told.accounts reader.ensures.accounts (ap (λ (h : BookHistory). h.log) store.whole.new)
     (subst (λ (l : List LogKnown). IsOneHistory (first_of store.book) (seat_count store.book) l book.found) seats book.one)
-    book.last.last book.last.sweeps book.last.legal
+    book.last.last book.last.sweeps book.last.legal known
     refl (c.in_ok-deltas.ensures.ids ∙ (c.items.ensures ∙ book.last.made))
     (subst (λ (l : List CountPart). EndsCounters l c.args.flusher.counters c.args.admin.counters deltas) counts
     (subst (λ (k : CounterKnown). EndsCounters (map worker_part c.in_ok-sorted.sorted.counts.items) k c.args.admin.counters deltas) own_told.words.0

@@ -1,7 +1,8 @@
+use Rattle.std.proofs.Common.{ap, sym, ◌∙◌, length}
 use Rattle.book_lock.specs.Seats.{seat_part, seat_known, held_book}
 use Rattle.book_access.specs.Making.{AcksAll}
 use Rattle.book_access.proofs.Called.{one_acked}
-use Rattle.locked_book.proofs.Called.{leaves_made, due_lent, told, kept}
+use Rattle.locked_book.proofs.Called.{leaves_made, names_made, due_lent, told, kept}
 use Rattle.locked_book.proofs.access.LockedBookBookAccessWay.ack.Goals as goal
 
 pub ack_in-acked-requires : goal.ack_in-acked-requires
@@ -12,6 +13,15 @@ pub leave-requires-clause-book : goal.leave-requires-clause-book
 leave-requires-clause-book g c =
     let e = c.enter-held.ensures in let t = c.ack_in-acked in
     leaves_made t.result (seat_part c.args.self.now.seat) (seat_part c.enter-held.new.seat) (held_book c.enter-held.result) c.book.result.now t.new.book c.args.self.now.number e.found e.part c.args.self.now.numbered c.book.ensures.value
+    (λ x. AcksAll x) (λ x. one_acked x c.args.self.now.number c.book.result.now t.new.book) t.ensures.step t.ensures.err
+
+pub leave-requires-clause-found : goal.leave-requires-clause-found
+leave-requires-clause-found g c = let e = c.enter-held.ensures in e.count ∙ ap (λ p. length p.names) (sym e.part.1)
+
+pub leave-requires-clause-names : goal.leave-requires-clause-names
+leave-requires-clause-names g c =
+    let e = c.enter-held.ensures in let t = c.ack_in-acked in
+    names_made t.result (seat_part c.args.self.now.seat) (seat_part c.enter-held.new.seat) (held_book c.enter-held.result) c.book.result.now t.new.book c.args.self.now.number e.found e.part c.args.self.now.numbered c.book.ensures.value e.names c.args.self.now.roomy t.ensures.legal
     (λ x. AcksAll x) (λ x. one_acked x c.args.self.now.number c.book.result.now t.new.book) t.ensures.step t.ensures.err
 
 pub returns-clause-step : goal.returns-clause-step

@@ -1,6 +1,7 @@
+use Rattle.std.proofs.Common.{ap, sym, ◌∙◌, length}
 use Rattle.book_lock.specs.Seats.{seat_part, held_book}
 use Rattle.locked_book.specs.Lists.{ListsNames}
-use Rattle.locked_book.proofs.Called.{leaves_same, told, kept, kept_same}
+use Rattle.locked_book.proofs.Called.{leaves_same, names_same, told, kept, kept_same}
 use Rattle.locked_book.proofs.OfKind.{lists_names}
 use Rattle.locked_book.proofs.shared.LockedBook.names.Goals as goal
 
@@ -8,6 +9,14 @@ pub leave-requires-clause-book : goal.leave-requires-clause-book
 leave-requires-clause-book g c =
     let e = c.enter-held.ensures in let t = c.listing_of-listing in
     leaves_same t.result (seat_part c.args.self.now.seat) (seat_part c.enter-held.new.seat) (held_book c.enter-held.result) c.book.result.now c.book.result.now c.args.self.now.number e.found e.part c.args.self.now.numbered c.book.ensures.value
+
+pub leave-requires-clause-found : goal.leave-requires-clause-found
+leave-requires-clause-found g c = let e = c.enter-held.ensures in e.count ∙ ap (λ p. length p.names) (sym e.part.1)
+
+pub leave-requires-clause-names : goal.leave-requires-clause-names
+leave-requires-clause-names g c =
+    let e = c.enter-held.ensures in let t = c.listing_of-listing in
+    names_same t.result (seat_part c.args.self.now.seat) (seat_part c.enter-held.new.seat) (held_book c.enter-held.result) c.book.result.now c.book.result.now c.args.self.now.number e.found e.part c.args.self.now.numbered c.book.ensures.value e.names
 
 pub returns-clause-step : goal.returns-clause-step
 returns-clause-step g c =

@@ -1,15 +1,25 @@
+use Rattle.std.proofs.Common.{ap, sym, ◌∙◌, length}
 use Rattle.stat_defs.specs.declared.history.Call.TheVariants as call
 use Rattle.stat_defs.specs.declared.history.Reply.TheVariants as reply
 use Rattle.book_lock.specs.Seats.{seat_part, held_book}
 use Rattle.book_access.proofs.Called.{one_logged}
 use Rattle.locked_book.specs.Lists.{SweepsListed}
-use Rattle.locked_book.proofs.Called.{leaves_made, told, kept}
+use Rattle.locked_book.proofs.Called.{leaves_made, names_made, told, kept}
 use Rattle.locked_book.proofs.shared.LockedBook.sweep.Goals as goal
 
 pub leave-requires-clause-book : goal.leave-requires-clause-book
 leave-requires-clause-book g c =
     let e = c.enter-held.ensures in let t = c.sweep_in-listing in
     leaves_made t.result (seat_part c.args.self.now.seat) (seat_part c.enter-held.new.seat) (held_book c.enter-held.result) c.book.result.now t.new.book 0 e.found e.part c.requires.store c.book.ensures.value
+    (λ x. SweepsListed x) (λ x s. one_logged call.Sweep (reply.Swept _) 0 c.book.result.now t.new.book s.step) t.ensures.step t.ensures.err
+
+pub leave-requires-clause-found : goal.leave-requires-clause-found
+leave-requires-clause-found g c = let e = c.enter-held.ensures in e.count ∙ ap (λ p. length p.names) (sym e.part.1)
+
+pub leave-requires-clause-names : goal.leave-requires-clause-names
+leave-requires-clause-names g c =
+    let e = c.enter-held.ensures in let t = c.sweep_in-listing in
+    names_made t.result (seat_part c.args.self.now.seat) (seat_part c.enter-held.new.seat) (held_book c.enter-held.result) c.book.result.now t.new.book 0 e.found e.part c.requires.store c.book.ensures.value e.names c.args.self.now.roomy t.ensures.legal
     (λ x. SweepsListed x) (λ x s. one_logged call.Sweep (reply.Swept _) 0 c.book.result.now t.new.book s.step) t.ensures.step t.ensures.err
 
 pub returns-clause-step : goal.returns-clause-step
