@@ -12,4 +12,6 @@ mod locked_books;
 #[cfg(test)]
 mod locks;
 #[cfg(test)]
+mod names;
+#[cfg(test)]
 mod turns;

@@ -5,6 +5,7 @@ ghost use Rattle.stat_defs.specs.Names.{IsLocalName, IsScopePrefix};
 ghost use Rattle.stat_defs.specs.declared.configs.Config.{Config as Configured};
 ghost use Rattle.book_state.specs.declared.limits.TheConstants.{MAX_OPENINGS};
 ghost use Rattle.stat_book.specs.Calls.{new_book};
+ghost use Rattle.stat_book.specs.NameChanges.{changes_of};
 ghost use Rattle.book_access.specs.Calling.{WorkingUnder, opened};
 ghost use Rattle.locked_book.specs.Sharing.{first_of, known_by, IsSeatOf, AreNewSeats};
 
@@ -24,7 +25,8 @@ const RELEASES: u64 = 500;
 
 fn book_of(alloc: Global, config: &Config) -> Result<Book, Fail>
     requires { IsConfig config.now }
-    ensures { IfOk result (λ book. book ≡ new_book config.now 2) }
+    ensures book { IfOk result (λ book. book ≡ new_book config.now 2) }
+    ensures new { IfOk result (λ book. changes_of book ≡ []) }
 {
     config_law();
     let mut maker = RegexMaker::new(Vec::new(alloc));
@@ -34,7 +36,8 @@ fn book_of(alloc: Global, config: &Config) -> Result<Book, Fail>
 }
 
 fn usual_book(alloc: Global) -> Result<Book, Fail>
-    ensures { IfOk result (λ book. (config : Configured) × (book ≡ new_book config 2)) }
+    ensures book { IfOk result (λ book. (config : Configured) × (book ≡ new_book config 2)) }
+    ensures new { IfOk result (λ book. changes_of book ≡ []) }
 {
     let config = usual(alloc)?;
     let book = book_of(alloc, &config);

@@ -1,11 +1,13 @@
-ghost use Rattle.std.specs.Prelude.{◌≡◌, ◌+◌, ◌∷◌, ◌++◌, [], MatchResult};
+ghost use Rattle.std.specs.Prelude.{◌≡◌, ◌+◌, ◌∷◌, ◌++◌, [], MatchResult, length};
 ghost use Rattle.stat_defs.specs.declared.history.Call.TheVariants as call;
 ghost use Rattle.stat_defs.specs.Books.{BookHistory};
 ghost use Rattle.seat_history.specs.History.{MayLeave};
 ghost use Rattle.book_lock.specs.Locked.{blank_config};
-ghost use Rattle.book_lock.specs.Seats.{lock_id, seats_of, seat_known, seat_number, AtRest, HasBook, held_book, AreNew};
+ghost use Rattle.book_lock.specs.Naming.{MayName};
+ghost use Rattle.book_lock.specs.Seats.{lock_id, seats_of, seat_part, seat_known, seat_number, AtRest, HasBook, AreNew};
+ghost use Rattle.book_lock.specs.Seats.{held_book, held_found};
 
-use crate::fake_book::FakeBook;
+use crate::fake_book::{FakeBook, NAMES};
 use book_lock::{BookLock, Held, LockSeat, Try};
 use stat_defs::{Call, Entry, NoMemory, Reply, ScopeId};
 use std::sync::Wait;
@@ -15,19 +17,20 @@ use std::thread::{Threads, join};
 /// Entries of each thread.
 const ENTRIES: u64 = 10_000;
 
-fn take_last(
+pub(crate) fn take_last(
     lock: &BookLock<FakeBook>,
     seats: &mut Vec<LockSeat<FakeBook>>,
     number: u32,
 ) -> LockSeat<FakeBook>
-    requires { (first : BookHistory) × AreNew (lock_id lock.now) first (number + 1) seats.old.items }
+    requires { (first : BookHistory) × AreNew (lock_id lock.now) first 4 (number + 1) seats.old.items }
     ensures seat { AtRest (lock_id lock.now) result × (seat_number result ≡ number) }
-    ensures seats { (first : BookHistory) × AreNew (lock_id lock.now) first number seats.new.items }
+    ensures fresh { ((seat_part result).names ≡ []) × ((seat_part result).room ≡ 4) }
+    ensures seats { (first : BookHistory) × AreNew (lock_id lock.now) first 4 number seats.new.items }
 {
     seats.pop().unwrap()
 }
 
-fn entry_of(number: u32, reply: Reply) -> Entry
+pub(crate) fn entry_of(number: u32, reply: Reply) -> Entry
     ensures { result ≡ record { seat = number; call = call.Ack; reply = reply } }
 {
     Entry {
@@ -49,6 +52,8 @@ fn add_and_leave(
     requires seat { HasBook (lock_id lock.now) seat.old × (seat_number seat.old ≡ number) }
     requires book { MayLeave (seat_known seat.old)
         (record { config = blank_config; workers = 4; log = (held_book held).entries.items }) }
+    requires found { held_found held ≡ length (seat_part seat.old).names }
+    requires names { MayName (seat_part seat.old) (held_book held).entries.items (held_book held).changes.items }
     ensures seat { AtRest (lock_id lock.now) seat.new × (seat_number seat.new ≡ number) }
     ensures made { (seat_known seat.old).known ≡ (held_book held).entries.items
         → MatchResult result (λ _. (seat_known seat.new).made ≡ (seat_known seat.old).made
@@ -94,7 +99,7 @@ fn word_found(lock: &BookLock<FakeBook>, seat: &mut LockSeat<FakeBook>) -> Optio
 
 #[test]
 fn one_is_in_while_another_tries(rt: HostRuntime) -> Result<(), Fail> {
-    let (lock, mut seats) = BookLock::new(rt.alloc(), FakeBook::new(rt.alloc(), 8), 2)?;
+    let (lock, mut seats) = BookLock::new(rt.alloc(), FakeBook::new(rt.alloc(), 8), 2, NAMES)?;
     let mut second = take_last(&lock, &mut seats, 1);
     let mut first = take_last(&lock, &mut seats, 0);
     let before = lock.releases(&mut second);
@@ -113,7 +118,7 @@ fn one_is_in_while_another_tries(rt: HostRuntime) -> Result<(), Fail> {
 // The second entry is refused, and both seats go on.
 #[test]
 fn goes_on_after_a_refusal(rt: HostRuntime) -> Result<(), Fail> {
-    let (lock, mut seats) = BookLock::new(rt.alloc(), FakeBook::new(rt.alloc(), 1), 2)?;
+    let (lock, mut seats) = BookLock::new(rt.alloc(), FakeBook::new(rt.alloc(), 1), 2, NAMES)?;
     let mut second = take_last(&lock, &mut seats, 1);
     let mut first = take_last(&lock, &mut seats, 0);
     let added = add_reply(&rt, &lock, &mut first, 0, Reply::Released(ScopeId(0)));
@@ -219,7 +224,12 @@ fn are_in_order(entries: &[Entry]) -> bool {
 
 #[test]
 fn four_threads_make_one_history(rt: HostRuntime) -> Result<(), Fail> {
-    let (lock, mut seats) = BookLock::new(rt.alloc(), FakeBook::new(rt.alloc(), 100_000), 4)?;
+    let (lock, mut seats) = BookLock::new(
+        rt.alloc(),
+        FakeBook::new(rt.alloc(), 100_000),
+        4,
+        NAMES,
+    )?;
     let d = take_last(&lock, &mut seats, 3);
     let c = take_last(&lock, &mut seats, 2);
     let b = take_last(&lock, &mut seats, 1);

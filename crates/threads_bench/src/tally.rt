@@ -1,7 +1,8 @@
-//! The smallest book with a log: each of its words is the number of the seat that pushed it.
+//! The smallest book with a log: each of its words is the number of the seat that pushed it. Its list of names never
+//! changes.
 ghost use Rattle.std.specs.Prelude.{◌≡◌, ◌++◌, ◌∷◌, [], MatchResult};
 
-use stat_defs::{Booked, NoMemory};
+use stat_defs::{Booked, NameOp, NoMemory};
 use std::alloc::Global;
 
 #[derive(Drop)]
@@ -10,12 +11,23 @@ pub struct Tally {
 }
 
 impl Booked for Tally {
+    ghost use Rattle.std.specs.Prelude.{[]};
     ghost use Rattle.threads_bench.specs.Tallies.{history_of};
 
     ghost history = { λ tally. history_of tally.words.items };
 
+    ghost changed = { λ _. [] };
+
     fn releases(&self) -> u64 {
         0
+    }
+
+    fn changes(&self) -> u32 {
+        0
+    }
+
+    fn change(&self, _k: u32) -> NameOp {
+        unreachable!()
     }
 }
 

@@ -1,8 +1,8 @@
-use Rattle.std.proofs.Common.{◌++◌, refl, ap, ◌∙◌, sym, map}
+use Rattle.std.proofs.Common.{◌++◌, [], length, refl, ap, ◌∙◌, sym, map}
 use Rattle.threads_bench.specs.Tallies.{entry_of, history_of}
 use Rattle.seat_history.proofs.Leaves.{leaves-as-found, leaves-more}
-use Rattle.book_lock.specs.Seats.{seat_known}
-use Rattle.book_lock.proofs.Uses.{added}
+use Rattle.book_lock.specs.Seats.{seat_part, seat_known}
+use Rattle.book_lock.proofs.Uses.{added, names-as-found}
 use Rattle.threads_bench.proofs.Pushes.{pushed}
 use Rattle.threads_bench.proofs.locks.push_once.Goals as goal
 
@@ -12,3 +12,10 @@ leave-requires-clause-book g c = let new = c.push.new.self.words.items in let ol
     let a = added c.push.result (entry_of c.args.number) (map entry_of old) (map entry_of new) (pushed c.push.result c.args.number old new c.push.ensures) in
     leaves-more q (history_of found) (history_of new) a.0 (leaves-as-found (seat_known c.args.seat.now) q (history_of found) (ap (λ p. p.seat) e.1) c.enter-held.ensures.found) refl refl
     (a.1 ∙ ap (λ b. map entry_of b.words.items ++ a.0) c.book.ensures.value) (a.2 _ (sym c.requires.1 ∙ sym (ap (λ p. p.seat.number) e.1)))
+
+pub leave-requires-clause-found : goal.leave-requires-clause-found
+leave-requires-clause-found g c = let e = c.enter-held.ensures in e.count ∙ ap (λ p. length p.names) (sym e.part.1)
+
+pub leave-requires-clause-names : goal.leave-requires-clause-names
+leave-requires-clause-names g c = let e = c.enter-held.ensures in
+    names-as-found e.part.0 (seat_part c.args.seat.now) (seat_part c.enter-held.new.seat) (history_of c.enter-held.result.book.value.words.items).log (history_of c.push.new.self.words.items).log [] e.part.1 e.names
