@@ -13,7 +13,7 @@ use Rattle.metric_words.specs.GaugeLedger.{GaugeKnown, gauge_known}
 use Rattle.stat_book.specs.Calls.{new_book}
 use Rattle.book_lock.specs.Seats.{seat_lock}
 use Rattle.locked_book.specs.declared.shared.LockedBook.{LockedBook}
-use Rattle.locked_book.specs.Sharing.{first_of, known_by}
+use Rattle.locked_book.specs.Sharing.{first_of, known_by, part_of}
 use Rattle.flush_cells.specs.Cells.{cell_of}
 use Rattle.half_side.specs.Halves.{HalfKnown}
 use Rattle.ledger.specs.Lists.{EachNumbered}
