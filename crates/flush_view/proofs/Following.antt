@@ -19,7 +19,6 @@ use Rattle.merge_round.specs.Slots.{Slots, held, bins_at, is_warm_at}
 use Rattle.ledger.specs.Flushes.{flushed, flushed_in}
 use Rattle.ledger.specs.Readings.{word_on}
 use Rattle.book_state.proofs.Lists.{not_some, some_same}
-use Rattle.flush_view.specs.Kept.{metrics_made}
 use Rattle.flush_view.specs.Showing.{IsShowable, HasLawfulParts, values_taken}
 use Rattle.flush_view.specs.Sums.{with_deltas, with_readings, with_parts, HasRoomForAll}
 use Rattle.flush_view.specs.Views.{parts_on, merged_parts, is_part_on}
@@ -156,38 +155,47 @@ cut_reading half top s high = elim (leb_tells s top) [
 pub signed_cut : (s : ℕ) → cast_signed w64 (min s (2 ^ 64 - 1)) ≡ cast_signed w64 s
 signed_cut s = cut_reading (2 ^ 63) (2 ^ 64 - 1) s (lit≤ tt)
 
-module _ (config : Config) (report : Report) (can : IsShowable config report) (k : ℕ) (flush : FlushRecord)
-    (at : slice_get report.flushes k ≡ Some flush) where
+-- what these flushes took can be counted
+pub record AreCountable (flushes : List FlushRecord) : Type 0 where
+  pub units : (id : ℕ) → flushed id flushes < 2 ^ 63
+  pub lawful : AllByRecursion HasLawfulParts flushes
+  pub values : (id : ℕ) → values_taken id flushes ≤ MAX_COUNT
+
+pub countable : (config : Config) (report : Report) → IsShowable config report → AreCountable report.flushes
+countable config report can = record { units = can.units; lawful = can.lawful; values = can.values }
+
+module _ (flushes : List FlushRecord) (can : AreCountable flushes) (k : ℕ) (flush : FlushRecord)
+    (at : slice_get flushes k ≡ Some flush) where
   -- no counter has as many units in the flush as a word can't hold
-  few_units : (id : ℕ) → flushed id (take k report.flushes) + flushed_in id flush < 2 ^ 63
+  few_units : (id : ℕ) → flushed id (take k flushes) + flushed_in id flush < 2 ^ 63
   few_units id =
       let all = can.units id in
-      let front = front_sum (flushed_in id) (suc k) report.flushes in
-      let more = more_sum (flushed_in id) report.flushes k flush at in
+      let front = front_sum (flushed_in id) (suc k) flushes in
+      let more = more_sum (flushed_in id) flushes k flush at in
       omega (arith, all, front, more)
 
-  few_values : (id : ℕ) → values_taken id (take k report.flushes) + values_in id flush.parts ≤ MAX_COUNT
+  few_values : (id : ℕ) → values_taken id (take k flushes) + values_in id flush.parts ≤ MAX_COUNT
   few_values id =
       let all = can.values id in
-      let whole = all_values id report.flushes in
-      let first = all_values id (take k report.flushes) in
-      let front = front_sum (values_by id) (suc k) report.flushes in
-      let more = more_sum (values_by id) report.flushes k flush at in
+      let whole = all_values id flushes in
+      let first = all_values id (take k flushes) in
+      let front = front_sum (values_by id) (suc k) flushes in
+      let more = more_sum (values_by id) flushes k flush at in
       omega (arith, all, whole, first, front, more)
 
   lawful : HasLawfulParts flush
-  lawful = lawful_at report.flushes k flush at can.lawful
+  lawful = lawful_at flushes k flush at can.lawful
 
   roomy : (slots : Slots)
       → ((id : ℕ)
       → (bins_at slots id ≡ []) ⊎
-      (bins_at slots id ≡ merged_parts (flat_map (parts_on id) (take k report.flushes))))
+      (bins_at slots id ≡ merged_parts (flat_map (parts_on id) (take k flushes))))
       → IsRoomy slots flush.parts
   roomy slots are = record {
     rising = λ id. elim (are id) [
       | inl none ↦ subst IsBinList (sym none) none_rise
       | inr some ↦ subst IsBinList (sym some)
-          (sums_rise (flat_map (parts_on id) (take k report.flushes)) (all_lawful id k report.flushes can.lawful))
+          (sums_rise (flat_map (parts_on id) (take k flushes)) (all_lawful id k flushes can.lawful))
     ];
     few = λ id.
         let few = few_values id in
@@ -195,7 +203,7 @@ module _ (config : Config) (report : Report) (can : IsShowable config report) (k
           | inl none ↦ let size = ap total none in omega (arith, few, size)
           | inr some ↦
               let size = ap total some in
-              let all = total-behind [] (flat_map (parts_on id) (take k report.flushes)) in
+              let all = total-behind [] (flat_map (parts_on id) (take k flushes)) in
               omega (arith, few, size, all)
         ];
   }
@@ -206,11 +214,11 @@ module _ (config : Config) (report : Report) (can : IsShowable config report) (k
       room_for_all (replicate count None) flush.parts lawful
       (roomy (replicate count None) (λ id. inl (ap held (no_bins_at count id))))
 
-  pub room_beside : (slots : Slots) → length slots ≡ metrics_made config report
-      → ((id : ℕ) → id < metrics_made config report
-      → bins_at slots id ≡ merged_parts (flat_map (parts_on id) (take k report.flushes)))
+  pub room_beside : (count : ℕ) (slots : Slots) → length slots ≡ count
+      → ((id : ℕ) → id < count
+      → bins_at slots id ≡ merged_parts (flat_map (parts_on id) (take k flushes)))
       → HasRoomForAll slots flush.parts
-  room_beside slots long are =
+  room_beside count slots long are =
       room_for_all slots flush.parts lawful (roomy slots (λ id. elim (leb_tells (length slots) id) [
         | inl h ↦ inl (ap held (get_or_past slots id None h.1))
         | inr h ↦ let within = h.1 in inr (are id (omega (arith, within, long)))
@@ -218,23 +226,23 @@ module _ (config : Config) (report : Report) (can : IsShowable config report) (k
 
   -- the sums behind the flush
   pub totals_behind : (sums : List ℕ) (id : ℕ) → id < length sums
-      → get_or sums id 0 ≡ flushed id (take k report.flushes)
-      → get_or (with_deltas sums flush.deltas) id 0 ≡ flushed id (take (suc k) report.flushes)
+      → get_or sums id 0 ≡ flushed id (take k flushes)
+      → get_or (with_deltas sums flush.deltas) id 0 ≡ flushed id (take (suc k) flushes)
   totals_behind sums id within was =
       let few = few_units id in
       let sum = deltas_at sums flush.deltas id within (omega (arith, was, few)) in
-      let more = more_sum (flushed_in id) report.flushes k flush at in
+      let more = more_sum (flushed_in id) flushes k flush at in
       omega (arith, sum, was, few, more)
 
   pub bins_behind : (slots : Slots) (id : ℕ) → id < length slots
-      → bins_at slots id ≡ merged_parts (flat_map (parts_on id) (take k report.flushes))
-      → bins_at (with_parts slots flush.parts) id ≡ merged_parts (flat_map (parts_on id) (take (suc k) report.flushes))
+      → bins_at slots id ≡ merged_parts (flat_map (parts_on id) (take k flushes))
+      → bins_at (with_parts slots flush.parts) id ≡ merged_parts (flat_map (parts_on id) (take (suc k) flushes))
   bins_behind slots id within was =
       parts_at slots flush.parts id within
       ∙ ap (λ (bins : List BinCount). behind bins (parts_on id flush)) was
-      ∙ sym (behind-append [] (flat_map (parts_on id) (take k report.flushes)) (parts_on id flush))
-      ∙ ap (behind []) (sym (flat_map-push id (take k report.flushes) flush))
-      ∙ ap (λ (l : List FlushRecord). behind [] (flat_map (parts_on id) l)) (sym (one_more report.flushes k flush at))
+      ∙ sym (behind-append [] (flat_map (parts_on id) (take k flushes)) (parts_on id flush))
+      ∙ ap (behind []) (sym (flat_map-push id (take k flushes) flush))
+      ∙ ap (λ (l : List FlushRecord). behind [] (flat_map (parts_on id) l)) (sym (one_more flushes k flush at))
 
   -- what the flush took alone
   pub units_alone : (count id : ℕ) → id < count

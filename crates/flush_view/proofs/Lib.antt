@@ -7,14 +7,14 @@ pub mod Ends
 mod Shown
 mod Made
 pub mod InLog
-mod Replayed
-mod Befores
-mod FullNames
+pub mod Replayed
+pub mod Befores
+pub mod FullNames
 mod ByNumber
-mod Picked
-mod Following
+pub mod Picked
+pub mod Following
 pub mod Viewing
-mod Ready
+pub mod Ready
 pub mod FileEvents
 pub mod Recorded
 mod Countings

@@ -24,7 +24,7 @@ use Rattle.flush_view.specs.Showing.{IsShowable}
 use Rattle.flush_view.specs.ViewsKept.{IsReady}
 use Rattle.flush_view.specs.Views.{NumberedMetric, numbered_metrics, view_rules, view_of, view, state_before, ends_in}
 use Rattle.flush_view.proofs.FullNames.{names_are_texts}
-use Rattle.flush_view.proofs.Following.{no_bins_at, no_sum_at}
+use Rattle.flush_view.proofs.Following.{countable, no_bins_at, no_sum_at}
 use Rattle.flush_view.proofs.Picked.{all_in_order, names_within}
 use Rattle.flush_view.proofs.Replayed.{tags_drawn, all_next, state_replayed}
 use Rattle.flush_view.proofs.Viewing.{taken_to, followed_on, view_is}
@@ -109,13 +109,14 @@ module _ (config : Config) (report : Report) where
 
     module _ (new : Progress) (follows : Follows flush progress new) where
       followed : HasFollowed config report (suc k) new
-      followed = followed_on config report ready.showable k flush at progress new ready.followed follows
+      followed = followed_on report.flushes (countable config report ready.showable) k flush at (metrics_made config report) progress
+          new ready.followed follows
 
       pub ready_next : IsReady config report (k + 1) new
-      ready_next = record {
+      ready_next = let next : suc k ≡ k + 1 = omega arith in record {
         showable = ready.showable;
         next = ready.next;
-        followed = subst (λ (n : ℕ). HasFollowed config report n new) (omega arith) followed;
+        followed = subst (λ (n : ℕ). HasFollowed config report n new) next followed;
       }
 
       -- the view that is made is the one of the flush

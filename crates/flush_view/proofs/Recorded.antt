@@ -127,7 +127,7 @@ one_more : (o : Option Recording) (rest : List Recording) → length (cons_optio
 one_more None rest = omega arith
 one_more (Some r) rest = omega arith
 
-records_few : (work : Work) → length (recordings work) ≤ length work
+pub records_few : (work : Work) → length (recordings work) ≤ length work
 records_few [] = omega arith
 records_few (told ∷ work) =
     let one = one_more (recording_in told) (recordings work) in

@@ -19,6 +19,7 @@ use Rattle.flush_view.specs.Showing.{HasLawfulParts, IsShowable, AreBinsShown, H
 use Rattle.flush_view.specs.Views.{NumberedMetric, view_rules, state_before, last_state, metrics_shown, has_histogram_row, histogram_row, parts_on, merged_parts, view_of}
 use Rattle.flush_view.proofs.BinsShown.{AllLawful, flush_lawful, flushes_lawful}
 use Rattle.flush_view.proofs.Countings.{total_merged}
+use Rattle.flush_view.proofs.Following.{AreCountable, countable}
 use Rattle.loglinear_bins.proofs.MergedBins.{sums_rise}
 
 abbrev values_of_part : Part → ℕ
@@ -68,21 +69,21 @@ module _ (id : ℕ) where
       let whole = sum_by-append values_of_part (parts_on id one) (flat_map (parts_on id) flushes) in
       omega (arith, rest, whole)
 
-row_bins : (config : Config) (report : Report) (k : ℕ) (flush : FlushRecord) (bounds : List ℕ → List Bound)
+pub row_bins : (flushes : List FlushRecord) (k : ℕ) (flush : FlushRecord) (bounds : List ℕ → List Bound)
     (numbered : NumberedMetric)
-    → IsShowable config report → slice_get report.flushes k ≡ Some flush
-    → HasBinsShown (histogram_row bounds flush (take (suc k) report.flushes) numbered)
-row_bins config report k flush bounds numbered showable there =
+    → AreCountable flushes → slice_get flushes k ≡ Some flush
+    → HasBinsShown (histogram_row bounds flush (take (suc k) flushes) numbered)
+row_bins flushes k flush bounds numbered can there =
     let id : ℕ = numbered.0 in
-    let most : ℕ = values_taken id report.flushes in
-    let so_far : List FlushRecord = take (suc k) report.flushes in
+    let most : ℕ = values_taken id flushes in
+    let so_far : List FlushRecord = take (suc k) flushes in
     record {
       interval = bins_shown (parts_on id flush) most
-          (flush_lawful id flush (member_lawful k flush report.flushes there showable.lawful))
-          (member_few id k flush report.flushes there) (showable.values id);
+          (flush_lawful id flush (member_lawful k flush flushes there can.lawful))
+          (member_few id k flush flushes there) (can.values id);
       cumulative = bins_shown (flat_map (parts_on id) so_far) most
-          (flushes_lawful id so_far (front_lawful (suc k) report.flushes showable.lawful))
-          (front_few id (suc k) report.flushes) (showable.values id);
+          (flushes_lawful id so_far (front_lawful (suc k) flushes can.lawful))
+          (front_few id (suc k) flushes) (can.values id);
     }
 
 pub views_have_bins : ViewsHaveBins
@@ -96,4 +97,5 @@ views_have_bins config report k shown showable is =
     metrics_shown Histogram (has_histogram_row before flush) (last_state rules.names report.log) in
     subst (λ (v : FlushView). All HasBinsShown v.histograms) (sym found.2)
     (All-map HasBinsShown (histogram_row rules.bounds flush so_far) numbered
-    (λ j d below. row_bins config report k flush rules.bounds (get_or numbered j d) showable found.1))
+    (λ j d below. row_bins report.flushes k flush rules.bounds (get_or numbered j d)
+    (countable config report showable) found.1))

@@ -1,5 +1,5 @@
 -- The view that is made of what is kept is the view of the flush, and what is kept goes on with it.
-use Rattle.std.proofs.Common.{◌≡◌, ℕ, suc, ◌+◌, ◌<◌, ◌||◌, ◌&&◌, min, nat_lt, Bool, true, false, Some, None, List, [], ◌∷◌, map, take, length, get_or, replicate, slice_get, cond, refl, ap, sym, ◌∙◌, arith, inl, inr}
+use Rattle.std.proofs.Common.{◌≡◌, ℕ, suc, ◌+◌, ◌<◌, ◌≤◌, ◌||◌, ◌&&◌, min, nat_lt, Bool, true, false, Some, None, List, [], ◌∷◌, map, take, length, get_or, replicate, slice_get, cond, refl, ap, sym, ◌∙◌, arith, inl, inr}
 use Rattle.std.specs.List.{flat_map, AllByRecursion}
 use Rattle.std.proofs.lemmas.Bool.Decides.{leb_tells}
 use Rattle.std.proofs.lemmas.List.{length-map, take_all}
@@ -19,14 +19,14 @@ use Rattle.ledger.specs.Flushes.{flushed}
 use Rattle.flush_view.specs.Before.{Before, before_of, is_left}
 use Rattle.flush_view.specs.ByName.{comes_before, put_by_name, by_name}
 use Rattle.flush_view.specs.declared.progress.Progress.{Progress}
-use Rattle.flush_view.specs.Kept.{HasFollowed, Follows, metrics_made, last_book, ordered_metrics, kept_of}
+use Rattle.flush_view.specs.Kept.{HasFollowed, HasSums, Follows, metrics_made, last_book, ordered_metrics, kept_of}
 use Rattle.flush_view.specs.Rows.{view_kept, picked, shows_counter, shows_histogram, counter_at, gauge_at, text_at, histogram_at}
 use Rattle.flush_view.specs.Showing.{IsShowable}
 use Rattle.flush_view.specs.Sums.{with_deltas, with_readings, with_parts}
 use Rattle.flush_view.specs.Views.{NumberedMetric, row_name, numbered_metrics, metrics_shown, has_not_gone, has_counter_row, has_histogram_row, counter_row, gauge_row, text_row, histogram_row, view_rules, view_of, state_before, merged_parts, parts_on}
 use Rattle.flush_view.proofs.Befores.{left_same, text_same}
 use Rattle.flush_view.proofs.ByNumber.{length-with_deltas, length-with_parts}
-use Rattle.flush_view.proofs.Following.{totals_behind, bins_behind, units_alone, intervals_alone, words_alone}
+use Rattle.flush_view.proofs.Following.{AreCountable, countable, totals_behind, bins_behind, units_alone, intervals_alone, words_alone}
 use Rattle.flush_view.proofs.Picked.{metrics_picked, all_in_order, ids_within, same_rows, passing_rows}
 
 each_so : {X : Type 0} (P Q : X → Type 0) → ((x : X) → P x → Q x) → (xs : List X) → AllByRecursion P xs
@@ -61,11 +61,11 @@ both_pass : (a b : Bool) → (a && b) ≡ true → b ≡ true
 both_pass true b pass = pass
 both_pass false b pass = absurd (true_false (sym pass))
 
-module _ (config : Config) (report : Report) (can : IsShowable config report) (k : ℕ) (flush : FlushRecord)
-    (at : slice_get report.flushes k ≡ Some flush) where
-  pub followed_on : (old new : Progress) → HasFollowed config report k old → Follows flush old new
-      → HasFollowed config report (suc k) new
-  followed_on old new was follows =
+module _ (flushes : List FlushRecord) (can : AreCountable flushes) (k : ℕ) (flush : FlushRecord)
+    (at : slice_get flushes k ≡ Some flush) where
+  pub followed_on : (count : ℕ) (old new : Progress) → HasSums count (take k flushes) old → Follows flush old new
+      → HasSums count (take (suc k) flushes) new
+  followed_on count old new was follows =
       let long = length-with_deltas old.totals.items flush.deltas in
       let wide = length-with_parts old.cumulative.items flush.parts in
       let had = was.sums in
@@ -75,25 +75,22 @@ module _ (config : Config) (report : Report) (can : IsShowable config report) (k
         slots = ap length follows.cumulative ∙ wide ∙ held;
         totals = λ id below.
             ap (λ (l : List ℕ). get_or l id 0) follows.totals
-            ∙ totals_behind config report can k flush at old.totals.items id (omega (arith, below, had))
+            ∙ totals_behind flushes can k flush at old.totals.items id (omega (arith, below, had))
             (was.totals id below);
         bins = λ id below.
             ap (λ (l : Slots). bins_at l id) follows.cumulative
-            ∙ bins_behind config report can k flush at old.cumulative.items id (omega (arith, below, held))
+            ∙ bins_behind flushes can k flush at old.cumulative.items id (omega (arith, below, held))
             (was.bins id below);
       }
 
-  module _ (before : State) (totals : List ℕ) (cumulative : Slots)
-      (total_at : (id : ℕ) → id < metrics_made config report
-      → get_or totals id 0 ≡ flushed id (take (suc k) report.flushes))
-      (all_at : (id : ℕ) → id < metrics_made config report
-      → bins_at cumulative id ≡ merged_parts (flat_map (parts_on id) (take (suc k) report.flushes)))
-      (count : ℕ) (counts : count ≡ metrics_made config report) where
+  module _ (bounds : List ℕ → List Bound) (before last : State) (totals : List ℕ) (cumulative : Slots)
+      (total_at : (id : ℕ) → id < length last.metrics
+      → get_or totals id 0 ≡ flushed id (take (suc k) flushes))
+      (all_at : (id : ℕ) → id < length last.metrics
+      → bins_at cumulative id ≡ merged_parts (flat_map (parts_on id) (take (suc k) flushes)))
+      (count : ℕ) (counts : count ≡ length last.metrics) where
     abbrev so_far : List FlushRecord
-    so_far = take (suc k) report.flushes
-
-    abbrev last : State
-    last = last_book config report
+    so_far = take (suc k) flushes
 
     abbrev ordered : List NumberedMetric
     ordered = by_name row_name (numbered_metrics last)
@@ -122,14 +119,11 @@ module _ (config : Config) (report : Report) (can : IsShowable config report) (k
           )) ordered within)
           ∙ ap (map g) (metrics_picked kind q last)
 
-    abbrev bounds : List ℕ → List Bound
-    bounds = (view_rules config).bounds
-
     counters_same : map (counter_at (with_deltas (replicate count 0) flush.deltas) totals)
         (picked Counter (shows_counter (before_of before) (with_deltas (replicate count 0) flush.deltas)) ordered)
         ≡ map (counter_row flush so_far) (metrics_shown Counter (has_counter_row before flush) last)
     counters_same = rows_same Counter _ _ _ _ (λ numbered below.
-        let delta = units_alone config report can k flush at count numbered.0 below in
+        let delta = units_alone flushes can k flush at count numbered.0 below in
         let total = total_at numbered.0 (omega (arith, below, counts)) in (
           λ i. record { name = numbered.1.name; tagged = numbered.1.tagged; delta = delta i; total = total i },
           λ i. left_same before numbered.0 i || nat_lt 0 (delta i),
@@ -157,7 +151,7 @@ module _ (config : Config) (report : Report) (can : IsShowable config report) (k
         (picked Histogram (shows_histogram (before_of before) (with_parts (replicate count None) flush.parts)) ordered)
         ≡ map (histogram_row bounds flush so_far) (metrics_shown Histogram (has_histogram_row before flush) last)
     histograms_same = rows_same Histogram _ _ _ _ (λ numbered below.
-        let alone = intervals_alone config report can k flush at count numbered.0 below in
+        let alone = intervals_alone flushes can k flush at count numbered.0 below in
         let all = all_at numbered.0 (omega (arith, below, counts)) in (
           λ i. record {
             name = numbered.1.name;
@@ -184,7 +178,36 @@ module _ (config : Config) (report : Report) (can : IsShowable config report) (k
       histograms = histograms_same i;
     }
 
-  -- the view of the figures that are kept behind the flush
+  -- The view of the figures that are kept behind the flush, where these are the book before its sweep and the book
+  -- whose metrics are shown. The sums may be of more metrics.
+  pub view_in : (bounds : List ℕ → List Bound) (state last : State) (most : ℕ) (before : Before) (new : Progress)
+      (metrics : List NumberedMetric)
+      → length last.metrics ≤ most → HasSums most (take (suc k) flushes) new
+      → before ≡ before_of state → metrics ≡ by_name row_name (numbered_metrics last)
+      → view_kept bounds before (kept_of (length metrics) flush new.totals.items new.cumulative.items) metrics
+      ≡ record {
+        counters = map (counter_row flush (take (suc k) flushes))
+            (metrics_shown Counter (has_counter_row state flush) last);
+        gauges = map (gauge_row flush) (metrics_shown Gauge (has_not_gone state) last);
+        texts = map (text_row state) (metrics_shown Text (has_not_gone state) last);
+        histograms = map (histogram_row bounds flush (take (suc k) flushes))
+            (metrics_shown Histogram (has_histogram_row state flush) last);
+      }
+  view_in bounds state last most before new metrics few has known is =
+      let count : length (by_name row_name (numbered_metrics last)) ≡ length last.metrics =
+      length-by_name row_name (numbered_metrics last)
+      ∙ length-enumerate_from 0 (metrics_of last)
+      ∙ length-map last.metrics (λ row. row.metric) in
+      (λ i. view_kept bounds (known i)
+      (kept_of (length (is i)) flush new.totals.items new.cumulative.items) (is i))
+      ∙ rows_kept bounds state last new.totals.items new.cumulative.items
+      (λ id below. has.totals id (omega (arith, below, few)))
+      (λ id below. has.bins id (omega (arith, below, few)))
+      (length (by_name row_name (numbered_metrics last))) count
+
+module _ (config : Config) (report : Report) (can : IsShowable config report) (k : ℕ) (flush : FlushRecord)
+    (at : slice_get report.flushes k ≡ Some flush) where
+  -- the view of the figures that are kept behind the flush of a report
   pub view_is : (before : Before) (new : Progress) (metrics : List NumberedMetric)
       → HasFollowed config report (suc k) new
       → before ≡ before_of (state_before (view_rules config).names report.log flush)
@@ -193,13 +216,6 @@ module _ (config : Config) (report : Report) (can : IsShowable config report) (k
       (kept_of (length metrics) flush new.totals.items new.cumulative.items) metrics
       ≡ view_of (view_rules config) report.log flush (take (suc k) report.flushes)
   view_is before new metrics followed known is =
-      let count : length (ordered_metrics config report) ≡ metrics_made config report =
-      length-by_name row_name (numbered_metrics (last_book config report))
-      ∙ length-enumerate_from 0 (metrics_of (last_book config report))
-      ∙ length-map (last_book config report).metrics (λ row. row.metric) in
-      (λ i. view_kept (view_rules config).bounds (known i)
-      (kept_of (length (is i)) flush new.totals.items new.cumulative.items) (is i))
-      ∙ rows_kept
-      (state_before
-      (view_rules config).names report.log flush) new.totals.items new.cumulative.items followed.totals followed.bins
-      (length (ordered_metrics config report)) count
+      view_in report.flushes (countable config report can) k flush at (view_rules config).bounds
+      (state_before (view_rules config).names report.log flush) (last_book config report)
+      (metrics_made config report) before new metrics (omega arith) followed known is

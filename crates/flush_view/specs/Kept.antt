@@ -42,14 +42,17 @@ pub record Follows (flush : FlushRecord) (old new : Progress) : Type 0 where
   pub totals : new.totals.items ≡ with_deltas old.totals.items flush.deltas
   pub cumulative : new.cumulative.items ≡ with_parts old.cumulative.items flush.parts
 
+-- the sums of so many metrics are those of these flushes
+pub record HasSums (count : ℕ) (flushes : List FlushRecord) (progress : Progress) : Type 0 where
+  pub sums : length progress.totals.items ≡ count
+  pub slots : length progress.cumulative.items ≡ count
+  pub totals : (id : ℕ) → id < count → slice_index progress.totals.items id ≡ flushed id flushes
+  pub bins : (id : ℕ) → id < count
+      → bins_at progress.cumulative.items id ≡ merged_parts (flat_map (parts_on id) flushes)
+
 -- the first k flushes of a report were followed
-pub record HasFollowed (config : Config) (report : Report) (k : ℕ) (progress : Progress) : Type 0 where
-  pub sums : length progress.totals.items ≡ metrics_made config report
-  pub slots : length progress.cumulative.items ≡ metrics_made config report
-  pub totals : (id : ℕ) → id < metrics_made config report
-      → slice_index progress.totals.items id ≡ flushed id (take k report.flushes)
-  pub bins : (id : ℕ) → id < metrics_made config report
-      → bins_at progress.cumulative.items id ≡ merged_parts (flat_map (parts_on id) (take k report.flushes))
+abbrev pub HasFollowed : Config → Report → ℕ → Progress → Type 0
+HasFollowed config report k progress = HasSums (metrics_made config report) (take k report.flushes) progress
 
 -- what a flush took of so many metrics, beside these sums
 abbrev pub kept_of : ℕ → FlushRecord → List ℕ → Slots → Figures

@@ -7,7 +7,7 @@ use stat_defs::{Life, List, Metric, MetricId, NoMemory, Txt};
 use std::alloc::Global;
 
 /// Of each metric that was made before a sweep, by its number: the text that it held, or nothing where it was gone.
-pub(crate) type Before = List<Option<Txt>>;
+pub type Before = List<Option<Txt>>;
 
 fn left_of(metric: &Metric) -> Result<Option<Txt>, NoMemory>
     ensures { IfOk result (λ left. left ≡ left_of metric.now) }
@@ -19,7 +19,7 @@ fn left_of(metric: &Metric) -> Result<Option<Txt>, NoMemory>
 }
 
 /// What is known of the metrics of a book.
-pub(crate) fn before_of(alloc: Global, book: &BookState) -> Result<Before, NoMemory>
+pub fn before_of(alloc: Global, book: &BookState) -> Result<Before, NoMemory>
     ensures { IfOk result (λ before. before ≡ before_of book.now.state) }
 {
     let made = book.made();

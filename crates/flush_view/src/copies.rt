@@ -24,7 +24,7 @@ fn copy_of_tags(alloc: Global, tags: &[Tag]) -> Result<List<Tag>, NoMemory>
 }
 
 /// A copy of what tags took of a name, and of the tags.
-pub(crate) fn copy_of_tagged(alloc: Global, tagged: &Tagged) -> Result<Tagged, NoMemory>
+pub fn copy_of_tagged(alloc: Global, tagged: &Tagged) -> Result<Tagged, NoMemory>
     ensures { IfOk result (λ copy. copy ≡ tagged.now) }
 {
     Ok(Tagged {

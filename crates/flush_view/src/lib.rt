@@ -2,12 +2,12 @@
 //! views.
 #![tactic(auto)]
 
-mod before;
-mod copies;
+pub mod before;
+pub mod copies;
 mod laws;
-mod naming;
-mod progress;
-mod replaying;
+pub mod naming;
+pub mod progress;
+pub mod replaying;
 mod report_views;
 mod rows;
 mod sums;

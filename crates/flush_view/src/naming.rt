@@ -14,7 +14,7 @@ use std::alloc::{AllocError, Global};
 use std::cmp::Ordering;
 
 /// A metric with its number.
-pub(crate) type NumberedMetric = (usize, Metric);
+pub type NumberedMetric = (usize, Metric);
 
 fn compare_names(one: &NumberedMetric, other: &NumberedMetric) -> Ordering
     ensures { result ≡ slice_cmp nat_cmp (row_name one.now) (row_name other.now) }
@@ -41,7 +41,7 @@ fn numbered(alloc: Global, metrics: Vec<Metric>) -> Result<Vec<NumberedMetric>, 
 }
 
 /// Metrics with their numbers, by full name, and those of one name by number.
-pub(crate) fn in_order(alloc: Global, metrics: Vec<Metric>) -> Result<Vec<NumberedMetric>, NoMemory>
+pub fn in_order(alloc: Global, metrics: Vec<Metric>) -> Result<Vec<NumberedMetric>, NoMemory>
     ensures { IfOk result (λ named. named.items ≡ by_name row_name (enumerate_from 0 metrics.items)) }
 {
     let mut numbered = numbered(alloc, metrics)?;

@@ -13,9 +13,9 @@ use tag_rules::Buckets;
 
 /// What flushes took so far, by the numbers of metrics.
 #[derive(Drop)]
-pub(crate) struct Progress {
-    pub(crate) totals: Vec<u64>,
-    pub(crate) cumulative: Vec<Option<Bins>>,
+pub struct Progress {
+    pub totals: Vec<u64>,
+    pub cumulative: Vec<Option<Bins>>,
 }
 
 impl Progress {
@@ -24,7 +24,7 @@ impl Progress {
     ghost use Rattle.flush_view.specs.Rows.{view_kept};
 
     /// No flush is followed yet, of so many metrics.
-    pub(crate) fn new(alloc: Global, count: usize) -> Result<Progress, NoMemory>
+    pub fn new(alloc: Global, count: usize) -> Result<Progress, NoMemory>
         ensures { IfOk result (IsAtStart count) }
     {
         Ok(Progress {
@@ -34,7 +34,7 @@ impl Progress {
     }
 
     /// Adds what a flush took.
-    pub(crate) fn follow(&mut self, alloc: Global, flush: &FlushRecord) -> Result<(), NoMemory>
+    pub fn follow(&mut self, alloc: Global, flush: &FlushRecord) -> Result<(), NoMemory>
         requires { HasRoomForAll self.old.cumulative.items flush.now.parts }
         ensures { OnOk result (Follows flush.now self.old self.new) }
     {
@@ -43,7 +43,7 @@ impl Progress {
     }
 
     /// The view of the flush that was followed last, where this is known before its sweep.
-    pub(crate) fn view(
+    pub fn view(
         &self,
         alloc: Global,
         buckets: &Buckets,

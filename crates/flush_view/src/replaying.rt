@@ -12,11 +12,7 @@ use stat_defs::{Call, Entry, FlushRecord, NoMemory};
 use std::alloc::Global;
 
 /// Applies entries one after another.
-pub(crate) fn apply_all(
-    alloc: Global,
-    book: &mut BookState,
-    entries: &[Entry],
-) -> Result<(), NoMemory>
+pub fn apply_all(alloc: Global, book: &mut BookState, entries: &[Entry]) -> Result<(), NoMemory>
     requires { AreNext book.old entries.now }
     ensures { OnOk result (book.new ≡ fold after_entry book.old entries.now) }
 {

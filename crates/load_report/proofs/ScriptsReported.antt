@@ -22,7 +22,7 @@ use Rattle.ledger.proofs.WorkLists.{lengths, events_back, verdicts_back}
 use Rattle.plain_store.specs.Store.{StoreHistory, new_store, Finishes}
 use Rattle.replay_report.specs.Applying.{with_applied, AreApplied}
 use Rattle.replay_report.specs.FileRun.{all_verdicts, report_with}
-use Rattle.replay_report.proofs.OneThread.{history, swept, account, shown}
+use Rattle.replay_report.proofs.AppliedReport.{applied_report}
 use Rattle.load_report.specs.LoadRun.{all_script_events, AreScriptsApplied, whole_end, script_ends}
 use Rattle.load_report.specs.LoadReport.{IsLoadOf}
 
@@ -32,20 +32,6 @@ pub room_for_all : (config : Config) (first : StoreHistory) (count n : ℕ) → 
 room_for_all config first count n new few small =
     let none : length first.worker.events ≡ 0 = ap (λ (s : StoreHistory). length s.worker.events) new in
     let room = mul-le count n MAX_SCRIPTS MAX_SCRIPT_EVENTS few small in omega (arith, none, room)
-
--- the events of work, and its verdicts, are the work
-zipped : (work : Work) → work ≡ zip (events_in work) (verdicts_in work)
-zipped [] = refl
-zipped (told ∷ work) = ap (λ (l : Work). told ∷ l) (zipped work)
-
--- lists of events, one after another, are the work of one worker
-as_together : (events : List (List Event)) (verdicts : List (List Verdict)) → lengths verdicts ≡ lengths events
-    → together events verdicts ≡ zip (flat_map (λ es. es) events) (all_verdicts verdicts) ∷ []
-as_together events verdicts each =
-    let work : Work = flat_map work_of (zip events verdicts) in
-    ap (λ (w : Work). w ∷ []) (zipped work
-    ∙ ap (λ (es : List Event). zip es (verdicts_in work)) (events_back events verdicts each)
-    ∙ ap (λ (vs : List Verdict). zip (flat_map (λ es. es) events) vs) (verdicts_back events verdicts each))
 
 -- each script from this one on is a whole file of its events
 are_files : (n first count : ℕ) → n ≤ MAX_SCRIPT_EVENTS → first + count ≤ MAX_SCRIPTS + 1
@@ -89,22 +75,8 @@ module _ (count n : ℕ) (verdicts : List (List Verdict)) (given : LastFlush) wh
       → AreScriptsApplied (new_store config) count n verdicts store → Finishes store given
       → IsLoadOf config count n report
   is_load config store few small are finishes =
-      let events : List Event = all_script_events count n in
-      let told : List Verdict = all_verdicts verdicts in
-      let ends : List WorkerEnd = script_ends count in
-      let applied : AreApplied (new_store config) events told store = are.are_applied in
-      let at_end : Finishes (with_applied (new_store config) events told applied.entries) given =
-      subst (λ (s : StoreHistory). Finishes s given) applied.applied finishes in
-      subst
-      (λ (workers : List Work). IsReportOf (script_texts count n) (scripts count n)
-      (last_flush_alone (plan_of config)) workers report)
-      (sym (as_together (scripts count n) verdicts are.a_verdict_each)) (record {
-        read = read are.a_verdict_each few small;
-        history = history config events told applied.entries given at_end verdicts ends applied.a_verdict_each;
-        swept = swept config events told applied.entries given at_end verdicts ends applied.mine;
-        account = account config events told applied.entries given at_end verdicts ends;
-        shown = shown config events told applied.entries given at_end verdicts ends;
-      })
+      applied_report (script_texts count n) (scripts count n) verdicts (script_ends count) given
+      (read are.a_verdict_each few small) are.a_verdict_each config store are.are_applied finishes
 
   pub reported : (config : Config) (first store : StoreHistory) (ends : List WorkerEnd) → count ≤ MAX_SCRIPTS
       → n ≤ MAX_SCRIPT_EVENTS → first ≡ new_store config → AreScriptsApplied first count n verdicts store
@@ -116,3 +88,9 @@ module _ (count n : ℕ) (verdicts : List (List Verdict)) (given : LastFlush) wh
       (is_load config store few small
       (subst (λ (s : StoreHistory). AreScriptsApplied s count n verdicts store) new are) finishes)
   reported config first store ends few small new are finishes ended (Err fault) is = tt
+
+  pub ends_told : (ends : List WorkerEnd) → ends ≡ script_ends count → (answer : Result Report NoMemory)
+      → IfOk answer (λ made. made ≡ report_with verdicts ends given)
+      → IfOk answer (λ made. made.ends ≡ script_ends count)
+  ends_told ends ended (Ok made) is = ap (λ (r : Report). r.ends) is ∙ ended
+  ends_told ends ended (Err fault) is = tt

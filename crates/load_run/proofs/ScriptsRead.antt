@@ -1,9 +1,10 @@
 -- The workers of a run of scripts read the scripts' events.
 use Rattle.std.proofs.Common.{◌≡◌, ◌≢◌, ◌≤◌, ◌+◌, ℕ, zero, suc, Option, Some, Ok, Err, List, [], ◌∷◌, length, map, refl, sym, ap, ◌∙◌, subst, arith}
-use Rattle.std.specs.Prelude.{IfOk}
-use Rattle.std.specs.List.{range_with_len, zip, AllZip}
+use Rattle.std.specs.Prelude.{All, IfOk}
+use Rattle.std.specs.List.{range_with_len, zip, AllByRecursion, AllZip}
 use Rattle.std.specs.declared.result.Result.{Result}
 use Rattle.std.proofs.lemmas.List.{length-map}
+use Rattle.std.proofs.lemmas.List.Elements.{All-from_recursion}
 use Rattle.std.proofs.lemmas.List.FromFn.{length-map-range_with_len}
 use Rattle.stat_defs.specs.Faults.{Rose}
 use Rattle.stat_defs.specs.declared.configs.Config.{Config}
@@ -22,7 +23,7 @@ use Rattle.file_reading.specs.SourceRead.{IsSourceRead}
 use Rattle.ledger.specs.Ledger.{RunLedger, AreRead, plan_of}
 use Rattle.ledger.proofs.Lists.{cons_same}
 use Rattle.load_scripts.specs.declared.limits.TheConstants.{MAX_SCRIPTS, MAX_SCRIPT_EVENTS}
-use Rattle.load_scripts.specs.Load.{script_events, script_text, scripts}
+use Rattle.load_scripts.specs.Load.{script_events, script_text, scripts, script_texts}
 use Rattle.load_scripts.proofs.Files.{script_is_file}
 use Rattle.script_source.specs.Sources.{as_source}
 use Rattle.worker_run.specs.declared.given.Given.{Given}
@@ -32,15 +33,15 @@ use Rattle.run_files.specs.Run.{IsRunOfGiven, content_of}
 use Rattle.load_run.specs.LoadRun.{IsLoadRunOf}
 use Rattle.load_run.specs.Files.{script_files}
 
--- the bytes of a whole file have one list of events
+-- the bytes of a whole file have one list of events and one end
 of_bytes : (text bytes : List ℕ) (events wanted : List Event) (end : FileEnd) → text ≡ bytes → File bytes events end
-    → File text wanted Whole → events ≡ wanted
+    → File text wanted Whole → (events ≡ wanted) × (end ≡ Whole)
 of_bytes text bytes events wanted end same file whole =
-    (file_single text events wanted end Whole (subst (λ (bs : List ℕ). File bs events end) (sym same) file) whole).0
+    file_single text events wanted end Whole (subst (λ (bs : List ℕ). File bs events end) (sym same) file) whole
 
--- and so does what was read of it, where it was opened and no read failed
+-- and so has what was read of it, where it was opened and no read failed
 of_told : (text : List ℕ) (end : FileEnd) (taken : ℕ) (events wanted : List Event) → end ≢ ReadFault → end ≢ NotOpened
-    → AreEventsOf (Some text) end taken events → File text wanted Whole → events ≡ wanted
+    → AreEventsOf (Some text) end taken events → File text wanted Whole → (events ≡ wanted) × (end ≡ Whole)
 of_told text Whole taken events wanted read opened is whole = of_bytes text is.0 events wanted Whole is.1 is.2 whole
 of_told text TooBig taken events wanted read opened is whole = of_bytes text is.0 events wanted TooBig is.1 is.2 whole
 of_told text TooMany taken events wanted read opened is whole = of_bytes text is.0 events wanted TooMany is.1 is.2 whole
@@ -55,9 +56,9 @@ of_told text NotOpened taken events wanted read opened is whole = absurd (opened
 never_rose : (before after : ℕ) → before ≡ 0 → after ≡ 0 → Rose before after → ⊥
 never_rose before after from to rose = omega arith
 
--- a script that was read gave its events
+-- a script that was read gave its events, and it is whole
 script_read : (script n : ℕ) (events : List Event) (end : WorkerEnd) → script ≤ MAX_SCRIPTS → n ≤ MAX_SCRIPT_EVENTS
-    → IsSourceRead as_source (script_text script n) events end → events ≡ script_events script n
+    → IsSourceRead as_source (script_text script n) events end → (events ≡ script_events script n) × (end.end ≡ Whole)
 script_read script n events end few short is =
     of_told (script_text script n) end.end end.taken events (script_events script n)
     (λ fault. never_rose end.faults_before end.faults_after is.count_before is.count_after (is.rose fault)) is.opened
@@ -81,8 +82,21 @@ module _ (n : ℕ) (short : n ≤ MAX_SCRIPT_EVENTS) where
   scripts_read first (suc count) (end ∷ ends) [] few many each read = absurd (omega (arith, each))
   scripts_read first (suc count) (end ∷ ends) (es ∷ events) few many each read =
       cons_same es (script_events first n) events (events_from (first + 1) count)
-      (script_read first n es end (omega (arith, few)) short read.0)
+      (script_read first n es end (omega (arith, few)) short read.0).0
       (scripts_read (first + 1) count ends events (omega (arith, few)) (omega (arith, many)) (omega (arith, each)) read.1)
+
+  ends_whole : (first count : ℕ) (ends : List WorkerEnd) (events : List (List Event)) → first + count ≤ MAX_SCRIPTS + 1
+      → length ends ≡ count → length events ≡ count
+      → AllZip (λ file told. IsFileRead as_source file told.1 told.0) (from first count) (zip ends events)
+      → AllByRecursion (λ end. end.end ≡ Whole) ends
+  ends_whole first zero [] events few many each read = tt
+  ends_whole first zero (end ∷ ends) events few many each read = absurd (omega (arith, many))
+  ends_whole first (suc count) [] events few many each read = tt
+  ends_whole first (suc count) (end ∷ ends) [] few many each read = absurd (omega (arith, each))
+  ends_whole first (suc count) (end ∷ ends) (es ∷ events) few many each read = (
+    (script_read first n es end (omega (arith, few)) short read.0).1,
+    ends_whole (first + 1) count ends events (omega (arith, few)) (omega (arith, many)) (omega (arith, each)) read.1,
+  )
 
   texts_told : (ids : List ℕ) → map (content_of as_source) (map (λ script. Opened (script_text script n)) ids)
       ≡ map (λ script. Some (script_text script n)) ids
@@ -96,22 +110,32 @@ as_many xss yss same =
     sym (length-map xss (λ (xs : List Verdict). length xs)) ∙ ap (λ (l : List ℕ). length l) same
     ∙ length-map yss (λ (ys : List Event). length ys)
 
-load_run_is : (config : Config) (count n : ℕ) (report : Report) → count ≤ MAX_SCRIPTS → n ≤ MAX_SCRIPT_EVENTS
-    → IsRunOfGiven as_source config (script_files count n) report → IsLoadRunOf config count n report
-load_run_is config count n report few short is =
-    let read : AreRead (map (content_of as_source) (script_files count n)) is.events report = is.ledger.read in
-    let told = texts_told n short (range_with_len 1 count) in
-    let all : length (map (content_of as_source) (script_files count n)) ≡ count =
-    ap (λ (l : List (Option (List ℕ))). length l) told
-    ∙ length-map-range_with_len (λ script. Some (script_text script n)) 1 count in
-    let ends = read.an_end_each in
-    let each = read.verdicts_each in
-    let events = as_many report.verdicts is.events read.a_verdict_each in
-    let same = scripts_read n short 1 count report.ends is.events (omega (arith, few)) (omega (arith, all, ends))
-    (omega (arith, all, each, events)) is.read in
-    subst (λ (contents : List (Option (List ℕ))). RunLedger contents (scripts count n) (plan_of config) report) told
-    (subst (λ (l : List (List Event)). RunLedger (map (content_of as_source) (script_files count n)) l (plan_of config)
-    report) same is.ledger)
+module _ (config : Config) (count n : ℕ) (report : Report) (few : count ≤ MAX_SCRIPTS) (short : n ≤ MAX_SCRIPT_EVENTS)
+    (is : IsRunOfGiven as_source config (script_files count n) report) where
+  read : AreRead (map (content_of as_source) (script_files count n)) is.events report
+  read = is.ledger.read
+
+  texts : map (content_of as_source) (script_files count n) ≡ script_texts count n
+  texts = texts_told n short (range_with_len 1 count)
+
+  as_many_ends : length report.ends ≡ count
+  as_many_ends = read.an_end_each ∙ (ap (λ (l : List (Option (List ℕ))). length l) texts
+      ∙ length-map-range_with_len (λ script. Some (script_text script n)) 1 count)
+
+  as_many_lists : length is.events ≡ count
+  as_many_lists = sym (as_many report.verdicts is.events read.a_verdict_each)
+      ∙ (read.verdicts_each ∙ (sym read.an_end_each ∙ as_many_ends))
+
+  load_run_is : IsLoadRunOf config count n report
+  load_run_is =
+      let same = scripts_read n short 1 count report.ends is.events (omega (arith, few)) as_many_ends as_many_lists is.read in
+      subst (λ (contents : List (Option (List ℕ))). RunLedger contents (scripts count n) (plan_of config) report) texts
+      (subst (λ (l : List (List Event)). RunLedger (map (content_of as_source) (script_files count n)) l (plan_of config)
+      report) same is.ledger)
+
+  ends_are_whole : AllByRecursion (λ end. end.end ≡ Whole) report.ends
+  ends_are_whole =
+      ends_whole n short 1 count report.ends is.events (omega (arith, few)) as_many_ends as_many_lists is.read
 
 pub as_many_files : (count n : ℕ) (files : List (Given (List ℕ))) → files ≡ script_files count n → length files ≡ count
 as_many_files count n files are =
@@ -125,3 +149,11 @@ load_run_told config count n files (Ok report) few short are is =
     load_run_is config count n report few short
     (subst (λ (l : List (Given (List ℕ))). IsRunOfGiven as_source config l report) are is)
 load_run_told config count n files (Err refused) few short are is = tt
+
+pub load_ends_told : (config : Config) (count n : ℕ) (files : List (Given (List ℕ))) (result : Result Report NoMemory)
+    → count ≤ MAX_SCRIPTS → n ≤ MAX_SCRIPT_EVENTS → files ≡ script_files count n
+    → IfOk result (IsRunOfGiven as_source config files) → IfOk result (λ report. All (λ end. end.end ≡ Whole) report.ends)
+load_ends_told config count n files (Ok report) few short are is =
+    All-from_recursion (λ end. end.end ≡ Whole) report.ends (ends_are_whole config count n report few short
+    (subst (λ (l : List (Given (List ℕ))). IsRunOfGiven as_source config l report) are is))
+load_ends_told config count n files (Err refused) few short are is = tt

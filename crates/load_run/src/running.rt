@@ -1,6 +1,7 @@
 //! A run of scripts, side by side.
-ghost use Rattle.std.specs.Prelude.{◌≡◌, ◌≤◌, IfOk};
+ghost use Rattle.std.specs.Prelude.{◌≡◌, ◌≤◌, All, IfOk};
 ghost use Rattle.stat_defs.specs.Configs.{IsConfig};
+ghost use Rattle.stat_defs.specs.declared.reports.FileEnd.TheVariants.{Whole};
 ghost use Rattle.load_scripts.specs.declared.limits.TheConstants.{MAX_SCRIPTS, MAX_SCRIPT_EVENTS};
 ghost use Rattle.load_run.specs.LoadRun.{IsLoadRunOf};
 ghost use Rattle.load_run.specs.Files.{script_files};
@@ -40,7 +41,8 @@ pub fn run_scripts<R: Threads + Wait + Sync>(
     requires some { 1 ≤ scripts }
     requires scripts { scripts ≤ MAX_SCRIPTS }
     requires events { events ≤ MAX_SCRIPT_EVENTS }
-    ensures { IfOk result (IsLoadRunOf setup.entry.config.now scripts events) }
+    ensures ledger { IfOk result (IsLoadRunOf setup.entry.config.now scripts events) }
+    ensures ends { IfOk result (λ report. All (λ end. end.end ≡ Whole) report.ends) }
 {
     let gate = PaceGate::new(alloc, scripts, setup.config.flush_every)?;
     let files = files_of(alloc, scripts, events)?;

@@ -1,5 +1,5 @@
 //! The worker, and the look-ups of those who keep one.
-ghost use Rattle.std.specs.Prelude.{◌≡◌, ◌<◌, ◌++◌, [], ◌∷◌, true, false, length, IfOk, OnOk, OnErr, slice_get};
+ghost use Rattle.std.specs.Prelude.{◌≡◌, ◌<◌, ◌++◌, [], ◌∷◌, true, false, length, IfOk, OnOk, OnErr, slice_get, All};
 ghost use Rattle.std.specs.Option.{IsSomeAnd};
 ghost use Rattle.stat_defs.specs.Configs.{IsConfig};
 ghost use Rattle.stat_defs.specs.Borrowed.{event_of};
@@ -10,6 +10,7 @@ ghost use Rattle.stat_defs.specs.declared.history.Reply.TheVariants as reply;
 ghost use Rattle.book_state.specs.State.{names_in};
 ghost use Rattle.book_state.specs.Step.{overdue_in};
 ghost use Rattle.book_state.specs.Safe.{SymbolsSafe};
+ghost use Rattle.book_state.specs.Stored.{IsLawfulCall};
 ghost use Rattle.stat_book.specs.Calls.{rules_of, state_of, IsLegal, Logged};
 ghost use Rattle.book_seat.specs.Naming.{NamesOwn};
 ghost use Rattle.lone_worker.specs.Worker.{new_worker, IsFollowed, Decides, IsCutShort};
@@ -166,6 +167,7 @@ impl LoneWorker {
         ensures one_worker { self.now.book.workers ≡ 1 }
         ensures legal { IsLegal self.now.book }
         ensures safe { SymbolsSafe (rules_of self.now.book) 1 self.now.book.log }
+        ensures lawful { All (λ entry. IsLawfulCall entry.call) self.now.book.log }
         ensures each { length self.now.verdicts ≡ length self.now.events }
         ensures followed { self.now.whole ≡ true → IsFollowed self.now }
     {

@@ -1,5 +1,5 @@
 -- What callers see of a store on one thread. This project's own.
-use Rattle.std.specs.Prelude.{◌≡◌, ◌⊎◌, ◌+◌, ℕ, Bool, true, false, List, [], ◌∷◌, ◌++◌, length, All}
+use Rattle.std.specs.Prelude.{◌≡◌, ◌⊎◌, ◌≤◌, ◌+◌, ℕ, Bool, true, false, List, [], ◌∷◌, ◌++◌, length, All}
 use Rattle.stat_defs.specs.declared.configs.Config.{Config}
 use Rattle.stat_defs.specs.declared.events.Event.{Event}
 use Rattle.stat_defs.specs.declared.history.Call.TheVariants as call
@@ -13,8 +13,8 @@ use Rattle.stat_book.specs.Calls.{rules_of, IsLegal, Logged}
 use Rattle.lone_worker.specs.Worker.{WorkerHistory, new_worker, Decides, IsCutShort as IsWorkerCutShort}
 use Rattle.ledger.specs.Work.{Work, units_of}
 use Rattle.ledger.specs.Gauges.{gauge_word}
-use Rattle.ledger.specs.Segments.{left_over}
-use Rattle.ledger.specs.Flushes.{Fits, FitAll, flushed}
+use Rattle.ledger.specs.Segments.{left_over, TakesLess}
+use Rattle.ledger.specs.Flushes.{Fits, FitSoFar, FitAll, flushed}
 
 -- its worker; the events that were counted, each with its verdict: those that its caller was told a verdict of; the
 -- records of its flushes so far; and whether no flush was cut short by want of memory
@@ -54,6 +54,13 @@ pub record Accounts (old : StoreHistory) (log : List Entry) (last : Bool) (flush
   pub fits : Fits (rules_of old.worker.book) log last (left_over 1 old.counted old.flushes ∷ []) flush
   pub units : (id : ℕ) → flushed id (old.flushes ++ flush ∷ []) ≡ units_of id (old.counted ∷ [])
   pub words : All (λ reading. reading.word ≡ gauge_word reading.id.0 old.counted) flush.gauges
+
+-- What the flushes so far show of the events that were counted: each of them fits the log, and no unit and no value is
+-- in two of them. What they do not have waits for a flush.
+pub record AccountsSoFar (store : StoreHistory) : Type 0 where
+  pub fit : FitSoFar (rules_of store.worker.book) store.worker.book.log (store.counted ∷ []) store.flushes
+  pub units : (id : ℕ) → flushed id store.flushes ≤ units_of id (store.counted ∷ [])
+  pub values : TakesLess 1 store.counted store.flushes
 
 -- a flush during the run
 pub record Flushes (old : StoreHistory) (flush : FlushRecord) (new : StoreHistory) : Type 0 where

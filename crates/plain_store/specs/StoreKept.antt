@@ -43,6 +43,7 @@ pub record AreOfWork (store : StoreHistory) (sums : Sums) : Type 0 where
 
 pub record IsKept (p : Inside) : Type 0 where
   pub works : p.worker.ended ≡ false
+  pub decided : p.decided ≡ length p.worker.events
   pub few_events : length p.worker.events ≤ MAX_EVENTS
   pub small : AreSmall (length p.worker.events) p.sums
   -- said of a store none of whose flushes was cut short

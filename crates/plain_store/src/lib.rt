@@ -9,4 +9,5 @@ mod record;
 mod store;
 mod sums;
 
+pub use lone_worker::MAX_EVENTS;
 pub use store::PlainStore;

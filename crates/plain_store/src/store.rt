@@ -1,12 +1,15 @@
 //! The store.
-ghost use Rattle.std.specs.Prelude.{◌≡◌, ◌<◌, ◌++◌, [], ◌∷◌, length, IfOk, OnErr};
+ghost use Rattle.std.specs.Prelude.{◌≡◌, ◌≤◌, ◌<◌, ◌++◌, [], ◌∷◌, true, length, All, IfOk, OnErr};
 ghost use Rattle.stat_defs.specs.Configs.{IsConfig};
 ghost use Rattle.stat_defs.specs.Borrowed.{event_of};
 ghost use Rattle.stat_defs.specs.Events.{IsLawfulEvent};
 ghost use Rattle.stat_defs.specs.declared.events.Event.{Event as TheEvent};
 ghost use Rattle.stat_defs.specs.declared.history.Verdict.{Verdict as TheVerdict};
+ghost use Rattle.book_state.specs.Stored.{IsLawfulCall};
+ghost use Rattle.stat_book.specs.Calls.{IsLegal};
 ghost use Rattle.lone_worker.specs.declared.worker.TheConstants.{MAX_EVENTS};
 ghost use Rattle.plain_store.specs.Store.{new_store, Applied, IsCutShort, Flushes, FlushIsCutShort, Finishes};
+ghost use Rattle.plain_store.specs.Store.{AccountsSoFar};
 
 use crate::account::sum_up;
 use crate::last::finish_parts;
@@ -15,7 +18,7 @@ use crate::sums::Sums;
 use ghost_list::GhostList;
 use lone_worker::LoneWorker;
 use name_map::HashKey;
-use stat_defs::{Config, Event, EventRef, FlushRecord, LastFlush, List, NoMemory, Verdict};
+use stat_defs::{Config, Entry, Event, EventRef, FlushRecord, LastFlush, List, NoMemory, Verdict};
 use std::alloc::Global;
 use std::marker::Model;
 use tag_rules::{Matcher, TagRules};
@@ -26,6 +29,8 @@ use tag_rules::{Matcher, TagRules};
 pub struct PlainStore {
     worker: LoneWorker,
     sums: Sums,
+    // How many events were decided.
+    decided: usize,
     counted: GhostList<(Event, Verdict)>,
     flushes: GhostList<FlushRecord>,
     whole: bool,
@@ -92,6 +97,7 @@ impl PlainStore {
         Ok(PlainStore {
             worker,
             sums,
+            decided: 0,
             counted: GhostList::new(),
             flushes: GhostList::new(),
             whole: true,
@@ -121,6 +127,7 @@ impl PlainStore {
         let decided = self.worker.decide_ref(alloc, event);
         let _log = self.worker.log();
         let verdict = decided?;
+        self.decided += 1;
         let made = self.worker.made();
         sum_up(&mut self.sums, alloc, made, event, verdict)?;
         self.counted = with_counted(&self.counted, event, verdict);
@@ -145,6 +152,26 @@ impl PlainStore {
         Ok(flush)
     }
 
+    /// How many events were decided, of which a store takes `MAX_EVENTS`.
+    pub fn events(&self) -> usize
+        ensures events { result ≡ length self.now.worker.events }
+        ensures few { length self.now.worker.events ≤ MAX_EVENTS }
+    {
+        self.decided
+    }
+
+    /// All calls of the book so far, with their replies, while the store goes on. None of them has changed when it is
+    /// asked again: a log only grows.
+    pub fn log(&self) -> &[Entry]
+        ensures log { result.now ≡ self.now.worker.book.log }
+        ensures one_worker { self.now.worker.book.workers ≡ 1 }
+        ensures legal { IsLegal self.now.worker.book }
+        ensures lawful { All (λ entry. IsLawfulCall entry.call) self.now.worker.book.log }
+        ensures accounts { self.now.whole ≡ true → AccountsSoFar self.now }
+    {
+        self.worker.log()
+    }
+
     /// The end: the seat's, and the last flush, which shows every counter ever made. It gives the log besides.
     pub fn finish(self, alloc: Global) -> Result<LastFlush, NoMemory>
         ensures { IfOk result (λ given. Finishes self given) }
@@ -152,6 +179,7 @@ impl PlainStore {
         let PlainStore {
             worker,
             sums,
+            decided: _,
             counted: _,
             flushes: _,
             whole: _,

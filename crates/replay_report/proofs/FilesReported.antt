@@ -24,7 +24,7 @@ use Rattle.replay_report.specs.Applying.{with_applied, AreApplied}
 use Rattle.replay_report.specs.FileRun.{all_verdicts, report_with, AreRuns}
 use Rattle.replay_report.specs.ReplayReport.{IsReplayOf}
 use Rattle.replay_report.specs.declared.reading.Runs.{Runs}
-use Rattle.replay_report.proofs.OneThread.{history, swept, account, shown}
+use Rattle.replay_report.proofs.AppliedReport.{applied_report}
 
 -- the events of each file
 abbrev pub events_of : List FileRead → List (List Event)
@@ -33,22 +33,6 @@ events_of files = map (λ file. file.events) files
 -- how each file ended
 abbrev pub ends_of : List FileRead → List WorkerEnd
 ends_of files = map (λ file. file.end) files
-
--- the events of work, and its verdicts, are the work
-zipped : (work : Work) → work ≡ zip (events_in work) (verdicts_in work)
-zipped [] = refl
-zipped (told ∷ work) = ap (λ (l : Work). told ∷ l) (zipped work)
-
--- the files one after another are the work of one worker
-as_together : (files : List FileRead) (verdicts : List (List Verdict)) → lengths verdicts ≡ lengths (events_of files)
-    → together (events_of files) verdicts ≡ zip (all_events files) (all_verdicts verdicts) ∷ []
-as_together files verdicts each =
-    let work : Work = flat_map work_of (zip (events_of files) verdicts) in
-    let events : events_in work ≡ all_events files =
-    events_back (events_of files) verdicts each
-    ∙ flat_map-map (λ (es : List Event). es) (λ (file : FileRead). file.events) files in
-    ap (λ (w : Work). w ∷ []) (zipped work ∙ ap (λ (es : List Event). zip es (verdicts_in work)) events
-    ∙ ap (λ (vs : List Verdict). zip (all_events files) vs) (verdicts_back (events_of files) verdicts each))
 
 module _ {F S : Type 0} (shelf : F → ShelfState) (source : S → SourceState) (holds : List ℕ → Option (List ℕ)) where
   -- bytes are counted at a read fault alone
@@ -116,21 +100,11 @@ module _ {F S : Type 0} (shelf : F → ShelfState) (source : S → SourceState) 
           → ReplayLedger (map holds names) (events_of files) (plan_of config)
           (report_with verdicts (ends_of files) given)
       is_ledger config store given applied finishes =
-          let events : List Event = all_events files in
-          let told : List Verdict = all_verdicts verdicts in
-          let ends : List WorkerEnd = ends_of files in
-          let at_end : Finishes (with_applied (new_store config) events told applied.entries) given =
-          subst (λ (s : StoreHistory). Finishes s given) applied.applied finishes in
-          subst
-          (λ (workers : List Work). IsReportOf (map holds names) (events_of files) (last_flush_alone (plan_of config))
-          workers (report_with verdicts ends given))
-          (sym (as_together files verdicts each)) (record {
-            read = read given;
-            history = history config events told applied.entries given at_end verdicts ends applied.a_verdict_each;
-            swept = swept config events told applied.entries given at_end verdicts ends applied.mine;
-            account = account config events told applied.entries given at_end verdicts ends;
-            shown = shown config events told applied.entries given at_end verdicts ends;
-          })
+          let same : flat_map (λ (es : List Event). es) (events_of files) ≡ all_events files =
+          flat_map-map (λ (es : List Event). es) (λ (file : FileRead). file.events) files in
+          applied_report (map holds names) (events_of files) verdicts (ends_of files) given (read given) each config store
+          (subst (λ (es : List Event). AreApplied (new_store config) es (all_verdicts verdicts) store) (sym same) applied)
+          finishes
 
   -- so the files that were read and applied have it
   is_replay : (names : List (List ℕ)) (before after : F) (config : Config) (store : StoreHistory) (runs : Runs)

@@ -4,4 +4,4 @@
 mod reading;
 mod replaying;
 
-pub use replaying::{MAX_FILES, replay_files};
+pub use replaying::{MAX_FILES, replay_files, report_of};

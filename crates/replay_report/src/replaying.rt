@@ -5,10 +5,10 @@ ghost use Rattle.replay_report.specs.declared.replaying.TheConstants as limits;
 ghost use Rattle.replay_report.specs.FileRun.{report_with};
 ghost use Rattle.replay_report.specs.ReplayReport.{IsReplayOf};
 
-use crate::reading::{Runs, read_files};
+use crate::reading::read_files;
 use name_map::HashKey;
 use plain_store::PlainStore;
-use stat_defs::{Config, LastFlush, List, NoMemory, Report};
+use stat_defs::{Config, LastFlush, List, NoMemory, Report, Verdict, WorkerEnd};
 use stats_io::Shelf;
 use std::alloc::Global;
 use tag_rules::{Matcher, TagRules};
@@ -19,11 +19,16 @@ pub const MAX_FILES: usize = 32;
 // The value that operators are told: contracts have it by name.
 const _: () = prove!(MAX_FILES == 32);
 
-// The report of files that were read, whose store gave this last flush: no other flush, and no readings.
-fn report_of(alloc: Global, runs: Runs, given: LastFlush) -> Result<Report, NoMemory>
-    ensures { IfOk result (λ report. report ≡ report_with runs.verdicts.items runs.ends.items given) }
+/// The report of events with these verdicts, a list each of files or of scripts that ended so, whose store gave this last
+/// flush: it has no other flush, and no readings.
+pub fn report_of(
+    alloc: Global,
+    verdicts: Vec<List<Verdict>>,
+    ends: Vec<WorkerEnd>,
+    given: LastFlush,
+) -> Result<Report, NoMemory>
+    ensures { IfOk result (λ report. report ≡ report_with verdicts.items ends.items given) }
 {
-    let Runs { verdicts, ends } = runs;
     let LastFlush { last, log } = given;
     let mut flushes = Vec::new(alloc);
     flushes.push(last)?;
@@ -59,7 +64,7 @@ pub fn replay_files<F: Shelf>(
     match read_files(alloc, shelf, names, &mut store) {
         Ok(runs) => {
             let given = store.finish(alloc)?;
-            report_of(alloc, runs, given)
+            report_of(alloc, runs.verdicts, runs.ends, given)
         }
         Err(fault) => {
             drop(store);

@@ -19,6 +19,12 @@ use std::alloc::Global;
 use std::sync::Wait;
 use store_parts::Store;
 
+// A list of verdicts begins with room for so many: 128 kB, which the allocator maps apart and moves as it grows, so that no
+// outgrown lists stay behind in a worker's heap. Pages that are not written take no memory.
+const FIRST_VERDICTS: usize = 16_384;
+
+const _: () = prove!(FIRST_VERDICTS == 16_384);
+
 // Where a worker works: the runtime that may wait, the gate before each event, the store, and the worker's number.
 #[derive(Drop)]
 struct Desk<'a, R: Wait, G: Gate> {
@@ -70,7 +76,7 @@ fn read_source<R: Wait, G: Gate, S: Source + Drop>(
         IsAtWork desk.now.store.now desk.now.number read.verdicts.items recorder.new) }
 {
     let faults_before = source.fault_count();
-    let mut verdicts = Vec::new(desk.alloc);
+    let mut verdicts = Vec::with_capacity(desk.alloc, FIRST_VERDICTS)?;
     let mut lines = Lines::new(desk.alloc, source)?;
     loop {
         let step = lines.next_ref(desk.alloc)?;

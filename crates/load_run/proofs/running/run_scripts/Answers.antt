@@ -1,5 +1,5 @@
 use Rattle.std.proofs.Common.{arith}
-use Rattle.load_run.proofs.ScriptsRead.{as_many_files, load_run_told}
+use Rattle.load_run.proofs.ScriptsRead.{as_many_files, load_run_told, load_ends_told}
 use Rattle.load_run.proofs.running.run_scripts.Goals as goal
 
 pub run_files-requires-clause-files : goal.run_files-requires-clause-files
@@ -9,7 +9,12 @@ run_files-requires-clause-files g c κs within =
     let few = c.requires.scripts in
     (omega (arith, many, some), omega (arith, many, few))
 
-pub returns : goal.returns
-returns g c =
+pub returns-clause-ledger : goal.returns-clause-ledger
+returns-clause-ledger g c =
     load_run_told c.args.setup.config.now c.args.scripts c.args.events c.in_ok-files.files.items c.run_files.result
+    c.requires.scripts c.requires.events c.in_ok-files.ensures c.run_files.ensures
+
+pub returns-clause-ends : goal.returns-clause-ends
+returns-clause-ends g c =
+    load_ends_told c.args.setup.config.now c.args.scripts c.args.events c.in_ok-files.files.items c.run_files.result
     c.requires.scripts c.requires.events c.in_ok-files.ensures c.run_files.ensures

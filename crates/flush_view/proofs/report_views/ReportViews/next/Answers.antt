@@ -5,11 +5,11 @@ use Rattle.stat_defs.specs.declared.reports.FlushRecord.{FlushRecord}
 use Rattle.stat_defs.specs.declared.views.FlushView.{FlushView}
 use Rattle.book_state.proofs.Lists.{get_read}
 use Rattle.tag_rules.specs.Bounds.{bounds_for}
-use Rattle.flush_view.specs.Kept.{ordered_metrics, kept_of}
+use Rattle.flush_view.specs.Kept.{metrics_made, ordered_metrics, kept_of}
 use Rattle.flush_view.specs.Rows.{view_kept}
 use Rattle.flush_view.specs.Showing.{ViewHistory, view_in_turn}
 use Rattle.flush_view.specs.Views.{NumberedMetric}
-use Rattle.flush_view.proofs.Following.{room_alone, room_beside}
+use Rattle.flush_view.proofs.Following.{countable, room_alone, room_beside}
 use Rattle.flush_view.proofs.Ready.{ordered_texts, before_there, before_is, ready_next, view_shown}
 use Rattle.flush_view.proofs.report_views.ReportViews.next.Goals as goal
 
@@ -19,9 +19,9 @@ follow-requires c =
     let ready = c.self.invariant.ready (ap (λ (h : ViewHistory). h.whole) c.self.view_is ∙ c.requires.whole) in
     let look = c.in-Some.ensures.lookup in
     let at = get_read c.items.result.now v.given c.in-Some.flush.now look.3.0 look.1 in
-    room_beside v.config.now v.report.now ready.showable v.given c.in-Some.flush.now
+    room_beside v.report.now.flushes (countable v.config.now v.report.now ready.showable) v.given c.in-Some.flush.now
     (ap (λ (l : List FlushRecord). slice_get l v.given) (sym c.items.ensures)
-    ∙ at) v.progress.cumulative.items ready.followed.slots ready.followed.bins
+    ∙ at) (metrics_made v.config.now v.report.now) v.progress.cumulative.items ready.followed.slots ready.followed.bins
 
 pub view-requires-clause-texts : goal.view-requires-clause-texts
 view-requires-clause-texts c =
@@ -39,7 +39,7 @@ view-requires-clause-room c =
     let ready = c.self.invariant.ready (ap (λ (h : ViewHistory). h.whole) c.self.view_is ∙ c.requires.whole) in
     let look = c.in-Some.ensures.lookup in
     let at = get_read c.items.result.now v.given c.in-Some.flush.now look.3.0 look.1 in
-    room_alone v.config.now v.report.now ready.showable v.given c.in-Some.flush.now
+    room_alone v.report.now.flushes (countable v.config.now v.report.now ready.showable) v.given c.in-Some.flush.now
     (ap (λ (l : List FlushRecord). slice_get l v.given) (sym c.items.ensures) ∙ at) (length c.deref.result.now)
 
 pub invariant_of-self-2 : goal.invariant_of-self-2

@@ -1,6 +1,8 @@
-use Rattle.std.proofs.Common.{◌≡◌, true, length, ap, sym, ◌∙◌, subst}
+use Rattle.std.proofs.Common.{◌≡◌, true, length, All, ap, sym, ◌∙◌, subst}
 use Rattle.stat_defs.specs.Books.{BookHistory}
+use Rattle.stat_defs.specs.declared.history.Entry.{Entry}
 use Rattle.book_state.specs.Safe.{SymbolsSafe}
+use Rattle.book_state.specs.Stored.{IsLawfulCall}
 use Rattle.stat_book.specs.Calls.{rules_of, IsLegal}
 use Rattle.lone_worker.specs.Worker.{WorkerHistory, IsFollowed}
 use Rattle.lone_worker.proofs.worker.LoneWorker.log.Goals as goal
@@ -20,6 +22,11 @@ returns-clause-safe c =
     subst (λ (v : WorkerHistory). SymbolsSafe (rules_of v.book) 1 v.book.log) c.self.view_is
     (subst (λ n. SymbolsSafe (rules_of b) n b.log) c.self.invariant.one_worker
     (subst (λ (h : BookHistory). SymbolsSafe (rules_of h) h.workers h.log) c.book.ensures c.log.ensures.safe))
+
+pub returns-clause-lawful : goal.returns-clause-lawful
+returns-clause-lawful c =
+    subst (λ (v : WorkerHistory). All (λ (entry : Entry). IsLawfulCall entry.call) v.book.log) c.self.view_is
+    (subst (λ (h : BookHistory). All (λ (entry : Entry). IsLawfulCall entry.call) h.log) c.book.ensures c.log.ensures.lawful)
 
 pub returns-clause-each : goal.returns-clause-each
 returns-clause-each c = subst (λ (v : WorkerHistory). length v.verdicts ≡ length v.events) c.self.view_is c.self.invariant.a_verdict_each

@@ -43,6 +43,7 @@ invariant_of-self c =
     let events = ap (λ (w : WorkerHistory). length w.events) err.cut in
     record {
       works = ap (λ (w : WorkerHistory). w.ended) err.cut ∙ c.self.invariant.works;
+      decided = (let decided = c.self.invariant.decided in omega (arith, decided, events));
       few_events = (let few = c.self.invariant.few_events in omega (arith, few, events));
       small = record {
         deltas = λ id. (let small = c.self.invariant.small.deltas id in omega (arith, small, events));
@@ -60,6 +61,7 @@ invariant_of-self-in_err-sum_up c =
     let half = c.in_err-sum_up.ensures.half in
     record {
       works = ap (λ (w : WorkerHistory). w.ended) decided.decided ∙ c.self.invariant.works;
+      decided = (let decided = c.self.invariant.decided in omega (arith, decided, events));
       few_events = (let few : length p.worker.events < MAX_EVENTS = subst (λ (s : StoreHistory). length s.worker.events < MAX_EVENTS) (sym c.self.view_is) c.requires.few in omega (arith, few, events));
       small = record {
         deltas = λ id. (let small = c.self.invariant.small.deltas id in let more = c.in_err-sum_up.ensures.units id in omega (arith, small, more, events));
@@ -78,6 +80,7 @@ invariant_of-self-2 c =
     let half = c.in_ok-sum_up.ensures.half in
     record {
       works = ap (λ (w : WorkerHistory). w.ended) decided.decided ∙ c.self.invariant.works;
+      decided = (let decided = c.self.invariant.decided in omega (arith, decided, events));
       few_events = (let few : length p.worker.events < MAX_EVENTS = subst (λ (s : StoreHistory). length s.worker.events < MAX_EVENTS) (sym c.self.view_is) c.requires.few in omega (arith, few, events));
       small = record {
         deltas = λ id. (let small = c.self.invariant.small.deltas id in let more = c.in_ok-sum_up.ensures.units id in omega (arith, small, more, events));

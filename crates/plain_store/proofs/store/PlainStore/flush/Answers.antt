@@ -29,6 +29,7 @@ invariant_of-self c =
     let events = ap (λ (w : WorkerHistory). length w.events) same in
     record {
       works = ap (λ (w : WorkerHistory). w.ended) same ∙ c.self.invariant.works;
+      decided = (let decided = c.self.invariant.decided in omega (arith, decided, events));
       few_events = (let few = c.self.invariant.few_events in omega (arith, few, events));
       small = record {
         deltas = λ id. (let small = c.self.invariant.small.deltas id in omega (arith, small, events));
@@ -44,6 +45,7 @@ invariant_of-self-in_err-flush c =
     let values = c.in_err-flush.ensures.values in
     record {
       works = ap (λ (w : WorkerHistory). w.ended) rest ∙ c.self.invariant.works;
+      decided = (let decided = c.self.invariant.decided in omega (arith, decided, events));
       few_events = (let few = c.self.invariant.few_events in omega (arith, few, events));
       small = record {
         deltas = λ id. (let small = c.self.invariant.small.deltas id in let less = c.in_err-flush.ensures.deltas id in omega (arith, small, less, events));
@@ -68,6 +70,7 @@ invariant_of-self-2 c =
     (kind_shown Counter old new n logged list are) (kind_shown Gauge old new n logged list are) c.in_ok-flush.ensures.shows in
     record {
       works = ap (λ (w : WorkerHistory). w.ended) rest ∙ c.self.invariant.works;
+      decided = (let decided = c.self.invariant.decided in omega (arith, decided, events));
       few_events = (let few = c.self.invariant.few_events in omega (arith, few, events));
       small = record {
         deltas = λ id. (let small = c.self.invariant.small.deltas id in let less = c.in_ok-flush.ensures.deltas id in omega (arith, small, less, events));

@@ -13,6 +13,7 @@ invariant_of-result c =
     let is = c.in_ok-worker.ensures in let sums = c.new-sums.result in let nothing = c.new-sums.ensures in
     record {
       works = ap (λ (w : WorkerHistory). w.ended) is;
+      decided = (let none = ap (λ (w : WorkerHistory). length w.events) is in omega (arith, none));
       few_events = (let none = ap (λ (w : WorkerHistory). length w.events) is in omega (arith, none));
       small = record {
         deltas = λ id. (let none = nothing.deltas id in omega (arith, none));

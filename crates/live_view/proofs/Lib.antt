@@ -1,0 +1,3 @@
+pub mod Shown
+mod Copied
+mod Showing

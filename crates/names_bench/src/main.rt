@@ -1,0 +1,67 @@
+//! The changes of names under a lock: one `leave` that publishes as many as a store may make, readings of all of them, and
+//! readings that find no new one. Without words it makes each once and prints counts; with any word it repeats the
+//! readings and prints times.
+#![tactic(auto)]
+
+mod counts;
+mod filling;
+
+use filling::{fill, new_lock, read_all, read_none};
+use stat_defs::NoMemory;
+use std::alloc::Global;
+use std::io::Print;
+use std::sync::Wait;
+use std::time::{Clock, Instant};
+use std::{env, io};
+
+/// How many changes are published: the most that a lock takes.
+const CHANGES: u32 = 131_072;
+
+/// How often all of them are read where times are told.
+const READINGS: u32 = 1_000;
+
+/// How often no new one is found.
+const EMPTY_READINGS: u32 = 100_000_000;
+
+fn no_memory(_: NoMemory) -> io::Error {
+    io::Error::from(io::ErrorKind::OutOfMemory)
+}
+
+fn main(rt: HostRuntime) -> io::Result<()> {
+    let mut args = env::args(&rt)?;
+    args.next();
+    if args.next().is_some() {
+        return time(&rt, rt.alloc());
+    }
+    count(&rt, rt.alloc())
+}
+
+fn count<R: Print + Wait>(rt: &R, alloc: Global) -> io::Result<()> {
+    let (lock, mut seats) = new_lock(alloc, CHANGES).map_err(no_memory)?;
+    let Some(mut seat) = seats.pop() else {
+        return Ok(());
+    };
+    fill(rt, &lock, &mut seat, CHANGES);
+    let read = read_all(alloc, &lock, &mut seat, 1).map_err(no_memory)?;
+    let none = read_none(alloc, &lock, &mut seat, 1).map_err(no_memory)?;
+    println!(rt; "changes left {CHANGES}, read {read}, read again {none}")
+}
+
+fn time<R: Print + Clock + Wait>(rt: &R, alloc: Global) -> io::Result<()> {
+    let (lock, mut seats) = new_lock(alloc, CHANGES).map_err(no_memory)?;
+    let Some(mut seat) = seats.pop() else {
+        return Ok(());
+    };
+    let start = Instant::now(rt)?;
+    fill(rt, &lock, &mut seat, CHANGES);
+    let left = start.elapsed(rt)?.as_nanos();
+    let start = Instant::now(rt)?;
+    let read = read_all(alloc, &lock, &mut seat, READINGS).map_err(no_memory)?;
+    let all = start.elapsed(rt)?.as_nanos();
+    let start = Instant::now(rt)?;
+    let none = read_none(alloc, &lock, &mut seat, EMPTY_READINGS).map_err(no_memory)?;
+    let empty = start.elapsed(rt)?.as_nanos();
+    println!(rt; "leave with {CHANGES} changes: {left} ns")?;
+    println!(rt; "{READINGS} readings of all: {all} ns, {read} changes")?;
+    println!(rt; "{EMPTY_READINGS} readings of none: {empty} ns, {none} changes")
+}
