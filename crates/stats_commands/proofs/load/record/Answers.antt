@@ -5,4 +5,4 @@ pub returns : goal.returns
 returns c =
     load_applies c.args.asked.scripts c.args.asked.events
     (record { report = c.in_ok-report.report; config = c.args.boot.config; rules = c.args.boot.view_rules; buckets = c.args.boot.buckets })
-    c.args.asked.few_scripts c.requires.lawful c.requires.view_rules c.requires.buckets c.in_ok-report.ensures
+    c.args.asked.few_scripts c.requires.lawful c.requires.view_rules c.requires.buckets c.in_ok-report.ensures.ledger
