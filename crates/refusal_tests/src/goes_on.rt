@@ -80,6 +80,9 @@ const VERDICTS: [Verdict; 10] = [
 // find that the same event would make again.
 const ENTRIES: u64 = 10;
 
+// The text's find, the entry before the last one, made the newest name.
+const NEWEST_NAME: u64 = 9;
+
 const FINDS: usize = 4;
 
 // The word of the one counter.
@@ -126,7 +129,7 @@ fn goes_on_after_a_refusal(rt: HostRuntime) -> Result<(), Fail> {
     };
     let end = closed(&rt, alloc, parties)?;
     assert!(rt; told.verdicts == VERDICTS);
-    assert!(rt; told.reading.at == ENTRIES && word_in(&told.reading) == 7);
+    assert!(rt; told.reading.at == NEWEST_NAME && word_in(&told.reading) == 7);
     assert!(rt; told.flush.at == ENTRIES && sums_in(&told.flush) == (7, 1));
     // Behind the flush's sweep the worker's end.
     assert!(rt; end.last.at == ENTRIES + 2 && sums_in(&end.last) == (8, 1));
