@@ -11,19 +11,13 @@ ghost use Rattle.worker_run.specs.Working.{IsFileRead, IsAtWork, IsWorked};
 use crate::given::{Given, Job, Worked};
 use event_script::Lines;
 use file_reading::{end_of, event_or_end, not_opened};
-use recorder::{Recorder, work_one};
+use recorder::{MAX_GIVEN, Recorder, work_one};
 use run_gates::Gate;
 use stat_defs::{EventRef, NoMemory, Verdict, WorkerEnd};
 use stats_io::Source;
 use std::alloc::Global;
 use std::sync::Wait;
 use store_parts::Store;
-
-// A list of verdicts begins with room for so many: 128 kB, which the allocator maps apart and moves as it grows, so that no
-// outgrown lists stay behind in a worker's heap. Pages that are not written take no memory.
-const FIRST_VERDICTS: usize = 16_384;
-
-const _: () = prove!(FIRST_VERDICTS == 16_384);
 
 // Where a worker works: the runtime that may wait, the gate before each event, the store, and the worker's number.
 #[derive(Drop)]
@@ -76,7 +70,9 @@ fn read_source<R: Wait, G: Gate, S: Source + Drop>(
         IsAtWork desk.now.store.now desk.now.number read.verdicts.items recorder.new) }
 {
     let faults_before = source.fault_count();
-    let mut verdicts = Vec::with_capacity(desk.alloc, FIRST_VERDICTS)?;
+    // Room for as many as a file may have events: a list that grew would leave outgrown ones in the worker's heap. Pages that are
+    // not written take no memory.
+    let mut verdicts = Vec::with_capacity(desk.alloc, MAX_GIVEN as usize)?;
     let mut lines = Lines::new(desk.alloc, source)?;
     loop {
         let step = lines.next_ref(desk.alloc)?;
