@@ -19,8 +19,8 @@ use Rattle.stat_defs.specs.Changes.{at_of, id_of, GoesOnLater}
 use Rattle.book_lock.specs.declared.view.LockPart.{LockPart}
 use Rattle.book_lock.specs.declared.view.LockStep.{LockStep}
 use Rattle.book_lock.specs.Naming.{words_of, Stands, AreNames, NamesStand, KnowsNames, FindsNames, MayCount}
-use Rattle.seat_history.specs.History.{GoesOn, Finds, MayLeave, past, entries_by, with_log}
-use Rattle.book_lock.specs.History.{Tells, with_step, took, missed, stored_word, names_counted, published, gave, counted, told, read_word}
+use Rattle.seat_history.specs.History.{GoesOn, SeatHistory, Finds, MayLeave, past, entries_by, left_log, with_log}
+use Rattle.book_lock.specs.History.{Tells, with_step, took, missed, stored_word, names_counted, logged, releases_stored, gave, counted, told, read_word}
 use Rattle.book_lock.specs.Locked.{View, Sat, bit, numbered, holding, FitsLock, Locked, blank_part, own_part, Taken, WordStored, Counted, Published, Given, Loaded, CountLoaded, WordLoaded}
 use Rattle.seat_history.proofs.Logs.{goes-on-not, goes-on-same, goes-on-far, past-goes-on, past-longer, longer-than, by-append, by-own, by-others, releases-rise}
 use Rattle.book_lock.proofs.Standing.{words-append, words-length, stands-same, stands-below, stands-more, later-not, later-same, later-far, later-by, names-more, stand-beside, stand-before, word-known, within-more}
@@ -34,10 +34,10 @@ one-of x h n = grind arith
 whole-history : (h first : BookHistory) (log : List Entry) → h.config ≡ first.config → h.workers ≡ first.workers → h.log ≡ log → h ≡ with_log log first
 whole-history h first log c w l = λ i. record { config = c i; workers = w i; log = l i }
 
-abbrev viewed : {B : Type 0} → List LockPart → List (ℕ × Option B) → Sat B
+abbrev pub viewed : {B : Type 0} → List LockPart → List (ℕ × Option B) → Sat B
 viewed ps c = (record { parts = ps }, c)
 
-abbrev at-view : {B : Type 0} → View → List (ℕ × Option B) → Sat B
+abbrev pub at-view : {B : Type 0} → View → List (ℕ × Option B) → Sat B
 at-view v c = (v, c)
 
 changed-twice : (f g : LockPart → LockPart) (ps : List LockPart) → first_changed f (first_changed g ps) ≡ first_changed (λ p. f (g p)) ps
@@ -92,6 +92,9 @@ module _ {B : Type 0} (history_of : B → BookHistory) (changes_of : B → List 
   fits-words : (log : List Entry) (changes : List NameOp) (words words' : List ℕ) (x : LockPart) → ((k : ℕ) → 17 ≤ k → get_or words' k 0 ≡ get_or words k 0) → F log changes words x → F log changes words' x
   fits-words log changes words words' x same f = record { number = f.number; history = f.history; current = f.current; names = knows-words room words words' changes x same f.names }
 
+  fits-resting : (log : List Entry) (changes changes' : List NameOp) (words words' : List ℕ) (x : LockPart) → holding x ≡ 0 → GoesOnLater x.names changes' → F log changes words x → F log changes' words' x
+  fits-resting log changes changes' words words' x rests known f = record { number = f.number; history = f.history; current = f.current; names = knows-resting room words words' changes changes' x rests known f.names }
+
   module _ (s : St) (r : L s) where
     -- the seat id, whose part p becomes q, makes a step
     placed : (i y id : ℕ) (p q : LockPart) (c : List (ℕ × Option B)) (a : Act (Option B)) (log : List Entry) (changes : List NameOp) → get_elem? s.views id ≡ some (led_by p [])
@@ -102,7 +105,7 @@ module _ {B : Type 0} (history_of : B → BookHistory) (changes_of : B → List 
         → length (homes_after s.homes c a) ≡ 1
         → (get_or (set s.words i y) 0 0 ≡ 0 → (book : B) × (get_elem? (homes_after s.homes c a) 0 ≡ some (some (Some book))) × (history_of book ≡ with_log log first) × (changes_of book ≡ changes))
         → (get_or (set s.words i y) 0 0 ≡ 0 → All (λ c'. at_of c' ≤ length log) changes)
-        → ((x : LockPart) → F r.log r.changes s.words x → x.seat.number ≢ p.seat.number → holding q + holding x ≤ 1 → F log changes (set s.words i y) x)
+        → ((x : LockPart) → F r.log r.changes s.words x → x.seat.number ≢ p.seat.number → holding p + holding x ≤ 1 → F log changes (set s.words i y) x)
         → F log changes (set s.words i y) q
         → L (stepped s i y id c (led_by q []) a)
     placed i y id p q c a log changes at number grows turn small released names slots home within up fits =
@@ -128,7 +131,7 @@ module _ {B : Type 0} (history_of : B → BookHistory) (changes_of : B → List 
           each = step-beside (F r.log r.changes s.words) (F log changes (set s.words i y)) s.views id p q [] at
               (λ x fx le. up x fx
               (bit-other x.seat.number p.seat.number (let a = le (numbered p.seat.number) in let b = few p.seat.number in let o = same p.seat.number in let w = ap bit (eq-eqb p.seat.number p.seat.number refl) in omega arith))
-              (let a = le holding in omega arith)) r.each fits;
+              (let a = le holding in let o = r.one in omega arith)) r.each fits;
         }
 
     own : (id : ℕ) (p : LockPart) → get_elem? s.views id ≡ some (led_by p []) → F r.log r.changes s.words p
@@ -262,7 +265,7 @@ module _ {B : Type 0} (history_of : B → BookHistory) (changes_of : B → List 
         r.slots
         (λ e. r.home (sym (other 0 (omega arith)) ∙ e))
         (λ e. r.within (sym (other 0 (omega arith)) ∙ e))
-        (λ x f ne le'. record { number = f.number; history = f.history; current = f.current; names = knows-resting room s.words words' r.changes r.changes x (omega arith) f.names.known f.names })
+        (λ x f ne le'. fits-resting r.log r.changes r.changes s.words words' x (omega arith) f.names.known f)
         (record {
           number = o.number;
           history = record { made_with = h.made_with; known = h.known; made = h.made; seen = h.seen; fewest = h.fewest };
@@ -304,7 +307,7 @@ module _ {B : Type 0} (history_of : B → BookHistory) (changes_of : B → List 
         r.slots
         (λ e. absurd (let a = other 0 (omega arith) in omega arith))
         (λ e. absurd (let a = other 0 (omega arith) in omega arith))
-        (λ x f ne le'. record { number = f.number; history = f.history; current = f.current; names = knows-resting room s.words words' r.changes names x (omega arith) (later-far x.names r.changes names more is late f.names.known) f.names })
+        (λ x f ne le'. fits-resting r.log r.changes names s.words words' x (omega arith) (later-far x.names r.changes names more is late f.names.known) f)
         (record {
           number = o.number;
           history = record { made_with = h.made_with; known = h.known; made = h.made; seen = h.seen; fewest = h.fewest };
@@ -338,56 +341,67 @@ module _ {B : Type 0} (history_of : B → BookHistory) (changes_of : B → List 
           names = knows-words room s.words words' r.changes x same f.names;
         }
 
+    -- to the holder it goes on from the log so far, and is its own
+    goes-on-left : (id : ℕ) (p : LockPart) (h : BookHistory) → get_elem? s.views id ≡ some (led_by p []) → p.holds ≡ true → MayLeave p.seat h → GoesOn (λ e. e.seat ≡ p.seat.number) r.log h.log
+    goes-on-left id p h at holds may = (may.log.0, may.log.1 ∙ ap (λ xs. xs ++ may.log.0) ((own id p at).current holds), may.log.2)
+
+    left-history : (id : ℕ) (p : LockPart) (h : BookHistory) → get_elem? s.views id ≡ some (led_by p []) → p.holds ≡ true → MayLeave p.seat h → SeatHistory first h.log (left_log h.log p.seat)
+    unfolding goes-on-left
+    left-history id p h at holds may = let log : List Entry = h.log in let known = (own id p at).history in let g = goes-on-left id p h at holds may in let more = g.0 in record {
+      made_with = known.made_with;
+      known = goes-on-not (λ e. e.seat ≢ p.seat.number) log;
+      made = ap (entries_by p.seat.number) (past-longer first.log r.log log more (longer-than first.log r.log r.origin.0 r.origin.1) g.1)
+          ∙ (by-append p.seat.number (past first.log r.log) more ∙ (ap (λ xs. xs ++ entries_by p.seat.number more) known.made
+          ∙ (ap (λ ys. p.seat.made ++ ys) (by-own p.seat.number more g.2) ∙ ap (λ ys. p.seat.made ++ ys) (sym (past-goes-on p.seat.known log more may.log.1)))));
+      seen = le_refl _;
+      fewest = le_refl _;
+    }
+
     publishes : (id : ℕ) (p : LockPart) (book : B) → get_elem? s.views id ≡ some (led_by p []) → p.holds ≡ true → MayLeave p.seat (history_of book)
-        → L (stepped s 8 (releases_in (history_of book).log) id ((0, Some book) ∷ []) (led_by (published (history_of book).log p) []) keeps)
-    publishes id p book at holds may = let log : List Entry = (history_of book).log in let y : ℕ = releases_in log in let o = own id p at in let h = o.history in
+        → L (stepped s 8 (releases_in (history_of book).log) id ((0, Some book) ∷ []) (led_by (releases_stored (history_of book).log p) []) keeps)
+    publishes id p book at holds may = let log : List Entry = (history_of book).log in let y : ℕ = releases_in log in let o = own id p at in
         let w = r.words in let le = held-le id p at in let b = ap bit holds in let one-at-most = r.one in let t = r.turn in
-        let more = may.log.0 in let all = may.log.2 in
-        let is : log ≡ r.log ++ more = may.log.1 ∙ ap (λ xs. xs ++ more) (o.current holds) in
+        let g = goes-on-left id p (history_of book) at holds may in let h = left-history id p (history_of book) at holds may in
         let other : get_or (set s.words 8 y) 0 0 ≡ get_or s.words 0 0 = get_or-set_other s.words 8 0 y 0 (λ e. omega arith) in
         let same = below s.words 8 y (omega arith) in let k = knows-words room s.words (set s.words 8 y) r.changes p same o.names in
         let number = o.number in
-        placed 8 y id p (published log p) ((0, Some book) ∷ []) keeps log r.changes at refl
-        (more, is, All-weaker (λ e. e.seat ≡ p.seat.number) (λ e. e.seat < seats) (λ e own-of. omega arith) more all)
+        placed 8 y id p (releases_stored log p) ((0, Some book) ∷ []) keeps log r.changes at refl
+        (g.0, g.1, All-weaker (λ e. e.seat ≡ p.seat.number) (λ e. e.seat < seats) (λ e own-of. omega arith) g.0 g.2)
         (omega arith) (omega arith)
         (get_or-set_same s.words 8 y 0 (omega arith))
         (stand-beside room s.words 8 y r.changes r.names (omega arith))
         r.slots
         (λ e. absurd (omega arith))
         (λ e. absurd (omega arith))
-        (λ x f ne le'. others-keep p x log more (set s.words 8 y) same is all f ne (omega arith))
+        (λ x f ne le'. others-keep p x log g.0 (set s.words 8 y) same g.1 g.2 f ne (omega arith))
         (record {
-          number = o.number;
-          history = record {
-            made_with = h.made_with;
-            known = goes-on-not (λ e. e.seat ≢ p.seat.number) log;
-            made = ap (entries_by p.seat.number) (past-longer first.log r.log log more (longer-than first.log r.log r.origin.0 r.origin.1) is)
-                ∙ (by-append p.seat.number (past first.log r.log) more ∙ (ap (λ xs. xs ++ entries_by p.seat.number more) h.made
-                ∙ (ap (λ ys. p.seat.made ++ ys) (by-own p.seat.number more all) ∙ ap (λ ys. p.seat.made ++ ys) (sym (past-goes-on p.seat.known log more may.log.1)))));
-            seen = le_refl _;
-            fewest = le_refl _;
-          };
+          number = number;
+          history = h;
           current = λ _. refl;
           names = record { sized = k.sized; known = k.known; holder = λ t'. let u = k.holder t' in record { current = u.current; stored = u.stored; within = u.within } };
         })
 
-    gives-back : (id : ℕ) (p : LockPart) (book : B) → get_elem? s.views id ≡ some (led_by p []) → p.holds ≡ true → (history_of book).log ≡ p.seat.known → (history_of book).config ≡ p.seat.config → (history_of book).workers ≡ p.seat.workers → changes_of book ≡ p.names → p.reach ≤ length p.seat.known
-        → L (stepped s 0 0 id ((0, Some book) ∷ []) (led_by (gave p) []) gives)
-    gives-back id p book at holds is config workers named reach = let o = own id p at in let h = o.history in let w = r.words in let le = held-le id p at in let b = ap bit holds in let one-at-most = r.one in let t = r.turn in let sl = r.slots in
-        let u = o.names.holder holds in let as-long = ap length (o.current holds) in
+    -- the book comes home, with as many releases as the log has so far
+    gives-back : (id : ℕ) (p : LockPart) (book : B) → get_elem? s.views id ≡ some (led_by p []) → p.holds ≡ true → MayLeave p.seat (history_of book) → releases_in (history_of book).log ≡ releases_in p.seat.known → changes_of book ≡ p.names → p.reach ≤ length (history_of book).log
+        → L (stepped s 0 0 id ((0, Some book) ∷ []) (led_by (gave (logged (history_of book).log p)) []) gives)
+    gives-back id p book at holds may as-many named reach = let log : List Entry = (history_of book).log in let o = own id p at in let w = r.words in let le = held-le id p at in let b = ap bit holds in let one-at-most = r.one in let t = r.turn in let sl = r.slots in
+        let g = goes-on-left id p (history_of book) at holds may in let h = left-history id p (history_of book) at holds may in
+        let u = o.names.holder holds in let number = o.number in let m = o.history.made_with in
         let zero-there : get_or (set s.words 0 0) 0 0 ≡ 0 = get_or-set_same s.words 0 0 0 (omega arith) in
-        let as-first : history_of book ≡ with_log r.log first = whole-history (history_of book) first r.log (config ∙ ap (λ (z : BookHistory). z.config) h.made_with) (workers ∙ ap (λ (z : BookHistory). z.workers) h.made_with) (is ∙ o.current holds) in
-        placed 0 0 id p (gave p) ((0, Some book) ∷ []) gives r.log r.changes at refl (goes-on-not (λ e. e.seat < seats) r.log)
+        let same = below s.words 0 0 (omega arith) in
+        let as-first : history_of book ≡ with_log log first = whole-history (history_of book) first log (may.config ∙ ap (λ (z : BookHistory). z.config) m) (may.workers ∙ ap (λ (z : BookHistory). z.workers) m) refl in
+        placed 0 0 id p (gave (logged log p)) ((0, Some book) ∷ []) gives log r.changes at refl
+        (g.0, g.1, All-weaker (λ e. e.seat ≡ p.seat.number) (λ e. e.seat < seats) (λ e own-of. omega arith) g.0 g.2)
         (omega arith) (omega arith)
-        (get_or-set_other s.words 0 8 0 0 (λ e. omega arith) ∙ r.released)
+        (get_or-set_other s.words 0 8 0 0 (λ e. omega arith) ∙ (r.released ∙ sym (as-many ∙ ap releases_in (o.current holds))))
         (stand-beside room s.words 0 0 r.changes r.names (omega arith))
         (length-set s.homes 0 (some (Some book)) ∙ r.slots)
         (λ _. (book, set_here s.homes 0 (some (Some book)) (omega arith), as-first, named ∙ u.current))
-        (λ _. All-weaker (λ c. at_of c ≤ p.reach) (λ c. at_of c ≤ length r.log) (λ c le'. omega arith) r.changes u.within)
-        (λ x f _ _. fits-words r.log r.changes s.words (set s.words 0 0) x (below s.words 0 0 (omega arith)) f)
+        (λ _. All-weaker (λ c. at_of c ≤ p.reach) (λ c. at_of c ≤ length log) (λ c le'. omega arith) r.changes u.within)
+        (λ x f ne le'. others-keep p x log g.0 (set s.words 0 0) same g.1 g.2 f ne (omega arith))
         (record {
-          number = o.number;
-          history = record { made_with = h.made_with; known = h.known; made = h.made; seen = h.seen; fewest = h.fewest };
+          number = number;
+          history = h;
           current = λ e. absurd (true≢false (sym e));
           names = record { sized = o.names.sized; known = o.names.known; holder = λ e. absurd (true≢false (sym e)) };
         })
@@ -473,21 +487,20 @@ module _ {B : Type 0} (history_of : B → BookHistory) (changes_of : B → List 
     allows-publish m book alone out holds may n count = let p = own_part m.0 in let c : List (ℕ × Option B) = (0, Some book) ∷ [] in
         subst (λ (z : Sat B). Allows L slots id z 8 (λ _. n) (λ _. Published history_of (step slots 8 n 0 none) z n)) (sym (alone-as m c alone out))
         (λ s r _ at _. (
-          led_by (published (history_of book).log p) [],
+          led_by (releases_stored (history_of book).log p) [],
           keeps,
           tt,
-          subst (λ k. L (stepped s 8 k id c (led_by (published (history_of book).log p) []) keeps)) (sym count) (publishes s r id p book at holds may),
-          λ other e. ap (λ (b : B). one (published (history_of b).log p) c) (book-there book other e),
+          subst (λ k. L (stepped s 8 k id c (led_by (releases_stored (history_of book).log p) []) keeps)) (sym count) (publishes s r id p book at holds may),
+          λ other e. ap (λ (b : B). one (releases_stored (history_of b).log p) c) (book-there book other e),
         ))
 
-    pub allows-give : (m : Sat B) (book : B) → length m.0.parts ≡ 1 → m.1 ≡ (0, Some book) ∷ [] → (own_part m.0).holds ≡ true
-        → (history_of book).log ≡ (own_part m.0).seat.known → (history_of book).config ≡ (own_part m.0).seat.config → (history_of book).workers ≡ (own_part m.0).seat.workers
-        → changes_of book ≡ (own_part m.0).names → (own_part m.0).reach ≤ length (own_part m.0).seat.known
-        → Allows L slots id m 0 (λ _. 0) (λ _. Given (step slots 0 0 0 none) m 0)
+    pub allows-give : (m : Sat B) (book : B) → length m.0.parts ≡ 1 → m.1 ≡ (0, Some book) ∷ [] → (own_part m.0).holds ≡ true → MayLeave (own_part m.0).seat (history_of book)
+        → releases_in (history_of book).log ≡ releases_in (own_part m.0).seat.known → changes_of book ≡ (own_part m.0).names → (own_part m.0).reach ≤ length (history_of book).log
+        → Allows L slots id m 0 (λ _. 0) (λ _. Given history_of (step slots 0 0 0 none) m 0)
     unfolding one
-    allows-give m book alone out holds is config workers named reach = let p = own_part m.0 in let c : List (ℕ × Option B) = (0, Some book) ∷ [] in
-        subst (λ (z : Sat B). Allows L slots id z 0 (λ _. 0) (λ _. Given (step slots 0 0 0 none) z 0)) (sym (alone-as m c alone out))
-        (λ s r _ at _. (led_by (gave p) [], gives, tt, gives-back s r id p book at holds is config workers named reach, refl))
+    allows-give m book alone out holds may as-many named reach = let p = own_part m.0 in let c : List (ℕ × Option B) = (0, Some book) ∷ [] in
+        subst (λ (z : Sat B). Allows L slots id z 0 (λ _. 0) (λ _. Given history_of (step slots 0 0 0 none) z 0)) (sym (alone-as m c alone out))
+        (λ s r _ at _. (led_by (gave (logged (history_of book).log p)) [], gives, tt, gives-back s r id p book at holds may as-many named reach, λ other e. ap (λ (b : B). one (gave (logged (history_of b).log p)) []) (book-there book other e)))
 
 head-found : {B : Type 0} → Option B → List (ℕ × Option B) → Option B
 head-found d [] = d

@@ -5,3 +5,4 @@ mod Ends
 mod Tries
 mod Wording
 pub mod Uses
+mod Giving

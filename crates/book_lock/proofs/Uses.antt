@@ -1,20 +1,34 @@
--- What a caller may leave, what a call of the book adds to its log, and how the seats of a new lock are taken off their
--- list.
-use Rattle.std.proofs.Common.{◌≡◌, ℕ, ◌+◌, ◌*◌, ◌<◌, ◌≤◌, length, subst, List, [], ◌∷◌, ◌++◌, map, sym, refl, ap, ◌∙◌, arith, Some, Result, Ok, Err, MatchResult, append-nil, length-append, All}
+-- What a seat that entered knows, what it may leave and knows once it has, what a call of the book adds to its log, and
+-- how the seats of a new lock are taken off their list.
+use Rattle.std.proofs.Common.{◌≡◌, ℕ, ◌+◌, ◌*◌, ◌<◌, ◌≤◌, length, subst, List, [], ◌∷◌, ◌++◌, map, sym, refl, ap, ◌∙◌, arith, eqb, Bool, true, false, if◌then◌else◌, Some, Result, Ok, Err, MatchResult, append-nil, length-append, All}
 use Rattle.std.proofs.lemmas.List.{map-append}
 use Rattle.std.proofs.lemmas.List.Elements.{All-nil, All-cons, All-pop, All-weaker}
 use Rattle.atomic_table.specs.Seated.{TableId}
 use Rattle.stat_defs.specs.declared.history.Entry.{Entry}
-use Rattle.stat_defs.specs.Books.{BookHistory}
+use Rattle.stat_defs.specs.Books.{BookHistory, releases_in}
+use Rattle.seat_history.specs.History.{left_log}
+use Rattle.book_lock.specs.declared.held.Held.{Held}
 use Rattle.book_lock.specs.declared.view.LockPart.{LockPart}
 use Rattle.book_lock.specs.declared.lock.LockSeat.{LockSeat}
 use Rattle.stat_defs.specs.declared.history.NameOp.{NameOp}
 use Rattle.stat_defs.specs.Changes.{at_of, id_of, NeverFalls}
 use Rattle.book_lock.specs.Naming.{FindsNames, MayName}
-use Rattle.book_lock.specs.History.{took, tried, new_part}
+use Rattle.book_lock.specs.History.{took, tried, Entered, named, logged, releases_stored, left, new_part}
 use Rattle.book_lock.specs.Locked.{new_parts}
-use Rattle.book_lock.specs.Seats.{AtRest, seat_part, AreNew}
+use Rattle.book_lock.specs.Seats.{FoundWith, AtRest, seat_part, AreNew}
 use Rattle.book_lock.proofs.Deals.{one-more}
+
+-- a seat that entered knows the changes and the releases that its book was found with
+pub found-with : {B : Type 0} (held : Held B) (p q : LockPart) (log : List Entry) (names : List NameOp) → FoundWith held names log → Entered log names p q → FoundWith held q.names q.seat.known
+found-with held p q log names f e = (f.0 ∙ ap (λ (z : LockPart). length z.names) (sym e.1), f.1 ∙ ap (λ (z : LockPart). releases_in z.seat.known) (sym e.1))
+
+either-logged : (stood : Bool) (log : List Entry) (p : LockPart) → (if stood then logged log p else releases_stored log p).seat ≡ left_log log p.seat
+either-logged true log p = refl
+either-logged false log p = refl
+
+-- and one that left knows that log, whether it stored the number of releases or not
+pub left-known : (log : List Entry) (names : List NameOp) (p : LockPart) → (left log names p).seat ≡ left_log log p.seat
+left-known log names p = either-logged (eqb (releases_in log) (releases_in p.seat.known)) log (named names (length log) p)
 
 -- the changes of names may be left as they were found
 pub names-as-found : (misses : ℕ) (p q : LockPart) (log log' : List Entry) (names : List NameOp) → q ≡ took log names (tried misses p) → FindsNames p log names → MayName q log' names

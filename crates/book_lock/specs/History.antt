@@ -1,5 +1,5 @@
 -- What the seats of a lock know of the one history of its book (this project's own).
-use Rattle.std.specs.Prelude.{◌≡◌, ℕ, suc, ◌*◌, ◌<◌, true, false, List, [], ◌∷◌, ◌++◌, length, drop, replicate, All}
+use Rattle.std.specs.Prelude.{◌≡◌, ℕ, suc, ◌*◌, ◌<◌, ◌==◌, if◌then◌else◌, true, false, List, [], ◌∷◌, ◌++◌, length, drop, replicate, All}
 use Rattle.stat_defs.specs.declared.history.Entry.{Entry}
 use Rattle.stat_defs.specs.declared.history.NameOp.{NameOp}
 use Rattle.stat_defs.specs.Books.{BookHistory, releases_in}
@@ -75,9 +75,18 @@ abbrev pub named : List NameOp → ℕ → LockPart → LockPart
 named names reach p = names_counted names reach
     (stored_all (2 * length p.names) (words_of (drop (length p.names) names)) p)
 
--- the number of the releases of this log is published
+-- the log is this one
+abbrev pub logged : List Entry → LockPart → LockPart
+logged log p = record p { seat = left_log log p.seat }
+
+-- the log is this one, and the number of its releases is stored
+abbrev pub releases_stored : List Entry → LockPart → LockPart
+releases_stored log p = with_step (step_of Publish (releases_in log)) (logged log p)
+
+-- the log is this one, and the number of its releases is stored where it is not that of the log that was found
 abbrev pub published : List Entry → LockPart → LockPart
-published log p = with_step (step_of Publish (releases_in log)) (record p { seat = left_log log p.seat })
+published log p =
+    if releases_in log == releases_in p.seat.known then logged log p else releases_stored log p
 
 abbrev pub gave : LockPart → LockPart
 gave p = with_step (step_of Give 0) (record p { holds = false })

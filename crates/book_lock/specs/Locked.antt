@@ -6,7 +6,7 @@
 -- turn, which each try writes. The one slot has the book while no seat has the turn.
 -- A seat takes the turn by a compare-and-exchange of 0 for 1, and takes the book out of the slot. It stores the words of
 -- the book's new changes behind those of the published ones, gives the book back into the slot, stores the number of its
--- changes and that of its releases, and then stores 0 as the turn.
+-- changes, stores that of its releases where it is another than the one that it found, and then stores 0 as the turn.
 -- A seat that only wants the number of releases loads word 8. A seat that only wants the changes loads word 16, and then
 -- the words below that number.
 --
@@ -17,10 +17,12 @@
 -- with the log so far.
 -- A take that finds 0 gets this very book. Its log is the one that the seat left last and then entries of
 -- other numbers, since no other seat may leave entries of this number, and no two seats have one number.
--- The seat that holds makes the log longer at its publish: to all others it is then the log that they knew
--- with further entries of the holder's number, and to the holder it is its own.
+-- The seat that holds makes the log longer where it stores the number of releases, and else at its give: to all
+-- others it is then the log that they knew with further entries of the holder's number, and to the holder it is its own.
+-- A give is allowed where the book has as many releases as the log that its seat knows, which are those of the store just
+-- made, or those that it found where the call released nothing.
 -- So word 8 is the number of releases of the log so far at every moment, and never falls: a load finds at
--- least what its seat saw before. No seat can tell that the book itself comes home a step later, at the
+-- least what its seat saw before. No seat can tell that the book itself comes home a step later than the number, at the
 -- give, since the turn is 1 until then.
 -- The words below the published number are the changes of the book in order, as it came home last or is about to. Words
 -- beyond are stored by the seat that holds alone, and no other seat loads them. So a seat that loaded the number finds in
@@ -46,7 +48,7 @@ use Rattle.stat_defs.specs.declared.history.NameOp.{NameOp}
 use Rattle.stat_defs.specs.Changes.{at_of}
 use Rattle.book_lock.specs.Naming.{words_of, NamesStand, KnowsNames, FindsNames}
 use Rattle.seat_history.specs.History.{GoesOn, SeatHistory, Finds, with_log}
-use Rattle.book_lock.specs.History.{took, missed, published, gave, counted}
+use Rattle.book_lock.specs.History.{took, missed, logged, releases_stored, gave, counted}
 use Rattle.book_lock.specs.History.{stored_word, names_counted, told, read_word, Tells, new_part}
 
 abbrev pub View : Type 0
@@ -149,13 +151,15 @@ module _ {B : Type 0} where
   Counted history_of changes_of st m r m' = (book : B) → m.1 ≡ (0, Some book) ∷ [] → m'
       ≡ (own_changed (names_counted (changes_of book) (length (history_of book).log)) m.0, m.1)
 
-  -- at a publish the book lies in the slot again, which is still the seat's
+  -- where that of the releases is, the log becomes the book's too
   abbrev pub Published : (B → BookHistory) → Step (Option B) → Sat B → ℕ → Sat B → Type 0
   Published history_of st m r m' = (book : B) → m.1 ≡ (0, Some book) ∷ [] → m'
-      ≡ (own_changed (published (history_of book).log) m.0, m.1)
+      ≡ (own_changed (releases_stored (history_of book).log) m.0, m.1)
 
-  abbrev pub Given : Step (Option B) → Sat B → ℕ → Sat B → Type 0
-  Given st m r m' = m' ≡ (own_changed gave m.0, rest m.1)
+  -- at a give the log becomes the book's, where it was not yet, and the slot is the seat's no more
+  abbrev pub Given : (B → BookHistory) → Step (Option B) → Sat B → ℕ → Sat B → Type 0
+  Given history_of st m r m' = (book : B) → m.1 ≡ (0, Some book) ∷ [] → m'
+      ≡ (own_changed (λ p. gave (logged (history_of book).log p)) m.0, rest m.1)
 
   abbrev pub Loaded : Step (Option B) → Sat B → ℕ → Sat B → Type 0
   Loaded st m r m' = (m' ≡ (own_changed (counted r) m.0, m.1)) × ((own_part m.0).seat.seen ≤ r)

@@ -1,7 +1,9 @@
 -- What clauses read of a lock and of its seats (this project's own).
 use Rattle.std.specs.Prelude.{◌≡◌, ℕ, ◌+◌, ◌*◌, true, false, List, [], ◌∷◌, None, length, map, All}
 use Rattle.atomic_table.specs.Seated.{TableId}
-use Rattle.stat_defs.specs.Books.{BookHistory}
+use Rattle.stat_defs.specs.declared.history.Entry.{Entry}
+use Rattle.stat_defs.specs.declared.history.NameOp.{NameOp}
+use Rattle.stat_defs.specs.Books.{BookHistory, releases_in}
 use Rattle.seat_history.specs.declared.known.LogKnown.{LogKnown}
 use Rattle.book_lock.specs.declared.view.LockPart.{LockPart}
 use Rattle.book_lock.specs.declared.lock.BookLock.{BookLock}
@@ -53,9 +55,9 @@ module _ {B : Type 0} where
   abbrev pub held_book : held_type.Held B → B
   held_book held = held.book.value
 
-  -- how many changes of names were published when it was taken
-  abbrev pub held_found : held_type.Held B → ℕ
-  held_found held = held.found
+  -- when it was taken it had as many changes as these, and as many releases as this log
+  abbrev pub FoundWith : held_type.Held B → List NameOp → List Entry → Type 0
+  FoundWith held names log = (held.changes ≡ length names) × (held.releases ≡ releases_in log)
 
   -- where a try got the book, a fact of the book, and else of the word that it found
   abbrev pub OnHeld : Try B → (B → Type 0) → Type 0

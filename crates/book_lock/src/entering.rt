@@ -1,11 +1,11 @@
 //! How a seat comes to the book, leaves it, and asks for the number of releases. None of these calls takes
 //! memory.
-ghost use Rattle.std.specs.Prelude.{◌≡◌, ◌≤◌, length};
+ghost use Rattle.std.specs.Prelude.{◌≡◌, ◌≤◌};
 ghost use Rattle.book_lock.specs.Naming.{FindsNames, MayName};
 ghost use Rattle.seat_history.specs.History.{Finds, MayLeave};
 ghost use Rattle.book_lock.specs.History.{Entered, took, missed, left, counted};
-ghost use Rattle.book_lock.specs.Seats.{lock_id, seat_part, seat_known, AtRest, HasBook, held_book, held_found};
-ghost use Rattle.book_lock.specs.Seats.{OnHeld, OnHeldWhole, OnBusy};
+ghost use Rattle.book_lock.specs.Seats.{lock_id, seat_part, seat_known, AtRest, HasBook, held_book};
+ghost use Rattle.book_lock.specs.Seats.{FoundWith, OnHeld, OnHeldWhole, OnBusy};
 
 use crate::held::{Held, Try};
 use crate::lock::{BookLock, LockSeat};
@@ -39,7 +39,7 @@ impl<B: Booked + Drop> BookLock<B> {
         ensures found { Finds (seat_known seat.old) (B.history (held_book result)) }
         ensures names { FindsNames (seat_part seat.old) (B.history (held_book result)).log
             (B.changed (held_book result)) }
-        ensures count { held_found result ≡ length (B.changed (held_book result)) }
+        ensures counts { FoundWith result (B.changed (held_book result)) (B.history (held_book result)).log }
         ensures part { Entered (B.history (held_book result)).log (B.changed (held_book result)) (seat_part seat.old)
             (seat_part seat.new) }
     {
@@ -59,7 +59,8 @@ impl<B: Booked + Drop> BookLock<B> {
         ensures held { OnHeld result (λ book. HasBook (lock_id self.now) seat.new) }
         ensures found { OnHeld result (λ book. Finds (seat_known seat.old) (B.history book)) }
         ensures names { OnHeld result (λ book. FindsNames (seat_part seat.old) (B.history book).log (B.changed book)) }
-        ensures count { OnHeldWhole result (λ held. held_found held ≡ length (B.changed (held_book held))) }
+        ensures counts { OnHeldWhole result (λ held. FoundWith held (B.changed (held_book held))
+            (B.history (held_book held)).log) }
         ensures took { OnHeld result (λ b. seat_part seat.new
             ≡ took (B.history b).log (B.changed b) (seat_part seat.old)) }
         ensures busy { OnBusy result (λ word. (word ≡ 1) × AtRest (lock_id self.now) seat.new) }
@@ -67,27 +68,36 @@ impl<B: Booked + Drop> BookLock<B> {
     {
         match steps::take(&self.table.shared, &mut seat.place) {
             Ok(book) => {
-                let found = book.changes();
-                Try::Held(Held { book, found })
+                let changes = book.changes();
+                let releases = book.releases();
+                Try::Held(Held {
+                    book,
+                    changes,
+                    releases,
+                })
             }
             Err(word) => Try::Busy(word),
         }
     }
 
-    /// Stores the words of the book's new changes of names, publishes the number of its changes and then that of its
-    /// releases, and gives the turn back with the book.
+    /// Stores the words of the book's new changes of names, publishes the number of its changes and then, where it rose,
+    /// that of its releases, and gives the turn back with the book.
     pub fn leave(&self, seat: &mut LockSeat<B>, held: Held<B>)
         requires seat { HasBook (lock_id self.now) seat.old }
         requires book { MayLeave (seat_known seat.old) (B.history (held_book held)) }
-        requires found { held_found held ≡ length (seat_part seat.old).names }
+        requires found { FoundWith held (seat_part seat.old).names (seat_known seat.old).known }
         requires names { MayName (seat_part seat.old) (B.history (held_book held)).log (B.changed (held_book held)) }
         ensures seat { AtRest (lock_id self.now) seat.new }
         ensures part { seat_part seat.new ≡ left (B.history (held_book held)).log (B.changed (held_book held))
             (seat_part seat.old) }
     {
-        let Held { book, found } = held;
-        words::store_names(&self.table.shared, &mut seat.place, &*book, found);
-        steps::give(&self.table.shared, &mut seat.place, book);
+        let Held {
+            book,
+            changes,
+            releases,
+        } = held;
+        words::store_names(&self.table.shared, &mut seat.place, &*book, changes);
+        steps::give(&self.table.shared, &mut seat.place, book, releases);
     }
 
     /// The number of releases, by one load.

@@ -1,6 +1,7 @@
 //! The steps of a lock, on a place with one part.
 ghost use Rattle.std.specs.Prelude.{◌≡◌, ◌+◌, ◌*◌, ◌≤◌, [], ◌∷◌, None, MatchResult, length, true};
 ghost use Rattle.seat_parts.specs.Parts.{own_changed};
+ghost use Rattle.stat_defs.specs.Books.{releases_in};
 ghost use Rattle.book_lock.specs.Naming.{FindsNames, MayCount};
 ghost use Rattle.seat_history.specs.History.{Finds, MayLeave};
 ghost use Rattle.book_lock.specs.History.{took, missed, names_counted, published, gave, counted};
@@ -44,15 +45,16 @@ pub(crate) fn take<B: Booked>(top: &Top<B>, place: &mut Place<B>) -> Result<Box<
     }
 }
 
-// The number of the book's changes, whose words are stored, and then that of its releases are published before the turn
-// goes back with it.
-pub(crate) fn give<B: Booked + Drop>(top: &Top<B>, place: &mut Place<B>, book: Box<B>)
+// The number of the book's changes, whose words are stored, is published before the turn goes back with it, and so is
+// that of its releases. Where these are as many as were found, no store takes the word from those that poll it.
+pub(crate) fn give<B: Booked + Drop>(top: &Top<B>, place: &mut Place<B>, book: Box<B>, found: u64)
     requires table { (place.old.table_id ≡ top.now.table_id) × (17 ≤ top.now.table_id.words)
         × (top.now.table_id.slots ≡ 1) }
     requires holds { (length place.old.me.0.parts ≡ 1) × (place.old.me.1 ≡ (0, None) ∷ [])
         × ((own_part place.old.me.0).holds ≡ true) }
     requires book { MayLeave (own_part place.old.me.0).seat (B.history book.value) }
     requires names { MayCount (own_part place.old.me.0) (B.history book.value).log (B.changed book.value) }
+    requires found { found ≡ releases_in (own_part place.old.me.0).seat.known }
     ensures table { (place.new.table_id ≡ place.old.table_id) × (place.new.id ≡ place.old.id) }
     ensures told { place.new.me ≡ (
       own_changed (λ p. gave (published (B.history book.value).log
@@ -64,7 +66,9 @@ pub(crate) fn give<B: Booked + Drop>(top: &Top<B>, place: &mut Place<B>, book: B
     let releases = book.releases();
     drop(top.exchange(place, 0, Some(book)));
     top.store::<Counting>(place, CHANGES, changes as u64);
-    top.store::<Publishing>(place, RELEASES, releases);
+    if releases != found {
+        top.store::<Publishing>(place, RELEASES, releases);
+    }
     top.store::<Giving>(place, 0, 0);
 }
 

@@ -15,7 +15,7 @@ use Rattle.seat_history.proofs.Leaves.{leaves-as-found, leaves-more}
 use Rattle.book_lock.specs.declared.view.LockPart.{LockPart}
 use Rattle.book_lock.specs.Naming.{FindsNames, MayName}
 use Rattle.book_lock.specs.History.{Entered, left}
-use Rattle.book_lock.proofs.Uses.{names-as-found}
+use Rattle.book_lock.proofs.Uses.{left-known, names-as-found}
 use Rattle.locked_book.proofs.Leaving.{logged_may_name}
 use Rattle.book_access.specs.Making.{IsAsFound, AddsOne}
 use Rattle.book_access.specs.Calling.{Calls, WorkingUnder, opened}
@@ -27,7 +27,7 @@ entered_seat p q found names e = ap (λ (z : LockPart). z.seat) e.1
 
 -- and left another
 left_seat : (p q r : LockPart) (found last : List Entry) (names names' : List NameOp) → Entered found names p q → r ≡ left last names' q → r.seat ≡ left_log last (found_log found p.seat)
-left_seat p q r found last names names' e is = ap (λ (z : LockPart). z.seat) is ∙ ap (left_log last) (entered_seat p q found names e)
+left_seat p q r found last names names' e is = ap (λ (z : LockPart). z.seat) is ∙ (left-known last names' q ∙ ap (left_log last) (entered_seat p q found names e))
 
 pub as_if : {T E : Type 0} (r : Result T E) (P : Type 0) → OnOk r P → IfOk r (λ _. P)
 as_if (Ok x) P is = is

@@ -8,6 +8,7 @@ mod access;
 mod calls;
 mod closing;
 mod ending;
+mod holding;
 mod listing;
 mod making;
 mod reading;
@@ -15,6 +16,7 @@ mod shared;
 mod sweeping;
 
 pub use ending::{BookEnd, close_book};
+pub use holding::HoldingSeat;
 pub use listing::{Listing, listing_of};
 pub use shared::{LockedBook, SharedBook, Way};
 pub use sweeping::sweep_in;

@@ -1,6 +1,8 @@
-//! The smallest book with changes: a count of them, all made by one entry.
-ghost use Rattle.std.specs.Prelude.{◌≡◌, ◌⊎◌};
+//! The smallest book with changes: a count of them, of which each was made by an entry of its own.
+ghost use Rattle.std.specs.Prelude.{◌≡◌, ◌+◌, ◌≤◌, ◌⊎◌};
+ghost use Rattle.book_lock.specs.declared.limits.TheConstants.{MAX_CHANGES};
 
+use book_lock::MAX_CHANGES;
 use stat_defs::{Booked, Kind, MetricId, NameOp};
 
 #[derive(Drop)]
@@ -25,7 +27,7 @@ impl Booked for Counts {
 
     fn change(&self, k: u32) -> NameOp {
         NameOp::Made {
-            at: 1,
+            at: k as u64 + 1,
             id: MetricId(k / 2),
             kind: Kind::Counter,
         }
@@ -33,12 +35,13 @@ impl Booked for Counts {
 }
 
 impl Counts {
-    /// Makes this number of changes, where none was made.
+    /// Makes this number of changes more, where a lock has room for all.
     pub fn make(&mut self, count: u32)
-        ensures { ((self.old.made ≡ 0) × (self.new.made ≡ count)) ⊎ (self.new.made ≡ self.old.made) }
+        ensures { ((self.new.made ≡ self.old.made + count) × (self.new.made ≤ MAX_CHANGES))
+            ⊎ (self.new.made ≡ self.old.made) }
     {
-        if self.made == 0 {
-            self.made = count;
+        if count <= MAX_CHANGES && self.made <= MAX_CHANGES - count {
+            self.made += count;
         }
     }
 }

@@ -1,36 +1,46 @@
 //! A lock round a count.
-ghost use Rattle.std.specs.Prelude.{◌≡◌, ◌<◌, ◌≤◌, IfOk, [], length, All};
-ghost use Rattle.book_lock.specs.declared.limits.TheConstants.{MAX_CHANGES};
-ghost use Rattle.book_lock.specs.Seats.{lock_id, seat_part, seat_number, AtRest};
+ghost use Rattle.std.specs.Prelude.{IfOk, All};
+ghost use Rattle.book_lock.specs.Seats.{lock_id, AtRest};
 ghost use Rattle.names_bench.specs.Filled.{IsSeat};
 
 use crate::counts::Counts;
-use book_lock::{BookLock, LockSeat};
+use book_lock::{BookLock, LockSeat, MAX_CHANGES};
 use stat_defs::NoMemory;
 use std::alloc::Global;
 use std::sync::Wait;
 
-/// A lock with one seat and this room.
-pub fn new_lock(
-    alloc: Global,
-    room: u32,
-) -> Result<(BookLock<Counts>, Vec<LockSeat<Counts>>), NoMemory>
-    requires { (1 ≤ room) × (room ≤ MAX_CHANGES) }
-    ensures { IfOk result (λ r. All (IsSeat (lock_id r.0) room) r.1.items) }
+/// A lock with one seat, and with room for as many changes as a lock takes.
+pub fn new_lock(alloc: Global) -> Result<(BookLock<Counts>, Vec<LockSeat<Counts>>), NoMemory>
+    ensures { IfOk result (λ r. All (IsSeat (lock_id r.0)) r.1.items) }
 {
-    let (lock, seats) = BookLock::new(alloc, Counts { made: 0 }, 1, room)?;
+    let (lock, seats) = BookLock::new(alloc, Counts { made: 0 }, 1, MAX_CHANGES)?;
     Ok((lock, seats))
 }
 
-/// Enters, makes this number of changes and leaves.
+/// Enters, makes this number of changes more, where there is room for them, and leaves.
 pub fn fill<R: Wait>(rt: &R, lock: &BookLock<Counts>, seat: &mut LockSeat<Counts>, count: u32)
-    requires seat { IsSeat (lock_id lock.now) count seat.old }
-    requires some { 0 < count }
-    ensures { AtRest (lock_id lock.now) seat.new }
+    requires { IsSeat (lock_id lock.now) seat.old }
+    ensures { IsSeat (lock_id lock.now) seat.new }
 {
     let mut held = lock.enter(rt, seat);
     held.book().make(count);
     lock.leave(seat, held);
+}
+
+/// The same, so many times.
+pub fn fill_often<R: Wait>(
+    rt: &R,
+    lock: &BookLock<Counts>,
+    seat: &mut LockSeat<Counts>,
+    count: u32,
+    times: u32,
+)
+    requires { IsSeat (lock_id lock.now) seat.old }
+    ensures { IsSeat (lock_id lock.now) seat.new }
+{
+    for _ in 0..times {
+        fill(rt, lock, seat, count);
+    }
 }
 
 /// Reads all changes again and again. The result is how many were read.

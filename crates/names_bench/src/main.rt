@@ -1,12 +1,13 @@
-//! The changes of names under a lock: one `leave` that publishes as many as a store may make, readings of all of them, and
-//! readings that find no new one. Without words it makes each once and prints counts; with any word it repeats the
-//! readings and prints times.
+//! The changes of names under a lock: one `leave` that publishes as many as a store may make, readings of all of them,
+//! readings that find no new one, and turns of the lock that publish one or none. Without words it makes the first three
+//! once and prints counts; with any word it repeats them and prints times.
 #![tactic(auto)]
 
 mod counts;
 mod filling;
 
-use filling::{fill, new_lock, read_all, read_none};
+use book_lock::MAX_CHANGES;
+use filling::{fill, fill_often, new_lock, read_all, read_none};
 use stat_defs::NoMemory;
 use std::alloc::Global;
 use std::io::Print;
@@ -14,14 +15,17 @@ use std::sync::Wait;
 use std::time::{Clock, Instant};
 use std::{env, io};
 
-/// How many changes are published: the most that a lock takes.
-const CHANGES: u32 = 131_072;
-
 /// How often all of them are read where times are told.
 const READINGS: u32 = 1_000;
 
 /// How often no new one is found.
 const EMPTY_READINGS: u32 = 100_000_000;
+
+/// How many turns of the lock are timed at once: as many as there is room for changes.
+const TURNS: u32 = 131_072;
+
+/// How often they are.
+const ROUNDS: u32 = 40;
 
 fn no_memory(_: NoMemory) -> io::Error {
     io::Error::from(io::ErrorKind::OutOfMemory)
@@ -37,23 +41,39 @@ fn main(rt: HostRuntime) -> io::Result<()> {
 }
 
 fn count<R: Print + Wait>(rt: &R, alloc: Global) -> io::Result<()> {
-    let (lock, mut seats) = new_lock(alloc, CHANGES).map_err(no_memory)?;
+    let (lock, mut seats) = new_lock(alloc).map_err(no_memory)?;
     let Some(mut seat) = seats.pop() else {
         return Ok(());
     };
-    fill(rt, &lock, &mut seat, CHANGES);
+    fill(rt, &lock, &mut seat, MAX_CHANGES);
     let read = read_all(alloc, &lock, &mut seat, 1).map_err(no_memory)?;
     let none = read_none(alloc, &lock, &mut seat, 1).map_err(no_memory)?;
-    println!(rt; "changes left {CHANGES}, read {read}, read again {none}")
+    println!(rt; "changes left {MAX_CHANGES}, read {read}, read again {none}")
+}
+
+// Prints the time of a turn of the lock that makes this number of changes, of the least of some rounds, each on a lock of
+// its own.
+fn time_turns<R: Print + Clock + Wait>(rt: &R, alloc: Global, count: u32) -> io::Result<()> {
+    let mut least = u128::MAX;
+    for _ in 0..ROUNDS {
+        let (lock, mut seats) = new_lock(alloc).map_err(no_memory)?;
+        let Some(mut seat) = seats.pop() else {
+            return Ok(());
+        };
+        let start = Instant::now(rt)?;
+        fill_often(rt, &lock, &mut seat, count, TURNS);
+        least = least.min(start.elapsed(rt)?.as_nanos());
+    }
+    println!(rt; "{TURNS} times enter, make {count}, leave: {least} ns")
 }
 
 fn time<R: Print + Clock + Wait>(rt: &R, alloc: Global) -> io::Result<()> {
-    let (lock, mut seats) = new_lock(alloc, CHANGES).map_err(no_memory)?;
+    let (lock, mut seats) = new_lock(alloc).map_err(no_memory)?;
     let Some(mut seat) = seats.pop() else {
         return Ok(());
     };
     let start = Instant::now(rt)?;
-    fill(rt, &lock, &mut seat, CHANGES);
+    fill(rt, &lock, &mut seat, MAX_CHANGES);
     let left = start.elapsed(rt)?.as_nanos();
     let start = Instant::now(rt)?;
     let read = read_all(alloc, &lock, &mut seat, READINGS).map_err(no_memory)?;
@@ -61,7 +81,9 @@ fn time<R: Print + Clock + Wait>(rt: &R, alloc: Global) -> io::Result<()> {
     let start = Instant::now(rt)?;
     let none = read_none(alloc, &lock, &mut seat, EMPTY_READINGS).map_err(no_memory)?;
     let empty = start.elapsed(rt)?.as_nanos();
-    println!(rt; "leave with {CHANGES} changes: {left} ns")?;
+    println!(rt; "leave with {MAX_CHANGES} changes: {left} ns")?;
     println!(rt; "{READINGS} readings of all: {all} ns, {read} changes")?;
-    println!(rt; "{EMPTY_READINGS} readings of none: {empty} ns, {none} changes")
+    println!(rt; "{EMPTY_READINGS} readings of none: {empty} ns, {none} changes")?;
+    time_turns(rt, alloc, 0)?;
+    time_turns(rt, alloc, 1)
 }

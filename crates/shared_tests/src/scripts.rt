@@ -32,8 +32,8 @@ fn second_calls<R: Wait + Abort>(
     (Some(worker), answer)
 }
 
-// The next call, and what it answered.
-fn one_call<R: Wait + Abort>(
+/// The next call, and what it answered.
+pub(crate) fn one_call<R: Wait + Abort>(
     rt: &R,
     alloc: Global,
     parties: Parties,
@@ -106,8 +106,8 @@ fn all_ended<R: Abort>(
     vec![in alloc; first, second].expect(rt, "a list")
 }
 
-// The flusher between two rounds.
-fn idle_flusher<R: Abort>(rt: &R, rounds: Rounds) -> Flusher
+/// The flusher between two rounds.
+pub(crate) fn idle_flusher<R: Abort>(rt: &R, rounds: Rounds) -> Flusher
     ensures { rounds ≡ Rounds.Between result }
 {
     let Rounds::Between(flusher) = rounds else {

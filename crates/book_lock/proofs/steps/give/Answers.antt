@@ -1,10 +1,13 @@
-use Rattle.std.proofs.Common.{rules, ap, sym, subst, arith, ◌∙◌, ◌∷◌, [], Some, length}
+use Rattle.std.proofs.Common.{rules, ap, sym, subst, ◌∙◌, ◌∷◌, [], Some, length}
 use Rattle.stat_defs.specs.Books.{releases_in}
 use Rattle.book_lock.specs.Naming.{MayCount}
 use Rattle.seat_history.specs.History.{MayLeave}
-use Rattle.book_lock.specs.History.{names_counted, published, gave}
+use Rattle.book_lock.specs.History.{names_counted}
 use Rattle.book_lock.specs.Locked.{in_box, names_in_box, own_part}
-use Rattle.book_lock.proofs.Keeps.{allows-count, allows-publish, allows-give, put-back, changed-own, then-changed, at-slot, at-rest}
+use Rattle.book_lock.proofs.Keeps.{allows-count, allows-publish, allows-give, put-back, changed-own, at-rest}
+use Rattle.book_lock.proofs.Giving.{MayGive, given, as-found, once-stored}
+use Rattle.book_lock.proofs.steps.give.Given.{Over}
+use Rattle.book_lock.proofs.steps.give.Goals.{Joined-releases-found, then-releases-found, else-releases-found}
 use Rattle.book_lock.proofs.steps.give.Goals as goal
 
 pub store-requires : goal.store-requires
@@ -16,8 +19,8 @@ store-requires g c = let m = c.args.place.now.me in let m1 = c.exchange.new.seat
           (subst (λ z. MayCount (own_part z.0) (g.B.Booked.history v).log (g.B.Booked.changed v)) (sym back) c.requires.names) _ (c.changes-changes.ensures ∙ ap (λ b. length (g.B.Booked.changed b)) c.deref.ensures),
     )
 
-pub store-requires-2 : goal.store-requires-2
-store-requires-2 g c = let m = c.args.place.now.me in let m1 = c.exchange.new.seat.me in let m2 = c.store.new.seat.me in let book = c.args.book in let v = book.value in let h = c.requires.holds in
+pub store-requires-then-releases-found : goal.store-requires-then-releases-found
+store-requires-then-releases-found g c = let m = c.args.place.now.me in let m1 = c.exchange.new.seat.me in let m2 = c.store.new.seat.me in let book = c.args.book in let v = book.value in let h = c.requires.holds in
     let back = put-back m m1 book h.1 c.exchange.ensures.3 in
     let s = changed-own (names_counted (g.B.Booked.changed v) (length (g.B.Booked.history v).log)) m m1 m2 ((0, Some book) ∷ []) h.0 back (c.store.ensures.2 book (ap (λ z. z.1) back)) in (
       search rules,
@@ -27,24 +30,26 @@ store-requires-2 g c = let m = c.args.place.now.me in let m1 = c.exchange.new.se
           _ (c.releases-releases.ensures ∙ ap (λ b. releases_in (g.B.Booked.history b).log) c.deref-2.ensures),
     )
 
-pub store-requires-3 : goal.store-requires-3
-store-requires-3 g c = let m = c.args.place.now.me in let m1 = c.exchange.new.seat.me in let m2 = c.store.new.seat.me in let m3 = c.store-2.new.seat.me in let book = c.args.book in let v = book.value in let h = c.requires.holds in
-    let b = c.requires.book in let back = put-back m m1 book h.1 c.exchange.ensures.3 in
-    let s = changed-own (names_counted (g.B.Booked.changed v) (length (g.B.Booked.history v).log)) m m1 m2 ((0, Some book) ∷ []) h.0 back (c.store.ensures.2 book (ap (λ z. z.1) back)) in
-    let t = changed-own (published (g.B.Booked.history v).log) m2 m2 m3 ((0, Some book) ∷ []) s.0 (at-slot m2 ((0, Some book) ∷ []) s.1) (c.store-2.ensures.2 book s.1) in
-    let reach = ap (λ p. p.reach) t.2 ∙ ap (λ p. p.reach) s.2 in let known = ap (λ p. length p.seat.known) t.2 in (
-      search rules,
-      search rules,
-      allows-give (in_box g.B.Booked.history) (names_in_box g.B.Booked.changed) _ _ _ _ _ m3 book t.0 t.1 (ap (λ p. p.holds) t.2 ∙ (ap (λ p. p.holds) s.2 ∙ h.2))
-          (sym (ap (λ p. p.seat.known) t.2)) (b.config ∙ sym (ap (λ p. p.seat.config) t.2 ∙ ap (λ p. p.seat.config) s.2)) (b.workers ∙ sym (ap (λ p. p.seat.workers) t.2 ∙ ap (λ p. p.seat.workers) s.2))
-          (sym (ap (λ p. p.names) t.2 ∙ ap (λ p. p.names) s.2)) (omega arith),
-    )
+-- once the releases are published
+ready : (g : Over) (c : Joined-releases-found g) → MayGive (in_box g.B.Booked.history) (names_in_box g.B.Booked.changed) c.args.book c.args.place.now.me c.requires.holds.0 c.requires.holds.2 c.requires.book c.if-releases-found.place.me
+ready g c = let m = c.args.place.now.me in let m1 = c.exchange.new.seat.me in let m2 = c.store.new.seat.me in let book = c.args.book in let h = c.requires.holds in
+    let back = put-back m m1 book h.1 c.exchange.ensures.3 in let counted = c.store.ensures.2 book (ap (λ z. z.1) back) in
+    let told = c.releases-releases.ensures ∙ ap (λ b. releases_in (g.B.Booked.history b).log) c.deref-2.ensures in
+    let slot = ap (λ z. z.1) counted ∙ ap (λ z. z.1) back in
+    elim c.if-releases-found.branch [
+      | then-releases-found w ↦ subst (MayGive (in_box g.B.Booked.history) (names_in_box g.B.Booked.changed) book m h.0 h.2 c.requires.book) (sym (ap (λ z. z.me) w.place-is))
+          (once-stored (in_box g.B.Booked.history) (names_in_box g.B.Booked.changed) book m h.0 h.2 c.requires.book m1 m2 _ back counted (w.store-then-releases-found.ensures.2 book slot) (λ e. w.if-releases-found.true (told ∙ (e ∙ sym c.requires.found))))
+      | else-releases-found w ↦ subst (MayGive (in_box g.B.Booked.history) (names_in_box g.B.Booked.changed) book m h.0 h.2 c.requires.book) (sym (ap (λ z. z.me) w.place-is))
+          (as-found (in_box g.B.Booked.history) (names_in_box g.B.Booked.changed) book m h.0 h.2 c.requires.book m1 m2 back counted (sym told ∙ (w.if-releases-found.false ∙ c.requires.found)))
+    ]
+
+pub store-requires-2 : goal.store-requires-2
+store-requires-2 g c = let y = ready g (goal.at.store-requires-2 g c).Joined-releases-found in (
+  search rules,
+  search rules,
+  allows-give (in_box g.B.Booked.history) (names_in_box g.B.Booked.changed) _ _ _ _ _ c.if-releases-found.place.me c.args.book y.one y.slot y.turn y.leaves y.released y.names y.reach,
+)
 
 pub returns-clause-told : goal.returns-clause-told
-returns-clause-told g c = let m = c.args.place.now.me in let m1 = c.exchange.new.seat.me in let m2 = c.store.new.seat.me in let m3 = c.store-2.new.seat.me in let m4 = c.store-3.new.seat.me in let book = c.args.book in let v = book.value in let h = c.requires.holds in
-    let back = put-back m m1 book h.1 c.exchange.ensures.3 in
-    let f = names_counted (g.B.Booked.changed v) (length (g.B.Booked.history v).log) in let e = published (g.B.Booked.history v).log in
-    let s = changed-own f m m1 m2 ((0, Some book) ∷ []) h.0 back (c.store.ensures.2 book (ap (λ z. z.1) back)) in
-    let t = changed-own e m2 m2 m3 ((0, Some book) ∷ []) s.0 (at-slot m2 ((0, Some book) ∷ []) s.1) (c.store-2.ensures.2 book s.1) in
-    let both = then-changed f e m m2 m3 ((0, Some book) ∷ []) ((0, Some book) ∷ []) s.3 t.3 in
-    then-changed (λ p. e (f p)) gave m m3 m4 ((0, Some book) ∷ []) [] both (c.store-3.ensures.2 ∙ at-rest gave m3 t.1)
+returns-clause-told g c = let y = ready g (goal.at.returns-clause-told g c).Joined-releases-found in let m3 = c.if-releases-found.place.me in
+    c.store-2.ensures.2 c.args.book y.slot ∙ (at-rest (given (in_box g.B.Booked.history) (names_in_box g.B.Booked.changed) c.args.book c.args.place.now.me c.requires.holds.0 c.requires.holds.2 c.requires.book) m3 y.slot ∙ y.gives)

@@ -1,9 +1,9 @@
-use Rattle.std.proofs.Common.{ap, sym, ◌∙◌, length}
 use Rattle.stat_defs.specs.declared.history.Call.TheVariants as call
 use Rattle.book_state.specs.declared.limits.TheConstants.{MAX_OPENINGS}
 use Rattle.book_lock.specs.Seats.{seat_part, seat_known, held_book}
 use Rattle.book_access.specs.Making.{AnswersCall}
 use Rattle.book_access.proofs.Called.{one_answered}
+use Rattle.book_lock.proofs.Uses.{found-with}
 use Rattle.locked_book.proofs.Called.{leaves_made, names_made, working_lent, opened_lent, told, kept}
 use Rattle.locked_book.proofs.access.LockedBookBookAccessWay.open.Goals as goal
 
@@ -22,7 +22,7 @@ leave-requires-clause-book g c =
     (λ x. AnswersCall (call.OpenScope c.args.label.now c.args.prefix.now) x) (λ x. one_answered (call.OpenScope c.args.label.now c.args.prefix.now) x c.args.self.now.number c.book.result.now t.new.book) t.ensures.step t.ensures.err
 
 pub leave-requires-clause-found : goal.leave-requires-clause-found
-leave-requires-clause-found g c = let e = c.enter-held.ensures in e.count ∙ ap (λ p. length p.names) (sym e.part.1)
+leave-requires-clause-found g c = let e = c.enter-held.ensures in found-with c.enter-held.result (seat_part c.args.self.now.seat) (seat_part c.enter-held.new.seat) _ _ e.counts e.part
 
 pub leave-requires-clause-names : goal.leave-requires-clause-names
 leave-requires-clause-names g c =

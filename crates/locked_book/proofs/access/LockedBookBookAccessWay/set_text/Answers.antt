@@ -1,10 +1,11 @@
-use Rattle.std.proofs.Common.{◌≡◌, true, ap, sym, ◌∙◌, length}
+use Rattle.std.proofs.Common.{◌≡◌, true}
 use Rattle.stat_defs.specs.declared.history.Call.TheVariants as call
 use Rattle.stat_defs.specs.declared.history.Reply.TheVariants as reply
 use Rattle.book_state.specs.Step.{holds_text}
 use Rattle.book_lock.specs.Seats.{seat_part, seat_known, held_book}
 use Rattle.book_access.specs.Making.{LogsCall}
 use Rattle.book_access.proofs.Called.{one_logged}
+use Rattle.book_lock.proofs.Uses.{found-with}
 use Rattle.locked_book.proofs.Called.{leaves_made, names_made, working_lent, as_if, done, kept}
 use Rattle.locked_book.proofs.access.LockedBookBookAccessWay.set_text.Goals as goal
 
@@ -19,7 +20,7 @@ leave-requires-clause-book g c =
     (λ x. LogsCall (call.SetText c.args.id c.args.text.now) reply.TextSet) (λ x. one_logged (call.SetText c.args.id c.args.text.now) reply.TextSet c.args.self.now.number c.book.result.now t.new.book) (as_if t.result (LogsCall (call.SetText c.args.id c.args.text.now) reply.TextSet c.args.self.now.number c.book.result.now t.new.book) t.ensures.step) t.ensures.err
 
 pub leave-requires-clause-found : goal.leave-requires-clause-found
-leave-requires-clause-found g c = let e = c.enter-held.ensures in e.count ∙ ap (λ p. length p.names) (sym e.part.1)
+leave-requires-clause-found g c = let e = c.enter-held.ensures in found-with c.enter-held.result (seat_part c.args.self.now.seat) (seat_part c.enter-held.new.seat) _ _ e.counts e.part
 
 pub leave-requires-clause-names : goal.leave-requires-clause-names
 leave-requires-clause-names g c =

@@ -1,6 +1,6 @@
-use Rattle.std.proofs.Common.{ap, sym, ◌∙◌, length}
 use Rattle.book_lock.specs.Seats.{seat_part, held_book}
 use Rattle.locked_book.specs.Lists.{ListsNames}
+use Rattle.book_lock.proofs.Uses.{found-with}
 use Rattle.locked_book.proofs.Called.{leaves_same, names_same, told, kept, kept_same}
 use Rattle.locked_book.proofs.OfKind.{lists_names}
 use Rattle.locked_book.proofs.shared.LockedBook.names.Goals as goal
@@ -11,7 +11,7 @@ leave-requires-clause-book g c =
     leaves_same t.result (seat_part c.args.self.now.seat) (seat_part c.enter-held.new.seat) (held_book c.enter-held.result) c.book.result.now c.book.result.now c.args.self.now.number e.found e.part c.args.self.now.numbered c.book.ensures.value
 
 pub leave-requires-clause-found : goal.leave-requires-clause-found
-leave-requires-clause-found g c = let e = c.enter-held.ensures in e.count ∙ ap (λ p. length p.names) (sym e.part.1)
+leave-requires-clause-found g c = let e = c.enter-held.ensures in found-with c.enter-held.result (seat_part c.args.self.now.seat) (seat_part c.enter-held.new.seat) _ _ e.counts e.part
 
 pub leave-requires-clause-names : goal.leave-requires-clause-names
 leave-requires-clause-names g c =

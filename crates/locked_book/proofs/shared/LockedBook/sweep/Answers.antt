@@ -1,9 +1,9 @@
-use Rattle.std.proofs.Common.{ap, sym, ◌∙◌, length}
 use Rattle.stat_defs.specs.declared.history.Call.TheVariants as call
 use Rattle.stat_defs.specs.declared.history.Reply.TheVariants as reply
 use Rattle.book_lock.specs.Seats.{seat_part, held_book}
 use Rattle.book_access.proofs.Called.{one_logged}
 use Rattle.locked_book.specs.Lists.{SweepsListed}
+use Rattle.book_lock.proofs.Uses.{found-with}
 use Rattle.locked_book.proofs.Called.{leaves_made, names_made, told, kept}
 use Rattle.locked_book.proofs.shared.LockedBook.sweep.Goals as goal
 
@@ -14,7 +14,7 @@ leave-requires-clause-book g c =
     (λ x. SweepsListed x) (λ x s. one_logged call.Sweep (reply.Swept _) 0 c.book.result.now t.new.book s.step) t.ensures.step t.ensures.err
 
 pub leave-requires-clause-found : goal.leave-requires-clause-found
-leave-requires-clause-found g c = let e = c.enter-held.ensures in e.count ∙ ap (λ p. length p.names) (sym e.part.1)
+leave-requires-clause-found g c = let e = c.enter-held.ensures in found-with c.enter-held.result (seat_part c.args.self.now.seat) (seat_part c.enter-held.new.seat) _ _ e.counts e.part
 
 pub leave-requires-clause-names : goal.leave-requires-clause-names
 leave-requires-clause-names g c =
