@@ -1,10 +1,10 @@
-use Rattle.std.proofs.Common.{◌≡◌, ◌++◌, Option, length, refl, ap, ◌∙◌, sym, subst, map}
+use Rattle.std.proofs.Common.{◌≡◌, ◌++◌, Option, refl, ap, ◌∙◌, sym, subst, map}
 use Rattle.stat_defs.specs.declared.history.NameOp.{NameOp}
 use Rattle.book_lock.specs.Naming.{MayName}
 use Rattle.threads_bench.specs.Tallies.{entry_of, history_of, changes_of}
 use Rattle.seat_history.proofs.Leaves.{leaves-as-found, leaves-more}
 use Rattle.book_lock.specs.Seats.{seat_part, seat_known}
-use Rattle.book_lock.proofs.Uses.{added, names-as-found}
+use Rattle.book_lock.proofs.Uses.{added, found-with, names-as-found}
 use Rattle.threads_bench.proofs.Pushes.{pushed}
 use Rattle.threads_bench.proofs.locks.push_once.Goals as goal
 
@@ -16,7 +16,7 @@ leave-requires-clause-book g c = let new = c.push.new.self.words.items in let ol
     (a.1 ∙ ap (λ b. map entry_of b.words.items ++ a.0) c.book.ensures.value) (a.2 _ (sym c.requires.1 ∙ sym (ap (λ p. p.seat.number) e.1)))
 
 pub leave-requires-clause-found : goal.leave-requires-clause-found
-leave-requires-clause-found g c = let e = c.enter-held.ensures in e.count ∙ ap (λ p. length p.names) (sym e.part.1)
+leave-requires-clause-found g c = let e = c.enter-held.ensures in found-with c.enter-held.result (seat_part c.args.seat.now) (seat_part c.enter-held.new.seat) _ _ e.counts e.part
 
 pub leave-requires-clause-names : goal.leave-requires-clause-names
 leave-requires-clause-names g c = let e = c.enter-held.ensures in let found = c.enter-held.result.book.value in
