@@ -1,13 +1,16 @@
-//! The smallest book with changes: a count of them, of which each was made by an entry of its own.
+//! A small book with changes: a count of them, of which each was made by an entry of its own, and a list of what its calls
+//! made, which costs what a log costs.
 ghost use Rattle.std.specs.Prelude.{◌≡◌, ◌+◌, ◌≤◌, ◌⊎◌};
 ghost use Rattle.book_lock.specs.declared.limits.TheConstants.{MAX_CHANGES};
 
 use book_lock::MAX_CHANGES;
 use stat_defs::{Booked, Kind, MetricId, NameOp};
+use std::alloc::Global;
 
 #[derive(Drop)]
 pub struct Counts {
     pub made: u32,
+    calls: Vec<u32>,
 }
 
 impl Booked for Counts {
@@ -35,12 +38,25 @@ impl Booked for Counts {
 }
 
 impl Counts {
-    /// Makes this number of changes more, where a lock has room for all.
+    /// No change was made.
+    pub fn new(alloc: Global) -> Counts
+        ensures { result.made ≡ 0 }
+    {
+        Counts {
+            made: 0,
+            calls: Vec::new(alloc),
+        }
+    }
+
+    /// Makes this number of changes more, where a lock has room for all and there is memory.
     pub fn make(&mut self, count: u32)
         ensures { ((self.new.made ≡ self.old.made + count) × (self.new.made ≤ MAX_CHANGES))
             ⊎ (self.new.made ≡ self.old.made) }
     {
-        if count <= MAX_CHANGES && self.made <= MAX_CHANGES - count {
+        if self.calls.push(count).is_err() || count > MAX_CHANGES {
+            return;
+        }
+        if self.made <= MAX_CHANGES - count {
             self.made += count;
         }
     }

@@ -13,7 +13,7 @@ use std::sync::Wait;
 pub fn new_lock(alloc: Global) -> Result<(BookLock<Counts>, Vec<LockSeat<Counts>>), NoMemory>
     ensures { IfOk result (λ r. All (IsSeat (lock_id r.0)) r.1.items) }
 {
-    let (lock, seats) = BookLock::new(alloc, Counts { made: 0 }, 1, MAX_CHANGES)?;
+    let (lock, seats) = BookLock::new(alloc, Counts::new(alloc), 1, MAX_CHANGES)?;
     Ok((lock, seats))
 }
 
