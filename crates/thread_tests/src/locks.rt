@@ -1,11 +1,11 @@
-ghost use Rattle.std.specs.Prelude.{◌≡◌, ◌+◌, ◌∷◌, ◌++◌, [], MatchResult, length};
+ghost use Rattle.std.specs.Prelude.{◌≡◌, ◌+◌, ◌∷◌, ◌++◌, [], MatchResult};
 ghost use Rattle.stat_defs.specs.declared.history.Call.TheVariants as call;
 ghost use Rattle.stat_defs.specs.Books.{BookHistory};
 ghost use Rattle.seat_history.specs.History.{MayLeave};
 ghost use Rattle.book_lock.specs.Locked.{blank_config};
 ghost use Rattle.book_lock.specs.Naming.{MayName};
 ghost use Rattle.book_lock.specs.Seats.{lock_id, seats_of, seat_part, seat_known, seat_number, AtRest, HasBook, AreNew};
-ghost use Rattle.book_lock.specs.Seats.{held_book, held_found};
+ghost use Rattle.book_lock.specs.Seats.{held_book, FoundWith};
 
 use crate::fake_book::{FakeBook, NAMES};
 use book_lock::{BookLock, Held, LockSeat, Try};
@@ -52,7 +52,7 @@ fn add_and_leave(
     requires seat { HasBook (lock_id lock.now) seat.old × (seat_number seat.old ≡ number) }
     requires book { MayLeave (seat_known seat.old)
         (record { config = blank_config; workers = 4; log = (held_book held).entries.items }) }
-    requires found { held_found held ≡ length (seat_part seat.old).names }
+    requires found { FoundWith held (seat_part seat.old).names (seat_known seat.old).known }
     requires names { MayName (seat_part seat.old) (held_book held).entries.items (held_book held).changes.items }
     ensures seat { AtRest (lock_id lock.now) seat.new × (seat_number seat.new ≡ number) }
     ensures made { (seat_known seat.old).known ≡ (held_book held).entries.items
@@ -112,6 +112,24 @@ fn one_is_in_while_another_tries(rt: HostRuntime) -> Result<(), Fail> {
     assert!(rt; before == 0 && while_in == Some(1));
     assert!(rt; after == 1 && once_out.is_none());
     assert!(rt; book.entries.len() == 1);
+    Ok(())
+}
+
+// The number of releases rises for the other seat by an entry that releases a scope, and by no other.
+#[test]
+fn only_a_release_raises_the_number(rt: HostRuntime) -> Result<(), Fail> {
+    let (lock, mut seats) = BookLock::new(rt.alloc(), FakeBook::new(rt.alloc(), 8), 2, NAMES)?;
+    let mut second = take_last(&lock, &mut seats, 1);
+    let mut first = take_last(&lock, &mut seats, 0);
+    let released = add_reply(&rt, &lock, &mut first, 0, Reply::Released(ScopeId(0)));
+    let one = lock.releases(&mut second);
+    let acked = add_reply(&rt, &lock, &mut first, 0, Reply::Acked(1));
+    let still_one = lock.releases(&mut second);
+    let again = add_reply(&rt, &lock, &mut second, 1, Reply::Released(ScopeId(1)));
+    let two = lock.releases(&mut first);
+    drop(lock.close(vec![in rt.alloc(); first, second]?));
+    assert!(rt; released.is_ok() && acked.is_ok() && again.is_ok());
+    assert!(rt; one == 1 && still_one == 1 && two == 2);
     Ok(())
 }
 

@@ -4,7 +4,7 @@ ghost use Rattle.stat_defs.specs.declared.history.NameOp.{NameOp};
 ghost use Rattle.seat_history.specs.History.{GoesOn, MayLeave};
 ghost use Rattle.book_lock.specs.Locked.{blank_config};
 ghost use Rattle.book_lock.specs.Seats.{lock_id, seat_part, seat_known, seat_number, AtRest, HasBook};
-ghost use Rattle.book_lock.specs.Seats.{held_book, held_found};
+ghost use Rattle.book_lock.specs.Seats.{held_book, FoundWith};
 ghost use Rattle.thread_tests.specs.Noting.{AreNoted};
 
 use crate::fake_book::{FakeBook, NAMES};
@@ -45,7 +45,7 @@ fn name_and_leave(
     requires seat { HasBook (lock_id lock.now) seat.old × (seat_number seat.old ≡ 0) × ((seat_part seat.old).room ≡ 4) }
     requires book { MayLeave (seat_known seat.old)
         (record { config = blank_config; workers = 4; log = (held_book held).entries.items }) }
-    requires found { held_found held ≡ length (seat_part seat.old).names }
+    requires found { FoundWith held (seat_part seat.old).names (seat_known seat.old).known }
     requires log { (seat_known seat.old).known ≡ (held_book held).entries.items }
     requires names { (seat_part seat.old).names ≡ (held_book held).changes.items }
     ensures seat { AtRest (lock_id lock.now) seat.new × (seat_number seat.new ≡ 0) × ((seat_part seat.new).room ≡ 4) }
