@@ -1,0 +1,4 @@
+pub mod Telling
+pub mod Unbuilt
+pub mod Pages
+pub mod PagesKept
