@@ -4,6 +4,7 @@ ghost use Rattle.stat_defs.specs.Configs.{IsConfig};
 ghost use Rattle.plain_store.specs.Store.{new_store};
 ghost use Rattle.store_pages.specs.Unbuilt.{HasNoRules, HasNoBuckets, HasNoStore};
 
+use name_map::HashKey;
 use plain_store::PlainStore;
 use stat_defs::Config;
 use std::alloc::Global;
@@ -32,8 +33,8 @@ pub(crate) fn rules_of(alloc: Global, config: &Config) -> Result<TagRules, TagFa
     TagRules::build(alloc, &mut maker, config.tags.items())
 }
 
-/// A new store of a configuration.
-pub(crate) fn store_of(alloc: Global, config: &Config) -> Result<PlainStore, TagFault>
+/// A new store of a configuration, its tables hashed under this key.
+pub(crate) fn store_of(alloc: Global, key: HashKey, config: &Config) -> Result<PlainStore, TagFault>
     requires { IsConfig config.now }
     ensures made { IfOk result (λ store. store ≡ new_store config.now) }
     ensures refused { IfErr result (λ fault. HasNoStore config.now fault) }
@@ -42,5 +43,5 @@ pub(crate) fn store_of(alloc: Global, config: &Config) -> Result<PlainStore, Tag
     let mut maker = RegexMaker::new(Vec::new(alloc));
     let rules = TagRules::build(alloc, &mut maker, config.tags.items())?;
     let matcher = Matcher::build(alloc, &mut maker, &config.matcher)?;
-    Ok(PlainStore::new(alloc, config, rules, matcher)?)
+    Ok(PlainStore::with_key(alloc, key, config, rules, matcher)?)
 }

@@ -8,6 +8,6 @@ mod pages;
 
 pub use building::buckets_of;
 pub use fault::{ApplyFault, PageFault};
-pub use laws::stores_can_be_shown;
+pub use laws::{pages_count, stores_can_be_shown};
 pub use pages::StorePages;
 pub use plain_store::MAX_EVENTS;

@@ -10,6 +10,7 @@ ghost use Rattle.store_pages.specs.Unbuilt.{HasNoStore};
 use crate::building::{rules_of, store_of};
 use crate::fault::{ApplyFault, PageFault};
 use live_view::LiveViews;
+use name_map::HashKey;
 use plain_store::{MAX_EVENTS, PlainStore};
 use stat_defs::{Config, Event, FlushView, Verdict};
 use std::alloc::Global;
@@ -38,8 +39,8 @@ impl<'a> Model for StorePages<'a> {
 }
 
 impl<'a> StorePages<'a> {
-    /// A store of this configuration without events and pages. The bucket settings are those of [`buckets_of`]. The
-    /// store's tables are hashed under a fixed key.
+    /// A store of this configuration without events and pages, its tables hashed under a fixed key. The bucket settings
+    /// are those of [`buckets_of`].
     ///
     /// [`buckets_of`]: crate::buckets_of
     pub fn open(
@@ -52,9 +53,25 @@ impl<'a> StorePages<'a> {
         ensures opened { IfOk result (λ pages. pages ≡ new_pages config.now) }
         ensures refused { IfErr result (λ fault. HasNoStore config.now fault) }
     {
+        StorePages::open_with_key(alloc, HashKey::fixed(), config, buckets)
+    }
+
+    /// The same, its tables hashed under this key, such as one that was drawn: where names come from outside, no one can
+    /// choose them to be slow.
+    pub fn open_with_key(
+        alloc: Global,
+        key: HashKey,
+        config: &'a Config,
+        buckets: &'a Buckets,
+    ) -> Result<StorePages<'a>, TagFault>
+        requires config { IsConfig config.now }
+        requires buckets { buckets.now ≡ config.now.buckets }
+        ensures opened { IfOk result (λ pages. pages ≡ new_pages config.now) }
+        ensures refused { IfErr result (λ fault. HasNoStore config.now fault) }
+    {
         let rules = rules_of(alloc, config)?;
         let views = LiveViews::new(alloc, config, rules, buckets, 1)?;
-        let store = store_of(alloc, config)?;
+        let store = store_of(alloc, key, config)?;
         Ok(StorePages {
             store,
             views,

@@ -1,5 +1,5 @@
 use Rattle.store_pages.proofs.InStep.{opened}
-use Rattle.store_pages.proofs.pages.StorePages.open.Goals as goal
+use Rattle.store_pages.proofs.pages.StorePages.open_with_key.Goals as goal
 
 pub invariant_of-result : goal.invariant_of-result
 invariant_of-result c =
