@@ -1,5 +1,6 @@
 //! The store with its pages.
 ghost use Rattle.std.specs.Prelude.{◌≡◌, ◌≤◌, IfOk, IfErr, length};
+ghost use Rattle.stat_defs.specs.Borrowed.{event_of};
 ghost use Rattle.stat_defs.specs.Configs.{IsConfig};
 ghost use Rattle.stat_defs.specs.Events.{IsLawfulEvent};
 ghost use Rattle.text_parts.specs.Histograms.{HasHistograms};
@@ -12,7 +13,7 @@ use crate::fault::{ApplyFault, PageFault};
 use live_view::LiveViews;
 use name_map::HashKey;
 use plain_store::{MAX_EVENTS, PlainStore};
-use stat_defs::{Config, Event, FlushView, Verdict};
+use stat_defs::{Config, Event, EventRef, FlushView, Verdict};
 use std::alloc::Global;
 use std::marker::Model;
 use tag_rules::{Buckets, TagFault};
@@ -85,10 +86,20 @@ impl<'a> StorePages<'a> {
         ensures ok { IfOk result (λ verdict. IsApplied self.old event.now verdict self.new) }
         ensures err { IfErr result (λ fault. ApplyFails self.old event.now fault self.new) }
     {
+        self.apply_ref(alloc, &event.borrowed())
+    }
+
+    /// The same of an event whose texts are borrowed. An event on a key that is held, which is no text, takes one
+    /// look-up, and no memory where its histogram has a value already.
+    pub fn apply_ref(&mut self, alloc: Global, event: &EventRef<'_>) -> Result<Verdict, ApplyFault>
+        requires { IsLawfulEvent (event_of event.now) }
+        ensures ok { IfOk result (λ verdict. IsApplied self.old (event_of event.now) verdict self.new) }
+        ensures err { IfErr result (λ fault. ApplyFails self.old (event_of event.now) fault self.new) }
+    {
         if self.store.events() == MAX_EVENTS {
             return Err(ApplyFault::Full);
         }
-        Ok(self.store.apply(alloc, event)?)
+        Ok(self.store.apply_ref(alloc, event)?)
     }
 
     /// Flushes the store, and shows that flush: the units and values since the page before, the words of the gauges, and
