@@ -1,0 +1,4 @@
+mod Bounded
+mod CanShow
+mod InStep
+mod Counting

@@ -1,0 +1,5 @@
+pub mod Telling
+pub mod Unbuilt
+pub mod Pages
+pub mod PagesKept
+pub mod Totals
