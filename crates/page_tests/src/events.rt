@@ -1,0 +1,48 @@
+//! Events of checked parts.
+
+use checked_events::{
+    EventFault, gauge_add, gauge_sub, inc, is_label, is_local_name, is_prefix, is_readout,
+    open_scope, rec, release, set_text,
+};
+use stat_defs::Mode;
+use std::test::Fail;
+
+#[test]
+fn the_part_at_fault_is_told(rt: HostRuntime) -> Result<(), Fail> {
+    let alloc = rt.alloc();
+    assert!(rt; inc(alloc, "", "a b", 1) == Err(EventFault::Label));
+    assert!(rt; rec(alloc, "a", "a b", 1) == Err(EventFault::Name));
+    assert!(rt; gauge_add(alloc, "a", "b", Mode::Never, 1 << 63) == Err(EventFault::Amount));
+    assert!(rt; set_text(alloc, "a", "b", "two\nlines") == Err(EventFault::Text));
+    assert!(rt; open_scope(alloc, "a", "-") == Err(EventFault::Prefix));
+    assert!(rt; release(alloc, "a-b") == Err(EventFault::Label));
+    Ok(())
+}
+
+#[test]
+fn lawful_parts_make_an_event(rt: HostRuntime) -> Result<(), Fail> {
+    let alloc = rt.alloc();
+    assert!(rt; gauge_sub(alloc, "a_1", "b.c", Mode::Uninit, 1).is_ok());
+    assert!(rt; set_text(alloc, "root", "version", "1.2 of 3").is_ok());
+    assert!(rt; open_scope(alloc, "a", "").is_ok());
+    Ok(())
+}
+
+#[test]
+fn rules_decide_whole_texts(rt: HostRuntime) -> Result<(), Fail> {
+    assert!(rt; is_label("east_1") && !is_label("") && !is_label("east.1"));
+    assert!(rt; is_local_name("rq.total") && !is_local_name("rq total"));
+    assert!(rt; is_prefix("") && is_prefix("http.") && !is_prefix("-"));
+    assert!(rt; is_readout("") && is_readout("two words") && !is_readout("\t"));
+    Ok(())
+}
+
+#[test]
+fn faults_say_what_is_asked(rt: HostRuntime) -> Result<(), Fail> {
+    let text = format!(in rt.alloc(); "{}; {}", EventFault::Label, EventFault::Amount)?;
+    assert_eq!(rt;
+        text.as_str(),
+        "a label has 1 to 32 letters, digits and low lines; a gauge's number is below 2^63"
+    );
+    Ok(())
+}
