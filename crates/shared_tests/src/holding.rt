@@ -55,6 +55,6 @@ fn a_reading_waits_for_no_seat(rt: HostRuntime) -> Result<(), Fail> {
     let holding = seat.hold(&way);
     let (_admin, told) = reader_calls(&desk, admin);
     let _seat = holding.let_go(&store.book);
-    assert!(rt; told == "{0:3}");
+    assert!(rt; told.as_str() == "{0:3}");
     Ok(())
 }
