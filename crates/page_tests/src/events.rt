@@ -2,20 +2,37 @@
 
 use checked_events::{
     EventFault, gauge_add, gauge_sub, inc, is_label, is_local_name, is_prefix, is_readout,
-    open_scope, rec, release, set_text,
+    open_scope, set_text,
 };
-use stat_defs::Mode;
+use stat_defs::{Event, Mode};
 use std::test::Fail;
 
+// The part at fault, where there is one.
+fn fault_of(made: Result<Event, EventFault>) -> Option<EventFault> {
+    match made {
+        Ok(_event) => None,
+        Err(fault) => Some(fault),
+    }
+}
+
 #[test]
-fn the_part_at_fault_is_told(rt: HostRuntime) -> Result<(), Fail> {
-    let alloc = rt.alloc();
-    assert!(rt; inc(alloc, "", "a b", 1) == Err(EventFault::Label));
-    assert!(rt; rec(alloc, "a", "a b", 1) == Err(EventFault::Name));
-    assert!(rt; gauge_add(alloc, "a", "b", Mode::Never, 1 << 63) == Err(EventFault::Amount));
-    assert!(rt; set_text(alloc, "a", "b", "two\nlines") == Err(EventFault::Text));
-    assert!(rt; open_scope(alloc, "a", "-") == Err(EventFault::Prefix));
-    assert!(rt; release(alloc, "a-b") == Err(EventFault::Label));
+fn the_first_part_at_fault_is_told(rt: HostRuntime) -> Result<(), Fail> {
+    let fault = fault_of(inc(rt.alloc(), "", "a b", 1));
+    assert!(rt; fault == Some(EventFault::Label));
+    Ok(())
+}
+
+#[test]
+fn a_number_at_fault_is_told(rt: HostRuntime) -> Result<(), Fail> {
+    let fault = fault_of(gauge_add(rt.alloc(), "a", "b", Mode::Never, 1 << 63));
+    assert!(rt; fault == Some(EventFault::Amount));
+    Ok(())
+}
+
+#[test]
+fn a_prefix_at_fault_is_told(rt: HostRuntime) -> Result<(), Fail> {
+    let fault = fault_of(open_scope(rt.alloc(), "a", "-"));
+    assert!(rt; fault == Some(EventFault::Prefix));
     Ok(())
 }
 

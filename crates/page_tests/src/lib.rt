@@ -1,4 +1,5 @@
-//! Tests of a store that is shown while it goes on, and of the events that it is told.
+//! Tests of events that are made of checked parts, and of what the faults of a store with pages say. The program
+//! `page_example` tries the pages.
 #![tactic(auto)]
 
 #[cfg(test)]
