@@ -37,8 +37,8 @@ fn a_reading_waits_for_no_seat(rt: HostRuntime) -> Result<(), Fail> {
     let (parties, _verdict) = one_call(&rt, alloc, parties, "1 inc root a 3");
     let Parties {
         store,
-        first: _,
-        second: _,
+        first,
+        second,
         rounds,
         admin,
     } = parties;
@@ -53,8 +53,13 @@ fn a_reading_waits_for_no_seat(rt: HostRuntime) -> Result<(), Fail> {
         store: &store,
     };
     let holding = seat.hold(&way);
-    let (_admin, told) = reader_calls(&desk, admin);
-    let _seat = holding.let_go(&store.book);
-    assert!(rt; told == "{0:3}");
+    let (admin, told) = reader_calls(&desk, admin);
+    let seat = holding.let_go(&store.book);
+    drop(first);
+    drop(second);
+    drop(admin);
+    drop(seat);
+    drop(store);
+    assert!(rt; told.as_str() == "{0:3}");
     Ok(())
 }

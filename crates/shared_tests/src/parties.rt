@@ -6,6 +6,7 @@ use recorder::{Ended, Recorder};
 use store_parts::Store;
 
 /// A worker and how many events it was given, or what it left.
+#[derive(Drop)]
 pub(crate) enum Worker {
     AtWork(Recorder, u32),
     Left(Ended),
