@@ -8,6 +8,8 @@ mod gates;
 #[cfg(test)]
 mod hard_files;
 #[cfg(test)]
+mod known;
+#[cfg(test)]
 mod names;
 #[cfg(test)]
 mod pulls;

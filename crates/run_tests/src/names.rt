@@ -1,12 +1,13 @@
 //! Names that come and go while readings are made: each reading has the names of one moment of the log, and no reading is
 //! of an earlier moment than the one before.
 
+use crate::known::KnownNames;
 use crate::runs::{file_of, repeated, run};
 use run_gates::PaceGate;
-use stat_defs::{Entry, ReadRecord, Reply, Report};
+use stat_defs::{Entry, Kind, NoMemory, ReadRecord, Report};
 use stats_io::MemSource;
 use std::alloc::Global;
-use std::process::Abort;
+use std::slice::Iter;
 use std::test::Fail;
 use worker_run::Given;
 
@@ -32,40 +33,41 @@ fn files(alloc: Global) -> Result<Vec<Given<MemSource>>, Fail> {
     Ok(files)
 }
 
-// How many metrics are not gone behind so many entries.
-fn names_behind(log: &[Entry], at: u64) -> u64 {
-    let mut names = 0u64;
-    let mut behind = 0u64;
-    for entry in log {
-        if behind == at {
-            return names;
-        }
-        behind = behind.wrapping_add(1);
-        match &entry.reply {
-            Reply::Made { .. } => names = names.wrapping_add(1),
-            Reply::Swept(gone) => names = names.wrapping_sub(*gone),
-            _ => {}
-        }
-    }
-    names
-}
-
 fn names_in(reading: &ReadRecord) -> u64 {
     (reading.counters.items().len() as u64).wrapping_add(reading.gauges.items().len() as u64)
 }
 
-// Whether each reading has as many names as were not gone behind its place, which never falls.
-fn are_of_the_log(report: &Report) -> bool {
-    let mut newest = 0u64;
-    for reading in report.reads.items() {
-        if reading.at < newest
-            || names_in(reading) != names_behind(report.log.items(), reading.at)
-        {
-            return false;
+// Follows the log up to the place of a reading. Whether the reading has the counters and the gauges that are not gone
+// there.
+fn is_of_its_place(
+    known: &mut KnownNames,
+    left: &mut Iter<'_, Entry>,
+    followed: u64,
+    reading: &ReadRecord,
+) -> Result<bool, NoMemory> {
+    for _ in followed..reading.at {
+        if let Some(entry) = left.next() {
+            known.follow(entry)?;
         }
-        newest = reading.at;
     }
-    true
+    Ok(
+        known.are(Kind::Counter, reading.counters.items())
+            && known.are(Kind::Gauge, reading.gauges.items()),
+    )
+}
+
+// Whether each reading has the names that were not gone behind its place, which never falls.
+fn are_of_the_log(alloc: Global, report: &Report) -> Result<bool, NoMemory> {
+    let mut known = KnownNames::new(alloc, 4)?;
+    let mut left = report.log.items().iter();
+    let mut followed = 0u64;
+    for reading in report.reads.items() {
+        if reading.at < followed || !is_of_its_place(&mut known, &mut left, followed, reading)? {
+            return Ok(false);
+        }
+        followed = reading.at;
+    }
+    Ok(known.agrees)
 }
 
 // The most names that a reading had.
@@ -84,7 +86,7 @@ fn readings_are_of_one_moment_each(rt: HostRuntime) -> Result<(), Fail> {
     for _ in 0..RUNS {
         let gate = PaceGate::new(alloc, 4, 5)?;
         let report = run(&rt, alloc, &gate, MANY_READINGS, files(alloc)?)?;
-        assert!(rt; are_of_the_log(&report));
+        assert!(rt; are_of_the_log(alloc, &report)?);
         most = most.max(most_names(&report));
         drop(report);
     }
