@@ -13,22 +13,18 @@ use Rattle.loglinear_bins.proofs.Tables.{listed-drop-none, listed-drop-some, lis
 
 -- the table so far, with the places of the other one that are still to come, has all values of both
 pub record Merges (others : List ℕ) (place : ℕ) (mine : List ℕ) (all : ℕ) (before : List BinCount) : Type 0 where
-  pub full : length mine ≡ BIN_COUNT
-  pub others_full : length others ≡ BIN_COUNT
+  pub within : length mine ≤ BIN_COUNT
   pub counted : sum mine + sum (drop place others) ≡ all
   pub few : all ≤ MAX_COUNT
   pub same : merged (listed 0 mine) (listed place (drop place others)) ≡ merged before (listed 0 others)
 
 pub merges_start : (others mine : List ℕ) (m n first past : ℕ) → IsTable mine m → IsTable others n → IsOccupied others first past → m + n ≤ MAX_COUNT → Merges others first mine (m + n) (listed 0 mine)
-merges_start others mine m n first past one other part few =
-    let within : first ≤ length others = omega (arith, part.first_within, other.full) in
-    record {
-      full = one.full;
-      others_full = other.full;
-      counted = omega (arith, one.counted, other.counted, sum-first others first within part.below);
-      few = few;
-      same = ap (merged (listed 0 mine)) (listed-first others first within part.below);
-    }
+merges_start others mine m n first past one other part few = record {
+  within = one.within;
+  counted = omega (arith, one.counted, other.counted, sum-first others first part.below);
+  few = few;
+  same = ap (merged (listed 0 mine)) (listed-first others first part.below);
+}
 
 merged_step : (others mine : List ℕ) (place here : ℕ) → place < length others → place < length mine → here ≡ get_or mine place here → merged (listed 0 (set mine place (here + get_or others place 0))) (listed (place + 1) (drop (place + 1) others)) ≡ merged (listed 0 mine) (listed place (drop place others))
 merged_step others mine place here short mine_short is = elim (cases_lt 0 (get_or others place 0)) [
@@ -46,26 +42,23 @@ merged_step others mine place here short mine_short is = elim (cases_lt 0 (get_o
     some_more others mine place here n short mine_short is at some =
         rw (add-one, listed-added-at mine place here n mine_short is, listed-drop-some place others short (omega arith)) (rw (← at) refl)
 
-pub merges_step : (others mine : List ℕ) (place here all : ℕ) (before : List BinCount) → place < length others → here ≡ get_or mine place here → Merges others place mine all before → Merges others (place + 1) (set mine place (here + get_or others place 0)) all before
-merges_step others mine place here all before short is m =
-    let mine_short : place < length mine = omega (arith, m.full, m.others_full) in
-    record {
-      full = length-set mine place (here + get_or others place 0) ∙ m.full;
-      others_full = m.others_full;
-      counted = omega (arith, m.counted, sum_by-set (λ n. n) mine place (here + get_or others place 0) here mine_short, sum_by-drop_more (λ n. n) others place 0 short);
-      few = m.few;
-      same = merged_step others mine place here short mine_short is ∙ m.same;
-    }
+pub merges_step : (others mine : List ℕ) (place here all : ℕ) (before : List BinCount) → place < length others → place < length mine → here ≡ get_or mine place here → Merges others place mine all before → Merges others (place + 1) (set mine place (here + get_or others place 0)) all before
+merges_step others mine place here all before short mine_short is m = record {
+  within = omega (arith, length-set mine place (here + get_or others place 0), m.within);
+  counted = omega (arith, m.counted, sum_by-set (λ n. n) mine place (here + get_or others place 0) here mine_short, sum_by-drop_more (λ n. n) others place 0 short);
+  few = m.few;
+  same = merged_step others mine place here short mine_short is ∙ m.same;
+}
 
 -- no sum is above the number of all values
-pub merges_room : (others mine : List ℕ) (place here all : ℕ) (before : List BinCount) → place < length others → here ≡ get_or mine place here → Merges others place mine all before → here + get_or others place 0 ≤ all
-merges_room others mine place here all before short is m =
-    omega (arith, m.counted, get_or-le-sum_by (λ n. n) mine place here (omega (arith, m.full, m.others_full)), sum_by-drop_more (λ n. n) others place 0 short)
+pub merges_room : (others mine : List ℕ) (place here all : ℕ) (before : List BinCount) → place < length others → place < length mine → here ≡ get_or mine place here → Merges others place mine all before → here + get_or others place 0 ≤ all
+merges_room others mine place here all before short mine_short is m =
+    omega (arith, m.counted, get_or-le-sum_by (λ n. n) mine place here mine_short, sum_by-drop_more (λ n. n) others place 0 short)
 
 pub merges_table : (others mine : List ℕ) (first past place all : ℕ) (before : List BinCount) → past ≤ place → IsOccupied others first past → Merges others place mine all before → IsTable mine all
 merges_table others mine first past place all before end part m =
     let rest : sum (drop place others) ≡ 0 = sum-past others place (λ k later. part.above k (omega (arith, end, later))) in
-    record { full = m.full; counted = omega (arith, m.counted, rest); limit = m.few }
+    record { within = m.within; counted = omega (arith, m.counted, rest); limit = m.few }
 
 pub merges_end : (others mine : List ℕ) (first past place all : ℕ) (before : List BinCount) → past ≤ place → IsOccupied others first past → Merges others place mine all before → listed 0 mine ≡ merged before (listed 0 others)
 merges_end others mine first past place all before end part m =

@@ -1,15 +1,15 @@
 -- The part of a table outside of which every count is 0.
-use Rattle.std.proofs.Common.{◌≡◌, ℕ, suc, zero, ◌+◌, ◌<◌, ◌≤◌, min, max, List, [], ◌∷◌, length, get_or, set, drop, replicate, refl, sym, ap, ◌∙◌, arith, add-one, inl, inr, sum}
+use Rattle.std.proofs.Common.{◌≡◌, ℕ, suc, zero, ◌+◌, ◌-◌, ◌<◌, ◌≤◌, min, max, List, [], ◌∷◌, ◌++◌, length, get_or, set, drop, replicate, refl, sym, ap, ◌∙◌, arith, inl, inr, sum}
 use Rattle.std.proofs.Math.ListN.{drop_of_length-le}
 use Rattle.std.proofs.lemmas.Bool.{cases_lt}
-use Rattle.std.proofs.lemmas.List.{length-set, get_or-set_other}
+use Rattle.std.proofs.lemmas.List.{length-append, length-replicate, length-set, get_or-set_other}
 use Rattle.std.proofs.lemmas.Grind.{get_or-set_at}
-use Rattle.std.proofs.lemmas.List.Sums.{sum_by-cons, sum_by-drop_more}
+use Rattle.std.proofs.lemmas.List.Sums.{sum_by-cons}
 use Rattle.stat_defs.specs.declared.bins.BinCount.{BinCount}
 use Rattle.loglinear_bins.specs.declared.place.TheConstants.{BIN_COUNT}
 use Rattle.loglinear_bins.specs.Counts.{total}
 use Rattle.loglinear_bins.specs.Table.{bin_at, listed, IsTable, IsOccupied}
-use Rattle.loglinear_bins.proofs.Tables.{listed-nil, listed-drop-none, total-listed, total-view}
+use Rattle.loglinear_bins.proofs.Tables.{listed-nil, listed-drop-none, listed-filled, total-listed, total-view}
 
 abbrev AreNoneBelow : List ℕ → ℕ → Type 0
 AreNoneBelow ns first = (place : ℕ) → place < first → get_or ns place 0 ≡ 0
@@ -18,19 +18,20 @@ abbrev AreNoneFrom : List ℕ → ℕ → Type 0
 AreNoneFrom ns past = (place : ℕ) → past ≤ place → get_or ns place 0 ≡ 0
 
 -- nothing is listed, or counted, before the first place that is not empty
-pub listed-first : (ns : List ℕ) (first : ℕ) → first ≤ length ns → AreNoneBelow ns first → listed first (drop first ns) ≡ listed 0 ns
-listed-first ns zero short none = refl
-listed-first ns (suc first) short none =
-    sym (listed-drop-none first ns (omega arith) (none first (omega arith)))
-    ∙ listed-first ns first (omega arith) (λ place below. none place (omega (arith, below)))
+pub listed-first : (ns : List ℕ) (first : ℕ) → AreNoneBelow ns first → listed first (drop first ns) ≡ listed 0 ns
+listed-first ns zero none = refl
+listed-first ns (suc first) none =
+    let before = listed-first ns first (λ place below. none place (omega (arith, below))) in
+    elim (cases_lt first (length ns)) [
+      | inl short ↦ sym (listed-drop-none first ns short (none first (omega arith))) ∙ before
+      | inr past ↦
+          ap (listed (suc first)) (drop_of_length-le ns {i = suc first} (omega (arith, past))) ∙ listed-nil (suc first)
+          ∙ sym (ap (listed first) (drop_of_length-le ns {i = first} past) ∙ listed-nil first) ∙ before
+    ]
 
-pub sum-first : (ns : List ℕ) (first : ℕ) → first ≤ length ns → AreNoneBelow ns first → sum (drop first ns) ≡ sum ns
-sum-first ns zero short none = refl
-sum-first ns (suc first) short none =
-    let more : sum (drop first ns) ≡ get_or ns first 0 + sum (drop (first + 1) ns) = sum_by-drop_more (λ n. n) ns first 0 (omega arith) in
-    let here : get_or ns first 0 ≡ 0 = none first (omega arith) in
-    let rest = sum-first ns first (omega arith) (λ place below. none place (omega (arith, below))) in
-    omega (arith, rw add-one at more, here, rest)
+pub sum-first : (ns : List ℕ) (first : ℕ) → AreNoneBelow ns first → sum (drop first ns) ≡ sum ns
+sum-first ns first none =
+    sym (total-listed first (drop first ns)) ∙ ap total (listed-first ns first none) ∙ total-listed 0 ns
 
 -- nor from the place on that follows the last one
 listed-past_by : (left : ℕ) (ns : List ℕ) (place : ℕ) → length ns ≤ place + left → AreNoneFrom ns place → listed place (drop place ns) ≡ []
@@ -50,11 +51,10 @@ sum-past ns place none = sym (total-listed place (drop place ns)) ∙ ap total (
 
 -- ---- the part that a loop writes in
 
-pub wider : (ns : List ℕ) (first past one other : ℕ) → one ≤ BIN_COUNT → other ≤ BIN_COUNT → IsOccupied ns first past → IsOccupied ns (min first one) (max past other)
-wider ns first past one other one_within other_within is = record {
+pub wider : (ns : List ℕ) (first past one other : ℕ) → other ≤ length ns → IsOccupied ns first past → IsOccupied ns (min first one) (max past other)
+wider ns first past one other other_within is = record {
   below = λ place less. is.below place (omega (arith, less));
   above = λ place past. is.above place (omega (arith, past));
-  first_within = omega (arith, is.first_within);
   past_within = omega (arith, is.past_within, other_within);
 }
 
@@ -62,43 +62,70 @@ pub written : (ns : List ℕ) (first past place n : ℕ) → first ≤ place →
 written ns first past place n low high is = record {
   below = λ k less. get_or-set_other ns place k n 0 (λ e. absurd (omega (arith, less, low, e))) ∙ is.below k less;
   above = λ k most. get_or-set_other ns place k n 0 (λ e. absurd (omega (arith, most, high, e))) ∙ is.above k most;
-  first_within = is.first_within;
-  past_within = is.past_within;
+  past_within = omega (arith, length-set ns place n, is.past_within);
 }
 
 pub none_occupied : (ns : List ℕ) → AreNoneFrom ns 0 → IsOccupied ns BIN_COUNT 0
 none_occupied ns none = record {
   below = λ place less. none place (omega arith);
   above = none;
-  first_within = omega arith;
   past_within = omega arith;
 }
 
-pub none_in_new : (n k : ℕ) → ◌≡◌ {A = ℕ} (get_or (replicate n 0) k 0) 0
+none_in_new : (n k : ℕ) → ◌≡◌ {A = ℕ} (get_or (replicate n 0) k 0) 0
 none_in_new zero k = refl
 none_in_new (suc n) zero = refl
 none_in_new (suc n) (suc k) = none_in_new n k
 
+-- ---- zeros at the end
+
+get_or-filled : (n : ℕ) (ns : List ℕ) (k : ℕ) → get_or (ns ++ replicate n 0) k 0 ≡ get_or ns k 0
+get_or-filled n [] k = none_in_new n k
+get_or-filled n (m ∷ ns) zero = refl
+get_or-filled n (m ∷ ns) (suc k) = get_or-filled n ns k
+
+length-filled : (n : ℕ) (ns : List ℕ) → length (ns ++ replicate n 0) ≡ length ns + n
+length-filled n ns = length-append ns (replicate n 0) ∙ ap (λ k. length ns + k) (length-replicate n 0)
+
+pub long_enough : (len : ℕ) (ns : List ℕ) → len ≤ length (ns ++ replicate (len - length ns) 0)
+long_enough len ns = omega (arith, length-filled (len - length ns) ns)
+
+pub table_filled : (len n : ℕ) (ns : List ℕ) → len ≤ BIN_COUNT → IsTable ns n → IsTable (ns ++ replicate (len - length ns) 0) n
+table_filled len n ns short table = record {
+  within = omega (arith, length-filled (len - length ns) ns, table.within);
+  counted =
+      sym (total-listed 0 (ns ++ replicate (len - length ns) 0)) ∙ ap total (listed-filled 0 (len - length ns) ns)
+      ∙ total-listed 0 ns ∙ table.counted;
+  limit = table.limit;
+}
+
+pub part_filled : (len first past : ℕ) (ns : List ℕ) → IsOccupied ns first past → IsOccupied (ns ++ replicate (len - length ns) 0) first past
+part_filled len first past ns part = record {
+  below = λ place less. get_or-filled (len - length ns) ns place ∙ part.below place less;
+  above = λ place most. get_or-filled (len - length ns) ns place ∙ part.above place most;
+  past_within = omega (arith, length-filled (len - length ns) ns, part.past_within);
+}
+
 -- ---- a loop that clears the places of the part
 
 pub record Clears (ns : List ℕ) (place past : ℕ) : Type 0 where
-  pub full : length ns ≡ BIN_COUNT
+  pub within : length ns ≤ BIN_COUNT
   pub below : AreNoneBelow ns place
   pub above : AreNoneFrom ns past
-  pub past_within : past ≤ BIN_COUNT
+  pub past_within : past ≤ length ns
 
-pub clears_start : (ns : List ℕ) (first past : ℕ) → length ns ≡ BIN_COUNT → IsOccupied ns first past → Clears ns first past
-clears_start ns first past full is = record { full = full; below = is.below; above = is.above; past_within = is.past_within }
+pub clears_start : (ns : List ℕ) (first past : ℕ) → length ns ≤ BIN_COUNT → IsOccupied ns first past → Clears ns first past
+clears_start ns first past within is = record { within = within; below = is.below; above = is.above; past_within = is.past_within }
 
 pub clears_step : (ns : List ℕ) (place past : ℕ) → place < past → Clears ns place past → Clears (set ns place 0) (place + 1) past
 clears_step ns place past before is = record {
-  full = length-set ns place 0 ∙ is.full;
+  within = omega (arith, length-set ns place 0, is.within);
   below = λ k less. elim (cases_lt k place) [
     | inl earlier ↦ get_or-set_other ns place k 0 0 (λ e. absurd (omega (arith, earlier, e))) ∙ is.below k earlier
-    | inr later ↦ get_or-set_at ns place k 0 0 (omega (arith, less, later)) (omega (arith, before, is.full, is.past_within))
+    | inr later ↦ get_or-set_at ns place k 0 0 (omega (arith, less, later)) (omega (arith, before, is.past_within))
   ];
   above = λ k most. get_or-set_other ns place k 0 0 (λ e. absurd (omega (arith, most, before, e))) ∙ is.above k most;
-  past_within = is.past_within;
+  past_within = omega (arith, length-set ns place 0, is.past_within);
 }
 
 all_cleared : (ns : List ℕ) (place past : ℕ) → past ≤ place → Clears ns place past → AreNoneFrom ns 0
@@ -110,7 +137,7 @@ all_cleared ns place past end is k _ = elim (cases_lt k place) [
 pub cleared_table : (ns : List ℕ) (place past : ℕ) → past ≤ place → Clears ns place past → IsTable ns 0 × IsOccupied ns BIN_COUNT 0
 cleared_table ns place past end is =
     let none = all_cleared ns place past end is in
-    (record { full = is.full; counted = sum-past ns 0 none; limit = omega arith }, none_occupied ns none)
+    (record { within = is.within; counted = sum-past ns 0 none; limit = omega arith }, none_occupied ns none)
 
 pub cleared_view : (ns : List ℕ) (place past : ℕ) → past ≤ place → Clears ns place past → listed 0 ns ≡ []
 cleared_view ns place past end is = listed-past ns 0 (all_cleared ns place past end is)

@@ -15,11 +15,11 @@ use Rattle.loglinear_bins.proofs.Tables.{listed-drop-none, listed-drop-some, lis
 -- the counts that a loop goes over are those that contracts see
 pub record Shows (ns : List ℕ) (counts : List BinCount) : Type 0 where
   pub view : listed 0 ns ≡ counts
-  pub full : length ns ≡ BIN_COUNT
+  pub within : length ns ≤ BIN_COUNT
   pub few : total counts ≤ MAX_COUNT
 
 pub shown : (ns : List ℕ) (n : ℕ) (counts : List BinCount) → listed 0 ns ≡ counts → IsTable ns n → Shows ns counts
-shown ns n counts view table = record { view = view; full = table.full; few = omega (arith, total-view ns n counts view table, table.limit) }
+shown ns n counts view table = record { view = view; within = table.within; few = omega (arith, total-view ns n counts view table, table.limit) }
 
 -- a sum over the places from this one on is that of this place and those after it
 pub sum-listed-drop : (f : BinCount → ℕ) → ((bin : Bin) → f (record { bin = bin; count = 0 }) ≡ 0) → (i : ℕ) (ns : List ℕ) → i < length ns → sum_by f (listed i (drop i ns)) ≡ f (record { bin = bin_at i; count = get_or ns i 0 }) + sum_by f (listed (suc i) (drop (suc i) ns))

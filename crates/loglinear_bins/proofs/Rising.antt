@@ -46,9 +46,9 @@ all_rising k [] = λ j short. absurd (omega arith)
 all_rising k (zero ∷ ns) = all_rising (suc k) ns
 all_rising k (suc n ∷ ns) = rising-cons (low_tenths (bin_at k)) (lows (listed (suc k) ns)) (first_above k (suc k) ns (omega arith)) (all_rising (suc k) ns)
 
-pub IsBinList-listed : (ns : List ℕ) → length ns ≡ BIN_COUNT → IsBinList (listed 0 ns)
+pub IsBinList-listed : (ns : List ℕ) → length ns ≤ BIN_COUNT → IsBinList (listed 0 ns)
 IsBinList-listed ns full = record { lawful = all_lawful 0 ns (omega arith); rising = all_rising 0 ns; some = all_some 0 ns }
 
 -- so is what contracts see
 pub IsBinList-shown : (ns : List ℕ) (counts : List BinCount) → Shows ns counts → IsBinList counts
-IsBinList-shown ns counts shows = subst IsBinList shows.view (IsBinList-listed ns shows.full)
+IsBinList-shown ns counts shows = subst IsBinList shows.view (IsBinList-listed ns shows.within)

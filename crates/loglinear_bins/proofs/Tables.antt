@@ -1,5 +1,5 @@
 -- The bins that a table lists.
-use Rattle.std.proofs.Common.{◌≡◌, ℕ, suc, zero, ◌+◌, ◌<◌, ◌≤◌, true, List, [], ◌∷◌, length, get_or, set, drop, refl, sym, ap, ◌∙◌, arith, sum, replicate}
+use Rattle.std.proofs.Common.{◌≡◌, ℕ, suc, zero, ◌+◌, ◌<◌, ◌≤◌, true, List, [], ◌∷◌, ◌++◌, length, get_or, set, drop, refl, sym, ap, ◌∙◌, arith, sum, replicate}
 use Rattle.std.proofs.lemmas.Bool.{lt-ltb, le-ltb}
 use Rattle.std.proofs.lemmas.List.{length-set, set-get_or, get_or_default}
 use Rattle.std.proofs.lemmas.List.Sums.{sum_by-cons, sum_by-set}
@@ -7,7 +7,7 @@ use Rattle.std.proofs.Math.Seq.{drop-cons}
 use Rattle.stat_defs.specs.declared.bins.Bin.{Bin}
 use Rattle.stat_defs.specs.declared.bins.BinCount.{BinCount}
 use Rattle.loglinear_bins.specs.Bins.{is_lawful}
-use Rattle.loglinear_bins.specs.declared.place.TheConstants.{BIN_COUNT, MAX_COUNT}
+use Rattle.loglinear_bins.specs.declared.place.TheConstants.{MAX_COUNT}
 use Rattle.loglinear_bins.specs.Counts.{placed, added, total}
 use Rattle.loglinear_bins.specs.Table.{bin_at, place_of, listed, IsTable}
 use Rattle.loglinear_bins.proofs.Places.{is_same-refl, bin_at-place_of}
@@ -56,6 +56,13 @@ unfolding listed
 listed-replicate k zero = refl
 listed-replicate k (suc n) = listed-replicate (suc k) n
 
+-- nor do zeros at the end
+pub listed-filled : (k n : ℕ) (ns : List ℕ) → listed k (ns ++ replicate n 0) ≡ listed k ns
+unfolding listed
+listed-filled k n [] = listed-replicate k n
+listed-filled k n (zero ∷ ns) = listed-filled (suc k) n ns
+listed-filled k n (suc m ∷ ns) = ap (λ (cs : List BinCount). (record { bin = bin_at k; count = suc m }) ∷ cs) (listed-filled (suc k) n ns)
+
 at_cons : (k n : ℕ) (ns : List ℕ) → n ≡ 0 → listed k (n ∷ ns) ≡ listed (suc k) ns
 unfolding listed
 at_cons k zero ns none = refl
@@ -83,10 +90,10 @@ pub total-view : (ns : List ℕ) (n : ℕ) (counts : List BinCount) → listed 0
 total-view ns n counts view table = ap total (sym view) ∙ (total-listed 0 ns ∙ table.counted)
 
 -- a write of `n` more keeps the table
-pub IsTable-set : (ns : List ℕ) (total place here n : ℕ) → IsTable ns total → place < BIN_COUNT → here ≡ get_or ns place here → total + n ≤ MAX_COUNT → IsTable (set ns place (here + n)) (total + n)
+pub IsTable-set : (ns : List ℕ) (total place here n : ℕ) → IsTable ns total → place < length ns → here ≡ get_or ns place here → total + n ≤ MAX_COUNT → IsTable (set ns place (here + n)) (total + n)
 IsTable-set ns total place here n table below is room = record {
-  full = length-set ns place (here + n) ∙ table.full;
-  counted = omega (arith, sum_by-set (λ m. m) ns place (here + n) here (omega (arith, table.full)), table.counted);
+  within = omega (arith, length-set ns place (here + n), table.within);
+  counted = omega (arith, sum_by-set (λ m. m) ns place (here + n) here below, table.counted);
   limit = room;
 }
 

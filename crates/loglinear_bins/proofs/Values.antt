@@ -59,4 +59,4 @@ pub IsBinList-bins_of : (values : List ℕ) → All (λ v. v < 2 ^ 64) values �
 IsBinList-bins_of values small =
     let table = counted_in (replicate BIN_COUNT 0) values (length-replicate {A = ℕ} BIN_COUNT 0) small in
     let same : bins_of values ≡ listed 0 table.0 = ap (λ cs. counting cs values) (sym (listed-replicate 0 BIN_COUNT)) ∙ table.2 in
-    subst IsBinList (sym same) (IsBinList-listed table.0 table.1)
+    subst IsBinList (sym same) (IsBinList-listed table.0 (omega (arith, table.1)))

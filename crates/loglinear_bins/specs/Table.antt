@@ -25,9 +25,9 @@ listed place [] = []
 listed place (zero ∷ ns) = listed (suc place) ns
 listed place (suc n ∷ ns) = (record { bin = bin_at place; count = suc n }) ∷ listed (suc place) ns
 
--- what every table keeps: a count for each lawful bin, their sum and its limit
+-- what every table keeps: counts of the first places, of which there is one for each lawful bin, their sum and its limit
 pub record IsTable (counts : List ℕ) (n : ℕ) : Type 0 where
-  pub full : length counts ≡ BIN_COUNT
+  pub within : length counts ≤ BIN_COUNT
   pub counted : sum counts ≡ n
   pub limit : n ≤ MAX_COUNT
 
@@ -35,5 +35,4 @@ pub record IsTable (counts : List ℕ) (n : ℕ) : Type 0 where
 pub record IsOccupied (counts : List ℕ) (first past : ℕ) : Type 0 where
   pub below : (place : ℕ) → place < first → get_or counts place 0 ≡ 0
   pub above : (place : ℕ) → past ≤ place → get_or counts place 0 ≡ 0
-  pub first_within : first ≤ BIN_COUNT
-  pub past_within : past ≤ BIN_COUNT
+  pub past_within : past ≤ length counts

@@ -1,5 +1,5 @@
 //! The counts of a histogram.
-ghost use Rattle.std.specs.Prelude.{◌≡◌, ◌+◌, ◌<◌, ◌≤◌, ◌↔◌, IfOk, IsNone, IsTrue, []};
+ghost use Rattle.std.specs.Prelude.{◌≡◌, ◌+◌, ◌-◌, ◌<◌, ◌≤◌, ◌↔◌, ◌++◌, IfOk, IsNone, IsTrue, [], length, replicate, vec_capacity};
 ghost use Rattle.loglinear_bins.specs.Bins.{bin_of_value, is_lawful};
 ghost use Rattle.loglinear_bins.specs.Counts.{AreLawful, IsBinList, total, added, merged, count_at_most, sum_of};
 ghost use Rattle.loglinear_bins.specs.Counts.{value_at, quantile_of};
@@ -15,6 +15,7 @@ use std::marker::Model;
 /// Contracts see the bins that are not empty, rising, with their counts.
 #[derive(Drop, Debug)]
 pub struct Bins {
+    // The places up to the highest that was ever counted, in room for all: memory that holds no count stays untouched.
     counts: Vec<u64>,
     total: u64,
     // Every count below the first place, and from the second one on, is 0.
@@ -23,7 +24,8 @@ pub struct Bins {
 }
 
 impl Model for Bins {
-    ghost use Rattle.std.specs.Prelude.{List};
+    ghost use Rattle.std.specs.Prelude.{List, ◌≤◌, vec_capacity};
+    ghost use Rattle.loglinear_bins.specs.declared.place.TheConstants.{BIN_COUNT};
     ghost use Rattle.stat_defs.specs.declared.bins.BinCount.{BinCount};
     ghost use Rattle.loglinear_bins.specs.Table.{listed, IsTable, IsOccupied};
 
@@ -31,7 +33,9 @@ impl Model for Bins {
 
     ghost view = { λ b. listed 0 b.counts.items };
 
-    ghost invariant = { λ b. IsTable b.counts.items b.total × IsOccupied b.counts.items b.from b.to };
+    ghost invariant = { λ b. IsTable b.counts.items b.total
+        × IsOccupied b.counts.items b.from b.to
+        × (BIN_COUNT ≤ vec_capacity b.counts) };
 }
 
 impl Bins {
@@ -40,7 +44,7 @@ impl Bins {
         ensures { IfOk result (λ bins. bins ≡ []) }
     {
         Ok(Bins {
-            counts: vec![in alloc; 0; BIN_COUNT]?,
+            counts: Vec::with_capacity(alloc, BIN_COUNT)?,
             total: 0,
             from: BIN_COUNT as u32,
             to: 0,
@@ -75,6 +79,7 @@ impl Bins {
         ensures { self.new ≡ added self.old bin n }
     {
         let place = place_of(bin);
+        fill_to(&mut self.counts, place + 1);
         self.counts[place] += n;
         self.total += n;
         self.from = self.from.min(place as u32);
@@ -86,6 +91,7 @@ impl Bins {
         requires { total self.old + total other.now ≤ MAX_COUNT }
         ensures { self.new ≡ merged self.old other.now }
     {
+        fill_to(&mut self.counts, other.to as usize);
         for place in other.from as usize..other.to as usize {
             self.counts[place] += other.counts[place];
         }
@@ -190,5 +196,16 @@ impl Bins {
             }
         }
         Ok(List::of(pairs))
+    }
+}
+
+/// Appends zeros up to a length that there is room for.
+fn fill_to(counts: &mut Vec<u64>, len: usize)
+    requires { len ≤ vec_capacity counts.old }
+    ensures items { counts.new.items ≡ counts.old.items ++ replicate (len - length counts.old.items) 0 }
+    ensures room { vec_capacity counts.new ≡ vec_capacity counts.old }
+{
+    for _ in counts.len()..len {
+        counts.push_reserved(0);
     }
 }
