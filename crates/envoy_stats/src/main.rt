@@ -10,8 +10,6 @@ ghost use Rattle.envoy_stats.specs.Running.{Serves};
 
 mod asked;
 #[cfg(test)]
-mod example_texts;
-#[cfg(test)]
 mod failing_parts;
 mod laws;
 mod load;
@@ -19,8 +17,6 @@ mod program;
 mod run;
 #[cfg(test)]
 mod run_rows;
-#[cfg(test)]
-mod tests;
 
 pub use flush_view::flush_view;
 pub use laws::{loads_alike, program_fails_by_cause, program_keeps_the_table};

@@ -3,8 +3,6 @@
 ghost use Rattle.std.specs.Prelude.{◌≤◌, IfOk};
 
 use crate::envoy_stats_with;
-use crate::example_texts::EDGE_JSON;
-use crate::tests::{Played, Wanted, assert_played, file_of, shelf_of, shelf_with, words_of};
 use name_map::HashKey;
 use stat_defs::{FlushRecord, MetricId, Report, Verdict};
 use stats_io::{MemFile, MemShelf, MemSink};
@@ -14,6 +12,9 @@ use std::sync::Wait;
 use std::test::Fail;
 use std::thread::Threads;
 use tag_rules::RegexMaker;
+use test_support::{
+    EDGE_JSON, Played, Wanted, assert_played, file_of, shelf_of, shelf_with, words_of,
+};
 
 // What a call of the program over that shelf comes to, with that output sink.
 fn run_into<R: Threads + Wait + Sync>(
@@ -50,11 +51,11 @@ fn run_over<R: Threads + Wait + Sync>(
     run_into(rt, alloc, words, shelf, out)
 }
 
-// A call with its files, parted by `|`, the number of the pull that fails of each file, and what it comes to.
+// A call with the files `f1` and `f2`, the number of the pull that fails of each file, and what it comes to.
 #[derive(Clone, Copy)]
 struct Row {
     words: &'static str,
-    files: &'static str,
+    files: [&'static str; 2],
     failing_pull: u64,
     status: u8,
     out: &'static str,
@@ -64,7 +65,7 @@ struct Row {
 const ROWS: [Row; 6] = [
     Row {
         words: "run - f1 f2",
-        files: "inc root a 1\ninc root a 2\n|inc root a 4\n",
+        files: ["inc root a 1\ninc root a 2\n", "inc root a 4\n"],
         failing_pull: 99,
         status: 0,
         out: "# last\nenvoy.a:7|c\n# worker 1: 2 accepted, 0 dropped\n# worker 2: 1 accepted, 0 dropped\n",
@@ -72,7 +73,10 @@ const ROWS: [Row; 6] = [
     },
     Row {
         words: "run --format admin - f1",
-        files: "text root t x y\nadd root g acc 5\nsub root g acc 7\ninc web n 1\n",
+        files: [
+            "text root t x y\nadd root g acc 5\nsub root g acc 7\ninc web n 1\n",
+            "",
+        ],
         failing_pull: 99,
         status: 0,
         out: "# last\nt: \"x y\"\ng: -2\n# worker 1: 3 accepted, 1 dropped\n",
@@ -80,7 +84,7 @@ const ROWS: [Row; 6] = [
     },
     Row {
         words: "run - f1 f9 f2",
-        files: "inc root a 1\n|inc root a 4\n",
+        files: ["inc root a 1\n", "inc root a 4\n"],
         failing_pull: 99,
         status: 4,
         out: "# last\nenvoy.a:5|c\n# worker 1: 1 accepted, 0 dropped\n# worker 2: 0 accepted, 0 dropped\n# worker 3: 1 accepted, 0 dropped\n",
@@ -88,7 +92,7 @@ const ROWS: [Row; 6] = [
     },
     Row {
         words: "run - f1 f2",
-        files: "inc root a 1\ninc root b 2\n|inc root c 4\n",
+        files: ["inc root a 1\ninc root b 2\n", "inc root c 4\n"],
         failing_pull: 1,
         status: 4,
         out: "# last\nenvoy.a:1|c\nenvoy.c:4|c\n# worker 1: 1 accepted, 0 dropped\n# worker 2: 1 accepted, 0 dropped\n",
@@ -96,7 +100,7 @@ const ROWS: [Row; 6] = [
     },
     Row {
         words: "run - f1 f2",
-        files: "inc root a 1\nbogus\n|inc root c 4\n",
+        files: ["inc root a 1\nbogus\n", "inc root c 4\n"],
         failing_pull: 99,
         status: 3,
         out: "# last\nenvoy.a:1|c\nenvoy.c:4|c\n# worker 1: 1 accepted, 0 dropped\n# worker 2: 1 accepted, 0 dropped\n",
@@ -104,7 +108,7 @@ const ROWS: [Row; 6] = [
     },
     Row {
         words: "run f1 f2",
-        files: "[|inc root c 4\n",
+        files: ["[", "inc root c 4\n"],
         failing_pull: 99,
         status: 2,
         out: "",
@@ -112,20 +116,17 @@ const ROWS: [Row; 6] = [
     },
 ];
 
-// The files of a text, parted by `|`, as `shelf_with` takes them.
-fn parted(alloc: Global, files: &str) -> Result<Vec<u8>, Fail> {
-    let mut bytes = Vec::new(alloc);
-    for b in files.as_bytes() {
-        bytes.push(if *b == b'|' { 3 } else { *b })?;
-    }
-    Ok(bytes)
-}
-
 #[test]
 fn workers_side_by_side(rt: HostRuntime) -> Result<(), Fail> {
     for row in ROWS {
-        let files = parted(rt.alloc(), row.files)?;
-        let shelf = shelf_with(rt.alloc(), &files, row.failing_pull)?;
+        let [first, second] = row.files;
+        let shelf = shelf_with(
+            rt.alloc(),
+            first.as_bytes(),
+            second.as_bytes(),
+            b"",
+            row.failing_pull,
+        )?;
         let played = run_over(&rt, rt.alloc(), row.words, shelf, 9_999)?;
         let wanted = Wanted {
             status: row.status,
@@ -133,7 +134,7 @@ fn workers_side_by_side(rt: HostRuntime) -> Result<(), Fail> {
             out: row.out.as_bytes(),
             err: row.err.as_bytes(),
         };
-        assert_played(&rt, row.words.as_bytes(), &played, wanted);
+        assert_played(&rt, row.words, &played, wanted);
     }
     Ok(())
 }

@@ -39,6 +39,6 @@ for format in statsd prom admin; do
   try "tags.$format" replay --symbols --format "$format" examples/tags.json examples/tags.events
   try "run.$format" run --format "$format" examples/run.json examples/{east,west}.events
 done
-texts | cmp -s - crates/envoy_stats/src/example_texts.rt
+texts | cmp -s - crates/test_support/src/example_texts.rt
 told $? example_texts.rt
 exit "$wrong"
