@@ -22,7 +22,7 @@ use Rattle.file_reading.specs.FileRead.{FileRead, all_events, IsFile, AreFiles}
 use Rattle.replay_report.specs.Applying.{AreApplied}
 use Rattle.file_reading.proofs.FileOpened.{file_read, file_unopened}
 use Rattle.replay_report.specs.FileRun.{all_verdicts, IsSourceRun, IsFileRun, AreRuns}
-use Rattle.replay_report.specs.declared.reading.FileRun.{FileRun}
+use Rattle.file_reading.specs.declared.reading.FileRun.{FileRun}
 use Rattle.replay_report.specs.declared.reading.Runs.{Runs}
 use Rattle.replay_report.proofs.AppliedEvents.{none_applied, both_applied}
 
