@@ -2,8 +2,8 @@ ghost use Rattle.std.specs.Prelude.{◌≤◌, IfOk};
 
 use super::*;
 use crate::example_texts::{
-    API_EVENTS, EDGE_ADMIN, EDGE_JSON, EDGE_STATSD, TAGS_ADMIN, TAGS_EVENTS, TAGS_JSON, TAGS_PROM,
-    TAGS_STATSD, WEB_EVENTS,
+    API_EVENTS, EDGE_ADMIN, EDGE_JSON, EDGE_STATSD, TAGS_EVENTS, TAGS_JSON, TAGS_PROM, TAGS_STATSD,
+    TAGS_SYMBOLS, WEB_EVENTS,
 };
 use name_map::HashKey;
 use stat_defs::{Delta, MetricId, Report, Verdict};
@@ -277,16 +277,16 @@ const EXAMPLES: [(&str, &str); 5] = [
         EDGE_ADMIN,
     ),
     (
-        "replay --symbols --format statsd examples/tags.json examples/tags.events",
+        "replay --format statsd examples/tags.json examples/tags.events",
         TAGS_STATSD,
     ),
     (
-        "replay --symbols --format prom examples/tags.json examples/tags.events",
+        "replay --format prom examples/tags.json examples/tags.events",
         TAGS_PROM,
     ),
     (
         "replay --symbols --format admin examples/tags.json examples/tags.events",
-        TAGS_ADMIN,
+        TAGS_SYMBOLS,
     ),
 ];
 
