@@ -19,12 +19,12 @@ loop-name-preserved g c =
     let opening = c.in_ok-opening.opening in
     let opened = rw c.as_str.ensures.value at c.in_ok-opening.ensures.opened in
     let of_first = subst (λ (content : Option (List ℕ)). IsOpening g.F.Shelf.state g.F.S.Source.state content name
-    c.loop-name.shelf c.open_file.new.shelf opening.file opening.end) (c.loop-name.invariant.contents name) opened in
+    c.loop-name.shelf c.open_for_worker.new.shelf opening.file opening.end) (c.loop-name.invariant.contents name) opened in
     record {
       opened = rw names
           (one_opened_more g.F.Shelf.state g.F.S.Source.state (g.F.Shelf.holds c.args.shelf.now)
           (map string_bytes (take c.loop-name.name-index c.args.names.now)) name c.args.shelf.now c.loop-name.shelf
-          c.open_file.new.shelf c.loop-name.openings c.push_opening.new.openings opening c.loop-name.invariant.opened
+          c.open_for_worker.new.shelf c.loop-name.openings c.push_opening.new.openings opening c.loop-name.invariant.opened
           of_first c.in_ok-push_opening.ensures.files c.in_ok-push_opening.ensures.ends);
       contents = λ other. c.in_ok-opening.ensures.contents other ∙ c.loop-name.invariant.contents other;
     }
