@@ -1,6 +1,7 @@
 //! Gates that hold the threads of a run up until another thread has come to some place.
 
 use run_gates::Gate;
+use std::hint::spin_loop;
 use std::sync::Wait;
 use std::sync::atomic::{AtomicBool, AtomicU64, Ordering};
 use std::thread::{Parker, yield_now};
@@ -12,11 +13,11 @@ const TURNS: u32 = 1_000_000;
 /// The event at which flush 1 may begin.
 const SIXTH: u64 = 6;
 
-/// The maximum number of turns that an event waits for a flush, which may itself be waiting for that event.
+/// The maximum number of turns that an event waits for a flush, which may itself be waiting for that event. Such a turn
+/// does not yield: on a busy machine each yield costs a whole slice of time, and a thousand of them many seconds.
 const EVENT_TURNS: u32 = 1_000;
 
-/// The maximum number of milliseconds that an event sleeps after these turns, so that the flusher gets a processor on a
-/// busy machine.
+/// The maximum number of milliseconds that an event sleeps after these turns, so that the flusher gets a processor.
 const EVENT_SLEEP: u64 = 4;
 
 /// Whether a gate has waited in vain. Then it holds no more, so that the run ends and its test says so.
@@ -248,7 +249,7 @@ impl FlushAmong {
             if self.is_flushed() {
                 return;
             }
-            yield_now();
+            spin_loop();
         }
         self.waking
             .park_timeout(rt, Duration::from_millis(EVENT_SLEEP));
