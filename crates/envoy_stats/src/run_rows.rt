@@ -139,6 +139,39 @@ fn workers_side_by_side(rt: HostRuntime) -> Result<(), Fail> {
     Ok(())
 }
 
+const USAGE: &[u8] =
+    b"usage: envoy_stats run|replay [--symbols] [--format statsd|prom|admin] BOOT FILE.. | check BOOT | bins V.. | load [--run] W E\n";
+
+// Words that say no command, where there is a file `f`.
+const BAD_WORDS: [&str; 8] = [
+    "",
+    "replay",
+    "replay -",
+    "run",
+    "run -",
+    "run --format x - f",
+    "run --symbols --symbols - f",
+    "bins 01",
+];
+
+#[test]
+fn bad_words(rt: HostRuntime) -> Result<(), Fail> {
+    let alloc = rt.alloc();
+    for words in BAD_WORDS {
+        let file = file_of(alloc, "f", b"inc root a 1\n", 9_999)?;
+        let shelf = MemShelf::new(vec![in alloc; file]?, Vec::new(alloc));
+        let played = run_over(&rt, alloc, words, shelf, 9_999)?;
+        let wanted = Wanted {
+            status: 1,
+            reports: false,
+            out: b"",
+            err: USAGE,
+        };
+        assert_played(&rt, words, &played, wanted);
+    }
+    Ok(())
+}
+
 #[test]
 fn each_push_of_a_run_failing(rt: HostRuntime) -> Result<(), Fail> {
     let output = b"# last\nenvoy.a:7|c\n# worker 1: 2 accepted, 0 dropped\n";
