@@ -9,14 +9,27 @@ mkdir "$place/bin"
 cat >"$place/bin/rt" <<'STANDIN'
 #!/usr/bin/env bash
 name=$(basename "$PWD")
+# As rt does, it proves the crates below with the one that it is called for, and tells each.
+prove() {
+  for crate in $(awk -F: -v top="$name" '{ sub(/#.*/, "") } NF == 2 { below[$1] = $2 }
+    function visit(name, parts, count, i) {
+      if (seen[name]++) return
+      count = split(below[name], parts, " ")
+      for (i = 1; i <= count; i++) if (parts[i] in below) visit(parts[i])
+      print name
+    }
+    END { visit(top) }' ../../crates.txt); do
+    echo "crate $crate: modules loaded=0 checked=1"
+    if [ "$crate" = "${BAD:-}" ]; then echo logic=not-proved; exit 1; fi
+    echo logic=proved
+  done
+}
 case $1 in
-  lib)
-    sleep "${SECONDS_EACH:-1}"
-    echo "crate $name: modules loaded=0 checked=1"
-    if [ "$name" = "${BAD:-}" ]; then echo logic=not-proved; exit 1; fi
-    echo logic=proved ;;
+  lib) sleep "${SECONDS_EACH:-1}"; prove ;;
   try) shift; echo "tried $@"; exit 4 ;;
-  run) mkdir -p out; printf '#!/bin/sh\necho "ran $@"\nexit 3\n' >out/envoy_stats; chmod +x out/envoy_stats ;;
+  run)
+    prove
+    mkdir -p out; printf '#!/bin/sh\necho "ran $@"\nexit 3\n' >out/envoy_stats; chmod +x out/envoy_stats ;;
 esac
 STANDIN
 chmod +x "$place/bin/rt"
@@ -44,10 +57,13 @@ try() {
 none='no such text'
 source=$top/crates/stat_defs/src/ids.rt
 try 'a fresh copy is proved and built, and the words are given on' 3 'ran replay - a b' "$none" "$top/envoy_stats" replay - 'a b'
-try 'it tells each crate' 3 'proved crate .*report_text' "$none" sh -c "rm $top/crates/envoy_stats/out/script.sum; $top/envoy_stats check -"
+try 'it tells each crate, and the program last' 3 'proved crate \([0-9]*\) of \1, envoy_stats;' "$none" sh -c "rm $top/crates/envoy_stats/out/script.sum; $top/envoy_stats check -"
 try 'it says so before it builds' 3 'proved and built first' "$none" sh -c "rm $top/crates/envoy_stats/out/script.sum; $top/envoy_stats check -"
 try 'and corrects how long it will take' 3 'minutes gone, about [0-9]* to go' "$none" sh -c "rm $top/crates/envoy_stats/out/script.sum; $top/envoy_stats check -"
 rm "$top/crates/envoy_stats/out/script.sum"
+usage=$(sed -n 's/^ *b"\(usage: .*\)\\n";$/\1/p' "$top/crates/envoy_stats/src/tests.rt")
+try 'the usage is the one that the tests of the program have' 0 '^same$' "$none" \
+  sh -c "[ \"\$($top/envoy_stats --help 2>&1)\" = '$usage' ] && echo same"
 while read -r line; do
   eval "words=($line)"
   try "no command, told before anything is built: ${words[*]}" 1 '^usage: ' 'proved' "$top/envoy_stats" "${words[@]}"

@@ -17,8 +17,8 @@ FULL = 131072
 ROUNDS = 9
 
 
-def mixed(seed, count, own):
-    """Half increments of 512 counters, a quarter values of 16 histograms, a quarter moves of one gauge."""
+def mixed(seed, count, own, histograms=16):
+    """Half increments of 512 counters, a quarter values of some histograms, a quarter moves of one gauge."""
     x = seed
     for _ in range(count):
         x = (6364136223846793005 * x + 1442695040888963407) % 2**64
@@ -27,7 +27,7 @@ def mixed(seed, count, own):
         if kind < 2:
             yield "inc root c%d%s %d" % (i % 512, own, j % 1000)
         elif kind == 2:
-            yield "rec root h%d%s %d" % (i % 16, own, j % 100000)
+            yield "rec root h%d%s %d" % (i % histograms, own, j % 100000)
         else:
             yield "add root g%d acc %d" % (seed, j % 1000)
 
@@ -87,6 +87,30 @@ def least(commands):
     return [[min(row[at][k] for row in rounds) for k in range(4)] for at in range(len(commands))]
 
 
+def by_kind(folder, programs):
+    """Instructions of an event of each kind in one file, and user time of 1, 4 and 32 files of that kind."""
+    for kind, line in KINDS.items():
+        short, long = (write(folder, kind + str(n), map(line, range(n))) for n in (FULL // 8, FULL // 4))
+        for verb in ("run", "replay"):
+            counts = [(instructions([p, verb, "-", long]) - instructions([p, verb, "-", short])) / (FULL // 8)
+                      for p in programs]
+            print("instructions, %s, %s:" % (verb, kind), " to ".join("%.0f" % c for c in counts), flush=True)
+        files = [write(folder, "%s%d" % (kind, w), map(line, range(w, w + FULL))) for w in range(32)]
+        for count in (1, 4, 32):
+            users = [row[1] for row in least([[p, "run", "-"] + files[:count] for p in programs])]
+            print("user time, %d files, %s:" % (count, kind), " to ".join("%.0f ms" % u for u in users), flush=True)
+
+
+def of_many(folder, programs):
+    """Instructions of 1, 4 and 32 files of 16,384 events, and memory where 64 histograms are warm in each worker."""
+    files = [write(folder, "few%d" % w, mixed(w, FULL // 8, "")) for w in range(1, 33)]
+    for count in (1, 4, 32):
+        counts = [instructions([p, "run", "-"] + files[:count]) for p in programs]
+        print("instructions, %d files:" % count, " to ".join("%.1f million" % (c / 1e6) for c in counts), flush=True)
+    warm = [write(folder, "warm%d" % w, mixed(w, FULL, "", 64)) for w in range(1, 33)]
+    print("32 files, 64 histograms:", "; ".join(map(told, least([[p, "run", "-"] + warm for p in programs]))), flush=True)
+
+
 def told(figures):
     return "wall %.0f ms, user %.0f ms, system %.0f ms, %.1f MB" % tuple(figures)
 
@@ -97,12 +121,8 @@ def main():
     programs = sys.argv[1:]
     print("load %.1f of %d processors" % (os.getloadavg()[0], os.cpu_count()))
     with tempfile.TemporaryDirectory() as folder:
-        for kind, line in KINDS.items():
-            short, long = (write(folder, kind + str(n), map(line, range(n))) for n in (FULL // 8, FULL // 4))
-            for verb in ("run", "replay"):
-                counts = [(instructions([p, verb, "-", long]) - instructions([p, verb, "-", short])) / (FULL // 8)
-                          for p in programs]
-                print("instructions, %s, %s:" % (verb, kind), " to ".join("%.0f" % c for c in counts), flush=True)
+        by_kind(folder, programs)
+        of_many(folder, programs)
         same = [write(folder, "same%d" % w, mixed(w, FULL, "")) for w in range(1, 33)]
         apart = [write(folder, "apart%d" % w, mixed(w, FULL, "w%d" % w)) for w in range(1, 5)]
         for count in (1, 4, 32):

@@ -9,8 +9,8 @@ use std::test::Fail;
 use tag_rules::{PatternMaker, RegexMaker};
 use test_support::{Played, Wanted, assert_played, words_of};
 
-// Calls the top call under a key of its own; the program's stored run is under one that is drawn. It has no clauses, so
-// that no test's proof carries those of the top call.
+// Calls `quiet_stats_with` under a key of its own. It has no clauses, so that no test's proof carries those of
+// that call.
 fn call<K: PatternMaker, F: Shelf, O: Sink, E: Sink>(
     alloc: Global,
     words: &[String],
@@ -41,7 +41,7 @@ pub(crate) fn play_with(
     })
 }
 
-// Calls the top call over that shelf and a maker whose call of that number fails, with an output sink of pieces of that
+// The same over that shelf and a maker whose call of that number fails, with an output sink of pieces of that
 // length whose push of that number fails.
 pub(crate) fn play(
     alloc: Global,

@@ -6,8 +6,8 @@ use stats_io::{MemFile, MemShelf};
 use std::alloc::Global;
 use std::test::Fail;
 use test_support::{
-    API_EVENTS, EDGE_ADMIN, EDGE_JSON, EDGE_STATSD, TAGS_ADMIN, TAGS_EVENTS, TAGS_JSON, TAGS_PROM,
-    TAGS_STATSD, WEB_EVENTS, Wanted, file_of, shelf_of,
+    API_EVENTS, EDGE_ADMIN, EDGE_JSON, EDGE_STATSD, TAGS_EVENTS, TAGS_JSON, TAGS_PROM, TAGS_STATSD,
+    TAGS_SYMBOLS, WEB_EVENTS, Wanted, file_of, shelf_of,
 };
 
 // Commands over the files in `examples/`, with the outputs that stand there. The program's stored run is the sixth.
@@ -21,16 +21,16 @@ const EXAMPLES: [(&str, &str); 5] = [
         EDGE_ADMIN,
     ),
     (
-        "replay --symbols --format statsd examples/tags.json examples/tags.events",
+        "replay --format statsd examples/tags.json examples/tags.events",
         TAGS_STATSD,
     ),
     (
-        "replay --symbols --format prom examples/tags.json examples/tags.events",
+        "replay --format prom examples/tags.json examples/tags.events",
         TAGS_PROM,
     ),
     (
         "replay --symbols --format admin examples/tags.json examples/tags.events",
-        TAGS_ADMIN,
+        TAGS_SYMBOLS,
     ),
 ];
 

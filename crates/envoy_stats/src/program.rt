@@ -15,15 +15,7 @@ use std::sync::Wait;
 use std::thread::Threads;
 use tag_rules::PatternMaker;
 
-/// The program. `run [--symbols] [--format F] BOOT FILE..` applies the events of 1 to 32 files side by side to one store,
-/// a worker a file, with a flusher and a reader beside them, and writes all flushes and readings. `load --run W E` applies
-/// scripts that it makes in the same way, under the usual bootstrap, and writes a summary. Every other command starts no
-/// thread, and is that of [`stats_commands::quiet_stats_with`], statuses included.
-///
-/// At every moment of every interleaving, each counter's latched deltas and pending word together are its workers'
-/// accepted units, each once; merged bins are those of the turned halves' values inserted directly, each value in one
-/// merge; no symbol number is given again while a live name or cache holds it; once recorders have returned, the last
-/// flush leaves nothing pending, and the bytes written are that ledger's defined text.
+/// The program of [`envoy_stats`], its tables hashed under this key: what is written and said does not depend on it.
 pub fn envoy_stats_with<R: Threads + Wait + Sync, K: PatternMaker, F: Shelf, O: Sink, E: Sink>(
     rt: &R,
     alloc: Global,
@@ -48,7 +40,24 @@ pub fn envoy_stats_with<R: Threads + Wait + Sync, K: PatternMaker, F: Shelf, O: 
     }
 }
 
-/// The same under the fixed key: what is written and said does not depend on it.
+/// The program. `run [--symbols] [--format F] BOOT FILE..` applies the events of 1 to 32 files side by side to one store,
+/// a worker a file, with a flusher and a reader beside them, and writes all flushes and readings. `load --run W E` applies
+/// scripts that it makes in the same way, under the usual bootstrap, and writes a summary. Every other command starts no
+/// thread, and is that of [`stats_commands::quiet_stats_with`], statuses included.
+///
+/// At every moment of every interleaving, each counter's latched deltas and pending word together are its workers'
+/// accepted units, each once; merged bins are those of the turned halves' values inserted directly, each value in one
+/// merge; no symbol number is given again while a live name or cache holds it; once recorders have returned, the last
+/// flush leaves nothing pending, and the bytes written are that ledger's defined text.
+///
+/// - At every moment of every interleaving: the rules `Counted`, `Gauged`, `Locked` and `Turned`, which each atomic step
+///   keeps.
+/// - Latched deltas and the pending word: `Counted.pending`; of the report `Account.units`, by which the deltas of all
+///   flushes are the accepted units.
+/// - Merged bins, each value in one merge: `FlusherAccounts.halves`; of the report `FitAll` and `Account.values`.
+/// - Symbol numbers: `Legal`, by `LegalIsSafe`.
+/// - Nothing pending after the last flush: `Closes.emptied`; of the report `Account.units` again.
+/// - The bytes written: `Runs`, by `IsReported.written`.
 pub fn envoy_stats<R: Threads + Wait + Sync, K: PatternMaker, F: Shelf, O: Sink, E: Sink>(
     rt: &R,
     alloc: Global,

@@ -1,3 +1,4 @@
 pub mod WorkerEnd
 pub mod FileRead
 pub mod SourceRead
+pub mod Opening

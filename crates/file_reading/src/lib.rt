@@ -4,7 +4,9 @@
 #![tactic(auto)]
 
 mod laws;
+mod opening;
 mod reading;
 
 pub use laws::each_unopened_file_has_its_fault;
-pub use reading::{end_of, event_or_end, not_opened};
+pub use opening::open_file;
+pub use reading::{FileRun, end_of, event_or_end, not_opened};

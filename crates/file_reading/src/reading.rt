@@ -7,8 +7,15 @@ ghost use Rattle.event_script.specs.declared.step.Step.TheVariants as step_told;
 ghost use Rattle.file_reading.specs.SourceRead.{taken_at, end_told};
 
 use event_script::{Lines, StepRef};
-use stat_defs::{EventRef, FileEnd, WorkerEnd};
+use stat_defs::{EventRef, FileEnd, Verdict, WorkerEnd};
 use stats_io::Source;
+
+/// What came of a file that was read and applied: its events' verdicts, and its end.
+#[derive(Drop)]
+pub struct FileRun {
+    pub verdicts: Vec<Verdict>,
+    pub end: WorkerEnd,
+}
 
 /// The event of a step, or the end of the file.
 #[inline(always)]

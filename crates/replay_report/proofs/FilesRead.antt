@@ -1,28 +1,23 @@
 -- Files that were read one after another.
-use Rattle.std.proofs.Common.{◌≡◌, ◌≤◌, ◌+◌, ℕ, Option, Some, None, Result, Ok, Err, IfOk, List, [], ◌∷◌, ◌++◌, length, map, take, get_or, refl, sym, ap, ◌∙◌, subst, arith, length-append, add-one}
+use Rattle.std.proofs.Common.{◌≡◌, ◌≤◌, ◌+◌, ℕ, Option, Result, Ok, Err, IfOk, List, [], ◌∷◌, ◌++◌, length, map, take, get_or, refl, sym, ap, ◌∙◌, subst, arith, length-append, add-one}
 use Rattle.std.proofs.lemmas.List.{append-nil, map-append}
 use Rattle.std.proofs.lemmas.Grind.{flat_map-append}
 use Rattle.std.proofs.Math.Seq.{take-suc}
-use Rattle.std.specs.Io.KnownBytes.{Keeps}
-use Rattle.stat_defs.specs.Faults.{Rose}
 use Rattle.stat_defs.specs.declared.events.Event.{Event}
 use Rattle.stat_defs.specs.declared.history.Verdict.{Verdict}
 use Rattle.stat_defs.specs.declared.memory.NoMemory.{NoMemory}
-use Rattle.stat_defs.specs.declared.reports.FileEnd.{FileEnd}
-use Rattle.stat_defs.specs.declared.reports.FileEnd.TheVariants.{Whole, BadLine, LineTooLong, TooBig, TooMany, ReadFault, NotOpened}
+use Rattle.stat_defs.specs.declared.reports.FileEnd.TheVariants.{NotOpened}
 use Rattle.stat_defs.specs.declared.reports.WorkerEnd.{WorkerEnd}
 use Rattle.stats_io.specs.States.{SourceState, ShelfState}
 use Rattle.stats_io.specs.Open.{IsUnpulled}
-use Rattle.stats_io.specs.Told.{MayBe}
-use Rattle.stats_io.proofs.Pieces.{kept_consumes}
 use Rattle.event_script.specs.FileEvents.{AreEventsOf}
 use Rattle.plain_store.specs.Store.{StoreHistory}
-use Rattle.file_reading.specs.WorkerEnd.{IsOpened, HasCause}
+use Rattle.file_reading.specs.WorkerEnd.{HasCause}
 use Rattle.file_reading.specs.FileRead.{FileRead, all_events, IsFile, AreFiles}
 use Rattle.replay_report.specs.Applying.{AreApplied}
 use Rattle.file_reading.proofs.FileOpened.{file_read, file_unopened}
 use Rattle.replay_report.specs.FileRun.{all_verdicts, IsSourceRun, IsFileRun, AreRuns}
-use Rattle.replay_report.specs.declared.reading.FileRun.{FileRun}
+use Rattle.file_reading.specs.declared.reading.FileRun.{FileRun}
 use Rattle.replay_report.specs.declared.reading.Runs.{Runs}
 use Rattle.replay_report.proofs.AppliedEvents.{none_applied, both_applied}
 

@@ -12,7 +12,7 @@ use Rattle.plain_store.specs.Store.{StoreHistory}
 use Rattle.replay_report.specs.Applying.{AreApplied}
 use Rattle.file_reading.specs.SourceRead.{IsSourceRead}
 use Rattle.file_reading.specs.FileRead.{FileRead, IsFile, AreFiles, all_events}
-use Rattle.replay_report.specs.declared.reading.FileRun.{FileRun}
+use Rattle.file_reading.specs.declared.reading.FileRun.{FileRun}
 use Rattle.replay_report.specs.declared.reading.Runs.{Runs}
 
 -- the verdicts of all files, one file after another

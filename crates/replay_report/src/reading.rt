@@ -9,18 +9,11 @@ ghost use Rattle.replay_report.specs.Applying.{IsToldBehind};
 ghost use Rattle.replay_report.specs.FileRun.{IsSourceRun, IsFileRun, AreRuns};
 
 use event_script::Lines;
-use file_reading::{end_of, event_or_end, not_opened};
+use file_reading::{FileRun, end_of, event_or_end, open_file};
 use plain_store::PlainStore;
 use stat_defs::{EventRef, List, NoMemory, Verdict, WorkerEnd};
-use stats_io::{OpenFault, Shelf, Source};
+use stats_io::{Shelf, Source};
 use std::alloc::Global;
-
-/// What came of a file: its events' verdicts, and its end.
-#[derive(Drop)]
-pub(crate) struct FileRun {
-    pub(crate) verdicts: Vec<Verdict>,
-    pub(crate) end: WorkerEnd,
-}
 
 /// What came of files: the verdicts of each, and the end of each.
 #[derive(Drop)]
@@ -83,14 +76,12 @@ fn read_file<F: Shelf>(
         store.old store.new run) }
     ensures contents { (other : List ℕ) → F.holds shelf.new other ≡ F.holds shelf.old other }
 {
-    let faults_before = shelf.fault_count();
-    match shelf.open(alloc, name) {
+    match open_file(alloc, shelf, name)? {
         Ok(source) => read_source(alloc, source, store),
-        Err(OpenFault::Failed) => Ok(FileRun {
+        Err(end) => Ok(FileRun {
             verdicts: Vec::new(alloc),
-            end: not_opened(faults_before, shelf.fault_count()),
+            end,
         }),
-        Err(OpenFault::NoMemory) => Err(NoMemory),
     }
 }
 

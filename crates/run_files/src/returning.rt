@@ -77,20 +77,27 @@ fn flags(alloc: Global, workers: usize) -> Result<Vec<AtomicBool>, NoMemory> {
     Ok(told)
 }
 
+/// All who work on a store: the flusher with the reader, and what each worker gets.
+#[derive(Drop)]
+pub(crate) struct Parties<S: Drop> {
+    pub(crate) sides: Sides,
+    pub(crate) jobs: Vec<Job<S>>,
+}
+
 /// Runs the parties of a store side by side, until all of them have returned.
 pub(crate) fn run_parties<R: Threads + Wait + Sync, G: Gate + Sync, S: Source + Drop + Send>(
     rt: &R,
     alloc: Global,
     gate: &G,
     store: &Store,
-    sides: Sides,
-    jobs: Vec<Job<S>>,
+    parties: Parties<S>,
 ) -> Result<Returned, NoMemory>
-    requires flusher { HasFlushed store.now [] sides.flusher }
-    requires reader { HasRead store.now [] sides.admin }
-    requires workers { All (IsReady store.now) jobs.items }
-    ensures { IfOk result (AreBack S.state store.now sides jobs.items) }
+    requires flusher { HasFlushed store.now [] parties.sides.flusher }
+    requires reader { HasRead store.now [] parties.sides.admin }
+    requires workers { All (IsReady store.now) parties.jobs.items }
+    ensures { IfOk result (AreBack S.state store.now parties.sides parties.jobs.items) }
 {
+    let Parties { sides, jobs } = parties;
     let Ok(told) = flags(alloc, jobs.len()) else {
         drop(sides);
         drop(jobs);

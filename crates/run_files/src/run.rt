@@ -5,7 +5,7 @@ ghost use Rattle.book_state.specs.declared.limits.TheConstants.{MAX_WORKERS};
 ghost use Rattle.run_files.specs.Run.{IsRunOfGiven};
 
 use crate::reporting::report_of;
-use crate::returning::run_parties;
+use crate::returning::{Parties, run_parties};
 use crate::starting::{Setup, Started, start};
 use run_gates::Gate;
 use stat_defs::{NoMemory, Report};
@@ -34,7 +34,7 @@ pub fn run_files<R: Threads + Wait + Sync, G: Gate + Sync, S: Source + Drop + Se
 {
     let started = start(alloc, setup, files)?;
     let Started { store, sides, jobs } = started;
-    let Ok(done) = run_parties(rt, alloc, gate, &store, sides, jobs) else {
+    let Ok(done) = run_parties(rt, alloc, gate, &store, Parties { sides, jobs }) else {
         drop(store);
         return Err(NoMemory);
     };

@@ -2,9 +2,9 @@
 ghost use Rattle.std.specs.Prelude.{◌≡◌, ◌++◌, ◌∷◌, [], ℕ, List, IfOk, OnOk, map, string_bytes};
 ghost use Rattle.run_report.specs.Opened.{IsOpening, AreOpened};
 
-use file_reading::not_opened;
+use file_reading::open_file;
 use stat_defs::{NoMemory, WorkerEnd};
-use stats_io::{OpenFault, Shelf};
+use stats_io::Shelf;
 use std::alloc::Global;
 use worker_run::Given;
 
@@ -22,23 +22,25 @@ pub(crate) struct Openings<S> {
     pub(crate) ends: Vec<Option<WorkerEnd>>,
 }
 
-// Opens a file of a shelf. The shelf's counts of faults before and after a failed opening are in its end.
-fn open_file<F: Shelf>(alloc: Global, shelf: &mut F, name: &str) -> Result<Opening<F::S>, NoMemory>
+// What a worker is given of a file of a shelf, and its end where it cannot be opened.
+fn open_for_worker<F: Shelf>(
+    alloc: Global,
+    shelf: &mut F,
+    name: &str,
+) -> Result<Opening<F::S>, NoMemory>
     ensures opened { IfOk result (λ opening. IsOpening F.state F.S.state (F.holds shelf.old name.now) name.now
         shelf.old shelf.new opening.file opening.end) }
     ensures contents { (other : List ℕ) → F.holds shelf.new other ≡ F.holds shelf.old other }
 {
-    let faults_before = shelf.fault_count();
-    match shelf.open(alloc, name) {
+    match open_file(alloc, shelf, name)? {
         Ok(source) => Ok(Opening {
             file: Given::Opened(source),
             end: None,
         }),
-        Err(OpenFault::Failed) => Ok(Opening {
+        Err(end) => Ok(Opening {
             file: Given::Missing,
-            end: Some(not_opened(faults_before, shelf.fault_count())),
+            end: Some(end),
         }),
-        Err(OpenFault::NoMemory) => Err(NoMemory),
     }
 }
 
@@ -67,7 +69,7 @@ pub(crate) fn open_files<F: Shelf>(
         ends: Vec::new(alloc),
     };
     for name in names {
-        let opening = open_file(alloc, shelf, name.as_str())?;
+        let opening = open_for_worker(alloc, shelf, name.as_str())?;
         push_opening(&mut openings, opening)?;
     }
     Ok(openings)

@@ -137,12 +137,6 @@ pub const TAGS_STATSD: &str = r#"# last
 envoy.shop.cart.requests:41|c
 envoy.shop.pay.requests:9|c
 envoy.shop.pay.waiting:2|g
-# symbols
-shop.cart.bytes histogram - 03010207 1=shop 2=cart 7=bytes
-shop.cart.requests counter - 03010203 1=shop 2=cart 3=requests
-shop.pay.requests counter - 03010403 1=shop 4=pay 3=requests
-shop.pay.seconds histogram - 03010406 1=shop 4=pay 6=seconds
-shop.pay.waiting gauge acc 03010405 1=shop 4=pay 5=waiting
 # worker 1: 6 accepted, 1 dropped
 "#;
 
@@ -165,16 +159,10 @@ envoy_shop_seconds_sum{site="north",shop_route="pay"} 43.55
 envoy_shop_seconds_count{site="north",shop_route="pay"} 2
 # TYPE envoy_shop_waiting gauge
 envoy_shop_waiting{site="north",shop_route="pay"} 2
-# symbols
-shop.cart.bytes histogram - 03010207 1=shop 2=cart 7=bytes
-shop.cart.requests counter - 03010203 1=shop 2=cart 3=requests
-shop.pay.requests counter - 03010403 1=shop 4=pay 3=requests
-shop.pay.seconds histogram - 03010406 1=shop 4=pay 6=seconds
-shop.pay.waiting gauge acc 03010405 1=shop 4=pay 5=waiting
 # worker 1: 6 accepted, 1 dropped
 "#;
 
-pub const TAGS_ADMIN: &str = r#"# last
+pub const TAGS_SYMBOLS: &str = r#"# last
 shop.cart.requests: 41
 shop.pay.requests: 9
 shop.pay.waiting: 2

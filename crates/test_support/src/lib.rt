@@ -6,8 +6,8 @@ mod files;
 mod played;
 
 pub use example_texts::{
-    API_EVENTS, EDGE_ADMIN, EDGE_JSON, EDGE_STATSD, TAGS_ADMIN, TAGS_EVENTS, TAGS_JSON, TAGS_PROM,
-    TAGS_STATSD, WEB_EVENTS,
+    API_EVENTS, EDGE_ADMIN, EDGE_JSON, EDGE_STATSD, TAGS_EVENTS, TAGS_JSON, TAGS_PROM, TAGS_STATSD,
+    TAGS_SYMBOLS, WEB_EVENTS,
 };
 pub use files::{file_of, shelf_of, shelf_with};
 pub use played::{Played, Wanted, assert_played, words_of};

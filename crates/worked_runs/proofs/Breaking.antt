@@ -12,7 +12,7 @@ use Rattle.ledger.proofs.Lists.{nil_cons}
 use Rattle.ledger.proofs.WorkedParts.{read_whole, rec_7, inc_a, moves_g}
 use Rattle.run_ledger.proofs.Accounts.{run_accounts}
 use Rattle.worked_runs.specs.Run.{plan_of_run, events_of_run, files_of_run, first_events, second_events, flushes_of_run, reads_of_run, report_with, report_of_run, told_of_run, early_read, IsLedgerOfRun}
-use Rattle.worked_runs.specs.Broken.{FourthAloneBroken, FifthAloneBroken, counted_twice, part_moved, value_fallen, place_fallen, works_in}
+use Rattle.worked_runs.specs.Broken.{ThirdAloneBroken, FourthAloneBroken, FifthAloneBroken, flushes_exchanged, plan_of_more, counted_twice, part_moved, value_lost, value_fallen, place_fallen, reading_left_out, works_in}
 use Rattle.worked_runs.proofs.Accounted.{two_account, three_rise}
 
 first_read : AreEventsOf (file_of first_events) file.Whole 0 first_events
@@ -40,6 +40,26 @@ same_account reads = let a = ledger.account in record { flushes = a.flushes; uni
 same_shown : (flushes : List FlushRecord) → AreShown plan_of_run (works_in report_of_run) (report_with flushes reads_of_run)
 same_shown flushes = let s = ledger.shown in record { number = s.number; never_falls = s.never_falls; each = s.each; rising = s.rising }
 
+-- each flush fits at another place too, since each worker has one value
+pub exchanged : ThirdAloneBroken plan_of_run flushes_exchanged
+exchanged = let a = ledger.account in record {
+  read = is_read _ _;
+  history = same_history _ _;
+  not_swept = λ swept. let low = swept.rising 0 (omega arith) in absurd (omega (arith, low));
+  account = record { flushes = (a.flushes.1.0, (a.flushes.0, a.flushes.1.1)); units = a.units; values = a.values; words = a.words };
+  shown = same_shown _;
+}
+
+-- no other part speaks of how many flushes were asked for
+pub fewer_flushes : ThirdAloneBroken plan_of_more report_of_run
+fewer_flushes = let h = ledger.history in let a = ledger.account in let s = ledger.shown in record {
+  read = is_read _ _;
+  history = record { legal = h.legal; follows = h.follows };
+  not_swept = λ swept. let number = swept.number in absurd (omega (arith, number));
+  account = record { flushes = a.flushes; units = a.units; values = a.values; words = a.words };
+  shown = record { number = s.number; never_falls = s.never_falls; each = s.each; rising = s.rising };
+}
+
 pub twice : FourthAloneBroken counted_twice
 twice = record {
   read = is_read _ _;
@@ -51,6 +71,15 @@ twice = record {
 
 pub moved : FourthAloneBroken part_moved
 moved = record {
+  read = is_read _ _;
+  history = same_history _ _;
+  swept = record { number = refl; sweeps = refl; rising = three_rise; ended = refl };
+  no_account = λ account. nil_cons _ [] account.values.0;
+  shown = same_shown _;
+}
+
+pub lost : FourthAloneBroken value_lost
+lost = record {
   read = is_read _ _;
   history = same_history _ _;
   swept = record { number = refl; sweeps = refl; rising = three_rise; ended = refl };
@@ -74,4 +103,13 @@ displaced = record {
   swept = record { number = refl; sweeps = refl; rising = three_rise; ended = refl };
   account = same_account _;
   not_shown = λ shown. let low = shown.never_falls 0 1 0 (omega arith) (omega arith) in absurd (omega (arith, low));
+}
+
+pub fewer_reads : FifthAloneBroken reading_left_out
+fewer_reads = record {
+  read = is_read _ _;
+  history = same_history _ _;
+  swept = record { number = refl; sweeps = refl; rising = three_rise; ended = refl };
+  account = same_account _;
+  not_shown = λ shown. let number = shown.number in absurd (omega (arith, number));
 }

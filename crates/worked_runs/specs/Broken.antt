@@ -1,10 +1,20 @@
--- Reports that differ from that of the worked run in one place, and are no ledgers. This project's own.
+-- Reports that differ from that of the worked run, or from what was asked for, in one place, and are no ledgers. This
+-- project's own.
 use Rattle.std.specs.Prelude.{List, [], ◌∷◌}
 use Rattle.stat_defs.specs.declared.reports.Report.{Report}
 use Rattle.ledger.specs.Work.{Work, apart}
-use Rattle.ledger.specs.Ledger.{AreRead, HasHistory, AreSwept, Account, AreShown}
-use Rattle.worked_runs.specs.Run.{plan_of_run, events_of_run, files_of_run, flushes_with, flushes_of_run, part_of}
-use Rattle.worked_runs.specs.Run.{early_read, late_read, reads_of_run, report_with}
+use Rattle.ledger.specs.Ledger.{RunPlan, AreRead, HasHistory, AreSwept, Account, AreShown}
+use Rattle.worked_runs.specs.Run.{plan_of_run, events_of_run, files_of_run, part_of, first_flush, second_flush}
+use Rattle.worked_runs.specs.Run.{last_flush, flushes_with, flushes_of_run, early_read, late_read, reads_of_run}
+use Rattle.worked_runs.specs.Run.{report_with}
+
+-- the second flush stands before the first one
+abbrev pub flushes_exchanged : Report
+flushes_exchanged = report_with (second_flush ∷ first_flush (part_of 1) ∷ last_flush 2 ∷ []) reads_of_run
+
+-- one flush more was asked for than the worked report has
+abbrev pub plan_of_more : RunPlan
+plan_of_more = record plan_of_run { flushes = 3 }
 
 -- the last flush has the 4 units of the second one too
 abbrev pub counted_twice : Report
@@ -14,6 +24,11 @@ counted_twice = report_with (flushes_with (part_of 1) 6) reads_of_run
 abbrev pub part_moved : Report
 part_moved = report_with (flushes_with (part_of 2) 2) reads_of_run
 
+-- the first flush has no part, and no other has its value
+abbrev pub value_lost : Report
+value_lost = report_with
+    (record (first_flush (part_of 1)) { parts = [] } ∷ second_flush ∷ last_flush 2 ∷ []) reads_of_run
+
 -- the counter is at 7 and then at 3
 abbrev pub value_fallen : Report
 value_fallen = report_with flushes_of_run (early_read 7 ∷ late_read 3 ∷ [])
@@ -22,8 +37,20 @@ value_fallen = report_with flushes_of_run (early_read 7 ∷ late_read 3 ∷ [])
 abbrev pub place_fallen : Report
 place_fallen = report_with flushes_of_run (late_read 3 ∷ early_read 7 ∷ [])
 
+-- the late reading is left out
+abbrev pub reading_left_out : Report
+reading_left_out = report_with flushes_of_run (early_read 3 ∷ [])
+
 abbrev pub works_in : Report → List Work
 works_in report = apart events_of_run report.verdicts
+
+-- the report is no ledger of a run of this plan by its third part alone, the flushes and their sweeps
+pub record ThirdAloneBroken (plan : RunPlan) (report : Report) : Type 0 where
+  pub read : AreRead files_of_run events_of_run report
+  pub history : HasHistory plan (works_in report) report
+  pub not_swept : AreSwept plan report → ⊥
+  pub account : Account plan (works_in report) report
+  pub shown : AreShown plan (works_in report) report
 
 -- the report is no ledger of the run by its fourth part alone, the account of what was accepted
 pub record FourthAloneBroken (report : Report) : Type 0 where

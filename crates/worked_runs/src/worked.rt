@@ -1,8 +1,9 @@
 //! The worked run and its broken reports, which are computed from the definitions. Each is a law, and its function
 //! does nothing.
-ghost use Rattle.worked_runs.specs.Run.{TwoAccount, IsLedgerOfRun, report_of_run};
-ghost use Rattle.worked_runs.specs.Broken.{FourthAloneBroken, FifthAloneBroken, counted_twice, part_moved};
-ghost use Rattle.worked_runs.specs.Broken.{value_fallen, place_fallen};
+ghost use Rattle.worked_runs.specs.Run.{TwoAccount, IsLedgerOfRun, plan_of_run, report_of_run};
+ghost use Rattle.worked_runs.specs.Broken.{ThirdAloneBroken, FourthAloneBroken, FifthAloneBroken, flushes_exchanged};
+ghost use Rattle.worked_runs.specs.Broken.{plan_of_more, counted_twice, part_moved, value_lost, value_fallen};
+ghost use Rattle.worked_runs.specs.Broken.{place_fallen, reading_left_out};
 
 /// A worked run: its workers, flushes and readings account for what they did.
 ///
@@ -18,6 +19,17 @@ pub fn a_report_of_two()
     ensures { IsLedgerOfRun report_of_run }
 {}
 
+/// A broken report: the second flush stands before the first one. That is no ledger by its third part alone.
+pub fn flushes_in_another_order()
+    ensures { ThirdAloneBroken plan_of_run flushes_exchanged }
+{}
+
+/// A broken report: that of the worked run, where three flushes before the last one were asked for, and not two. That
+/// is no ledger by its third part alone.
+pub fn a_flush_too_few()
+    ensures { ThirdAloneBroken plan_of_more report_of_run }
+{}
+
 /// A broken report: the last flush has 4 units that the second one has too. That is no ledger by its fourth part
 /// alone.
 pub fn units_counted_twice()
@@ -27,6 +39,11 @@ pub fn units_counted_twice()
 /// A broken report: the value of worker 1 stands under worker 2. That is no ledger by its fourth part alone.
 pub fn a_part_of_another_worker()
     ensures { FourthAloneBroken part_moved }
+{}
+
+/// A broken report: the value of worker 1 stands in no part. That is no ledger by its fourth part alone.
+pub fn a_value_in_no_part()
+    ensures { FourthAloneBroken value_lost }
 {}
 
 /// A broken report: the first reading shows 7 units, and the second one 3. That is no ledger by its fifth part
@@ -39,4 +56,9 @@ pub fn a_reading_that_falls()
 /// part alone.
 pub fn a_place_that_falls()
     ensures { FifthAloneBroken place_fallen }
+{}
+
+/// A broken report: two readings were asked for, and there is one. That is no ledger by its fifth part alone.
+pub fn a_reading_too_few()
+    ensures { FifthAloneBroken reading_left_out }
 {}

@@ -10,10 +10,10 @@ ghost use Rattle.worker_run.specs.Working.{IsFileRead, IsAtWork, IsWorked};
 
 use crate::given::{Given, Job, Worked};
 use event_script::Lines;
-use file_reading::{end_of, event_or_end, not_opened};
+use file_reading::{FileRun, end_of, event_or_end, not_opened};
 use recorder::{MAX_GIVEN, Recorder, work_one};
 use run_gates::Gate;
-use stat_defs::{EventRef, NoMemory, Verdict, WorkerEnd};
+use stat_defs::{EventRef, NoMemory, Verdict};
 use stats_io::Source;
 use std::alloc::Global;
 use std::sync::Wait;
@@ -27,13 +27,6 @@ struct Desk<'a, R: Wait, G: Gate> {
     gate: &'a G,
     store: &'a Store,
     number: u32,
-}
-
-// A file that was read to its end: its events' verdicts, and its end.
-#[derive(Drop)]
-struct FileRead {
-    verdicts: Vec<Verdict>,
-    end: WorkerEnd,
 }
 
 // Goes through the gate and applies an event, whose verdict comes behind the earlier ones.
@@ -62,7 +55,7 @@ fn read_source<R: Wait, G: Gate, S: Source + Drop>(
     desk: &Desk<'_, R, G>,
     source: S,
     recorder: &mut Recorder,
-) -> Result<FileRead, NoMemory>
+) -> Result<FileRun, NoMemory>
     requires { IsNewWorker desk.now.store.now desk.now.number recorder.old }
     ensures read { IfOk result (λ read.
         IsFileRead S.state (given_file.Opened source) (events_in recorder.new.work) read.end) }
@@ -80,7 +73,7 @@ fn read_source<R: Wait, G: Gate, S: Source + Drop>(
             Ok(event) => tell_verdict(desk, recorder, &event, &mut verdicts)?,
             Err(end) => {
                 let end = end_of(lines, end, faults_before);
-                return Ok(FileRead { verdicts, end });
+                return Ok(FileRun { verdicts, end });
             }
         }
     }
@@ -91,7 +84,7 @@ fn read_file<R: Wait, G: Gate, S: Source + Drop>(
     desk: &Desk<'_, R, G>,
     given: Given<S>,
     recorder: &mut Recorder,
-) -> Result<FileRead, NoMemory>
+) -> Result<FileRun, NoMemory>
     requires { IsNewWorker desk.now.store.now desk.now.number recorder.old }
     ensures read { IfOk result (λ read. IsFileRead S.state given (events_in recorder.new.work) read.end) }
     ensures at_work { IfOk result (λ read.
@@ -99,7 +92,7 @@ fn read_file<R: Wait, G: Gate, S: Source + Drop>(
 {
     match given {
         Given::Opened(source) => read_source(desk, source, recorder),
-        Given::Missing => Ok(FileRead {
+        Given::Missing => Ok(FileRun {
             verdicts: Vec::new(desk.alloc),
             end: not_opened(0, 0),
         }),
@@ -143,7 +136,7 @@ pub fn work<R: Wait, G: Gate, S: Source + Drop>(
 fn end<R: Wait, G: Gate>(
     desk: &Desk<'_, R, G>,
     recorder: Recorder,
-    read: FileRead,
+    read: FileRun,
 ) -> Result<Worked, NoMemory>
     requires { IsAtWork desk.now.store.now desk.now.number read.verdicts.items recorder }
     ensures read { IfOk result (λ worked. (worked.verdicts ≡ read.verdicts) × (worked.end ≡ read.end)) }
@@ -151,7 +144,7 @@ fn end<R: Wait, G: Gate>(
     ensures ended { IfOk result (λ worked. HasEnded desk.now.store.now desk.now.number worked.ended) }
     ensures followed { IfOk result (λ worked. HasFollowedToEnd worked.ended) }
 {
-    let FileRead { verdicts, end } = read;
+    let FileRun { verdicts, end } = read;
     let ended = recorder.end(desk.rt, desk.alloc, desk.store)?;
     Ok(Worked {
         verdicts,

@@ -21,7 +21,7 @@ try() {
 texts() {
   local file head
   echo '//! Files of `examples/` to the letter: `examples/try.sh texts` prints this file.'
-  for file in edge.json web.events api.events tags.json tags.events edge.{statsd,admin} tags.{statsd,prom,admin}; do
+  for file in edge.json web.events api.events tags.json tags.events edge.{statsd,admin} tags.{statsd,prom,symbols}; do
     head="pub const $(tr a-z. A-Z_ <<<"$file"): &str = r#\"$(head -n 1 "examples/$file")"
     # A line that is too long is broken, as `rt fmt` does.
     [ "${#head}" -le 100 ] || head=${head/= r/=$'\n'    r}
@@ -36,9 +36,12 @@ if [ "$1" = texts ]; then
 fi
 for format in statsd prom admin; do
   try "edge.$format" replay --format "$format" examples/edge.json examples/web.events examples/api.events
-  try "tags.$format" replay --symbols --format "$format" examples/tags.json examples/tags.events
   try "run.$format" run --format "$format" examples/run.json examples/{east,west}.events
 done
+for format in statsd prom; do
+  try "tags.$format" replay --format "$format" examples/tags.json examples/tags.events
+done
+try tags.symbols replay --symbols --format admin examples/tags.json examples/tags.events
 texts | cmp -s - crates/test_support/src/example_texts.rt
 told $? example_texts.rt
 exit "$wrong"

@@ -1,4 +1,4 @@
-use Rattle.std.proofs.Common.{ap, ◌∙◌}
+use Rattle.std.proofs.Common.{ap}
 use Rattle.stat_defs.specs.Borrowed.{event_of}
 use Rattle.event_script.specs.Told.{answer_of}
 use Rattle.file_reading.proofs.ReadSoFar.{answered_step, answered_event, lawful_now, room_now, read_more}
