@@ -4,7 +4,7 @@ ghost use Rattle.std.specs.Prelude.{◌≤◌, IfOk};
 
 use crate::envoy_stats_with;
 use name_map::HashKey;
-use stat_defs::{FlushRecord, MetricId, Report, Verdict};
+use stat_defs::{FlushRecord, MetricId, ReadRecord, Report, Verdict};
 use stats_io::{MemFile, MemShelf, MemSink};
 use std::alloc::Global;
 use std::process::Abort;
@@ -139,6 +139,39 @@ fn workers_side_by_side(rt: HostRuntime) -> Result<(), Fail> {
     Ok(())
 }
 
+const USAGE: &[u8] =
+    b"usage: envoy_stats run|replay [--symbols] [--format statsd|prom|admin] BOOT FILE.. | check BOOT | bins V.. | load [--run] W E\n";
+
+// Words that say no command, where there is a file `f`.
+const BAD_WORDS: [&str; 8] = [
+    "",
+    "replay",
+    "replay -",
+    "run",
+    "run -",
+    "run --format x - f",
+    "run --symbols --symbols - f",
+    "bins 01",
+];
+
+#[test]
+fn bad_words(rt: HostRuntime) -> Result<(), Fail> {
+    let alloc = rt.alloc();
+    for words in BAD_WORDS {
+        let file = file_of(alloc, "f", b"inc root a 1\n", 9_999)?;
+        let shelf = MemShelf::new(vec![in alloc; file]?, Vec::new(alloc));
+        let played = run_over(&rt, alloc, words, shelf, 9_999)?;
+        let wanted = Wanted {
+            status: 1,
+            reports: false,
+            out: b"",
+            err: USAGE,
+        };
+        assert_played(&rt, words, &played, wanted);
+    }
+    Ok(())
+}
+
 #[test]
 fn each_push_of_a_run_failing(rt: HostRuntime) -> Result<(), Fail> {
     let output = b"# last\nenvoy.a:7|c\n# worker 1: 2 accepted, 0 dropped\n";
@@ -159,10 +192,10 @@ const PACED: &[u8] = b"{\"stats_run\":{\"flushes\":2,\"flush_every\":2000,\"read
 
 const LINES: u64 = 2000;
 
-// A bootstrap, and a file of so many times that line.
-fn many_lines(alloc: Global, boot: &[u8], line: &[u8]) -> Result<MemShelf, Fail> {
+// A bootstrap, and a file of that line, repeated this number of times.
+fn many_lines(alloc: Global, boot: &[u8], line: &[u8], times: u64) -> Result<MemShelf, Fail> {
     let mut bytes = Vec::new(alloc);
-    for _ in 0..LINES {
+    for _ in 0..times {
         bytes.extend_from_slice(line)?;
     }
     let boot = file_of(alloc, "b", boot, 9_999)?;
@@ -176,9 +209,22 @@ fn paced_report<R: Threads + Wait + Sync>(
     alloc: Global,
     line: &[u8],
 ) -> Result<Report, Fail> {
-    let shelf = many_lines(alloc, PACED, line)?;
+    let shelf = many_lines(alloc, PACED, line, LINES)?;
     let played = run_over(rt, alloc, "run b f", shelf, 9_999)?;
     Ok(played.outcome.report.ok_or("no report")?)
+}
+
+// Two flushes before the last one, behind three and six events, and a reading behind three.
+const EVERY_THREE: &[u8] = b"{\"stats_run\":{\"flushes\":2,\"flush_every\":3,\"reads\":1}}";
+
+// What a run of ten of these lines comes to.
+fn run_of_ten<R: Threads + Wait + Sync>(
+    rt: &R,
+    alloc: Global,
+    line: &[u8],
+) -> Result<Played, Fail> {
+    let shelf = many_lines(alloc, EVERY_THREE, line, 10)?;
+    run_over(rt, alloc, "run b f", shelf, 9_999)
 }
 
 // The units of the first metric in a flush.
@@ -188,6 +234,15 @@ fn first_units(flush: &FlushRecord) -> u64 {
         if delta.id == MetricId(0) {
             units = units.saturating_add(delta.n);
         }
+    }
+    units
+}
+
+// The units of the first metric in all flushes.
+fn all_units(flushes: &[FlushRecord]) -> u64 {
+    let mut units = 0u64;
+    for flush in flushes {
+        units = units.saturating_add(first_units(flush));
     }
     units
 }
@@ -203,6 +258,15 @@ fn values_in(flush: &FlushRecord) -> u64 {
     values
 }
 
+// The values in all parts of all flushes.
+fn all_values(flushes: &[FlushRecord]) -> u64 {
+    let mut values = 0u64;
+    for flush in flushes {
+        values = values.saturating_add(values_in(flush));
+    }
+    values
+}
+
 // No round begins early.
 #[test]
 fn flushes_and_reads(rt: HostRuntime) -> Result<(), Fail> {
@@ -210,11 +274,7 @@ fn flushes_and_reads(rt: HostRuntime) -> Result<(), Fail> {
     let flushes = report.flushes.items();
     assert_eq!(rt; flushes.len(), 3);
     assert_eq!(rt; first_units(&flushes[0]), LINES);
-    let mut units = 0u64;
-    for flush in flushes {
-        units = units.saturating_add(first_units(flush));
-    }
-    assert_eq!(rt; units, LINES);
+    assert_eq!(rt; all_units(flushes), LINES);
     assert_eq!(rt; report.reads.items().len(), 1);
     for reading in report.reads.items() {
         for counter in reading.counters.items() {
@@ -227,11 +287,48 @@ fn flushes_and_reads(rt: HostRuntime) -> Result<(), Fail> {
 #[test]
 fn flushes_of_values(rt: HostRuntime) -> Result<(), Fail> {
     let report = paced_report(&rt, rt.alloc(), b"rec root h 7\n")?;
-    let mut values = 0u64;
-    for flush in report.flushes.items() {
-        values = values.saturating_add(values_in(flush));
+    assert_eq!(rt; all_values(report.flushes.items()), LINES);
+    Ok(())
+}
+
+// The line on a run's first reading.
+fn reading_line(alloc: Global, reading: &ReadRecord) -> Result<String, Fail> {
+    let mut units = 0u64;
+    for counter in reading.counters.items() {
+        units = units.saturating_add(counter.word);
     }
-    assert_eq!(rt; values, LINES);
+    let counters = reading.counters.items().len();
+    Ok(format!(in alloc; "# read 1: {counters} counters, {units} units")?)
+}
+
+// How many of the units each flush and the reading find depends on the schedule.
+#[test]
+fn ten_units_flushed_and_read(rt: HostRuntime) -> Result<(), Fail> {
+    let alloc = rt.alloc();
+    let played = run_of_ten(&rt, alloc, b"inc root a 1\n")?;
+    assert_eq!(rt; played.outcome.status, 0);
+    let report = played.outcome.report.as_ref().ok_or("no report")?;
+    let flushes = report.flushes.items();
+    assert_eq!(rt; flushes.len(), 3);
+    assert_eq!(rt; all_units(flushes), 10);
+    let readings = report.reads.items();
+    assert_eq!(rt; readings.len(), 1);
+    let line = reading_line(alloc, &readings[0])?;
+    assert!(rt; has_line(played.out.bytes(), line.as_str()));
+    assert!(rt; readings[0].counters.items().len() <= 1);
+    for counter in readings[0].counters.items() {
+        assert!(rt; counter.id == MetricId(0) && counter.word <= 10);
+    }
+    Ok(())
+}
+
+#[test]
+fn ten_values_flushed(rt: HostRuntime) -> Result<(), Fail> {
+    let played = run_of_ten(&rt, rt.alloc(), b"rec root h 7\n")?;
+    assert_eq!(rt; played.outcome.status, 0);
+    let report = played.outcome.report.as_ref().ok_or("no report")?;
+    assert_eq!(rt; report.flushes.items().len(), 3);
+    assert_eq!(rt; all_values(report.flushes.items()), 10);
     Ok(())
 }
 

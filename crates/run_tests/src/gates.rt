@@ -1,15 +1,24 @@
 //! Gates that hold the threads of a run up until another thread has come to some place.
 
 use run_gates::Gate;
+use std::hint::spin_loop;
 use std::sync::Wait;
 use std::sync::atomic::{AtomicBool, AtomicU64, Ordering};
-use std::thread::yield_now;
+use std::thread::{Parker, yield_now};
+use std::time::Duration;
 
 /// The maximum number of turns that a gate waits for a thread.
 const TURNS: u32 = 1_000_000;
 
-/// The turns that an event waits for a flush, which may itself be waiting for that event.
-const FEW_TURNS: u32 = 20;
+/// The event at which flush 1 may begin.
+const SIXTH: u64 = 6;
+
+/// The maximum number of turns that an event waits for a flush, which may itself be waiting for that event. Such a turn
+/// does not yield: on a busy machine each yield costs a whole slice of time, and a thousand of them many seconds.
+const EVENT_TURNS: u32 = 1_000;
+
+/// The maximum number of milliseconds that an event sleeps after these turns, so that the flusher gets a processor.
+const EVENT_SLEEP: u64 = 4;
 
 /// Whether a gate has waited in vain. Then it holds no more, so that the run ends and its test says so.
 #[derive(Drop)]
@@ -203,62 +212,69 @@ impl Gate for ReadingBetween {
     }
 }
 
-/// Makes flush 1 behind the fifth event of the one worker and, where it can, before its last one. The flush needs events
-/// to go on, since a worker turns its half with an event. So each event waits for the end of the flush, but only a few
-/// turns. Where the flusher gets no processor meanwhile, the flush comes too late, and the gate says so.
+/// Makes flush 1 behind the fifth event of the one worker, and holds the worker up so that the flush ends before the
+/// worker is done. A flush needs events to go on, since a worker turns its half before an event. So each event from the
+/// sixth on waits for the end of flush 1, but only for a while.
 #[derive(Drop)]
 pub(crate) struct FlushAmong {
     pub(crate) patience: Patience,
-    last_event: u64,
     sixth_event: AtomicBool,
     second_flush: AtomicBool,
+    waking: Parker,
     among: AtomicBool,
 }
 
 impl FlushAmong {
-    pub(crate) fn new(last_event: u64) -> FlushAmong {
+    pub(crate) fn new() -> FlushAmong {
         FlushAmong {
             patience: Patience::new(),
-            last_event,
             sixth_event: AtomicBool::new(false),
             second_flush: AtomicBool::new(false),
+            waking: Parker::new(),
             among: AtomicBool::new(false),
         }
     }
 
-    /// Whether flush 1 was made before the last event.
+    /// Whether the flusher came to its second flush before the worker was done.
     pub(crate) fn was_among(&self) -> bool {
         self.among.load(Ordering::SeqCst)
     }
 
-    fn wait_a_little(&self) {
-        for _ in 0..FEW_TURNS {
-            if self.second_flush.load(Ordering::SeqCst) {
+    fn is_flushed(&self) -> bool {
+        self.second_flush.load(Ordering::SeqCst)
+    }
+
+    fn wait_a_while<R: Wait>(&self, rt: &R) {
+        for _ in 0..EVENT_TURNS {
+            if self.is_flushed() {
                 return;
             }
-            yield_now();
+            spin_loop();
         }
+        self.waking
+            .park_timeout(rt, Duration::from_millis(EVENT_SLEEP));
     }
 }
 
 impl Gate for FlushAmong {
-    fn worker_at<R: Wait>(&self, _rt: &R, _worker: u32, event: u64) {
-        if event >= 6 {
+    fn worker_at<R: Wait>(&self, rt: &R, _worker: u32, event: u64) {
+        if event >= SIXTH {
             self.sixth_event.store(true, Ordering::SeqCst);
-            self.wait_a_little();
-        }
-        if event == self.last_event {
-            let made = self.second_flush.load(Ordering::SeqCst);
-            self.among.store(made, Ordering::SeqCst);
+            self.wait_a_while(rt);
         }
     }
 
-    fn worker_done<R: Wait>(&self, _rt: &R, _worker: u32) {}
+    fn worker_done<R: Wait>(&self, _rt: &R, _worker: u32) {
+        self.among.store(self.is_flushed(), Ordering::SeqCst);
+    }
 
     fn flusher_at<R: Wait>(&self, _rt: &R, round: u32) {
         match round {
             1 => self.patience.wait_for(&self.sixth_event),
-            _ => self.second_flush.store(true, Ordering::SeqCst),
+            _ => {
+                self.second_flush.store(true, Ordering::SeqCst);
+                self.waking.unpark();
+            }
         }
     }
 

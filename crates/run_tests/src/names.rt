@@ -33,10 +33,6 @@ fn files(alloc: Global) -> Result<Vec<Given<MemSource>>, Fail> {
     Ok(files)
 }
 
-fn names_in(reading: &ReadRecord) -> u64 {
-    (reading.counters.items().len() as u64).wrapping_add(reading.gauges.items().len() as u64)
-}
-
 // Follows the log up to the place of a reading. Whether the reading has the counters and the gauges that are not gone
 // there.
 fn is_of_its_place(
@@ -56,13 +52,15 @@ fn is_of_its_place(
     )
 }
 
-// Whether each reading has the names that were not gone behind its place, which never falls.
+// Whether each reading has the names that were not gone behind its place, which never falls, and which is not the start of
+// the log: each reading waits for five events, and where four workers have done five, one of them has made a counter.
 fn are_of_the_log(alloc: Global, report: &Report) -> Result<bool, NoMemory> {
     let mut known = KnownNames::new(alloc, 4)?;
     let mut left = report.log.items().iter();
     let mut followed = 0u64;
     for reading in report.reads.items() {
-        if reading.at < followed || !is_of_its_place(&mut known, &mut left, followed, reading)? {
+        let goes_on = reading.at > 0 && reading.at >= followed;
+        if !goes_on || !is_of_its_place(&mut known, &mut left, followed, reading)? {
             return Ok(false);
         }
         followed = reading.at;
@@ -70,27 +68,17 @@ fn are_of_the_log(alloc: Global, report: &Report) -> Result<bool, NoMemory> {
     Ok(known.agrees)
 }
 
-// The most names that a reading had.
-fn most_names(report: &Report) -> u64 {
-    let mut most = 0u64;
-    for reading in report.reads.items() {
-        most = most.max(names_in(reading));
-    }
-    most
-}
-
+// How many names a reading finds depends on the schedule: all of them may be gone. A reading that must find one is in
+// `rows::a_reading_between_two_events`.
 #[test]
 fn readings_are_of_one_moment_each(rt: HostRuntime) -> Result<(), Fail> {
     let alloc = rt.alloc();
-    let mut most = 0u64;
     for _ in 0..RUNS {
         let gate = PaceGate::new(alloc, 4, 5)?;
         let report = run(&rt, alloc, &gate, MANY_READINGS, files(alloc)?)?;
+        assert!(rt; report.reads.items().len() == 64);
         assert!(rt; are_of_the_log(alloc, &report)?);
-        most = most.max(most_names(&report));
         drop(report);
     }
-    // A reading that found names was among them.
-    assert!(rt; most > 0);
     Ok(())
 }

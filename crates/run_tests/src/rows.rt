@@ -87,11 +87,12 @@ fn a_reading_between_two_events(rt: HostRuntime) -> Result<(), Fail> {
     Ok(())
 }
 
-// A flush that was made among the events has the five values before it, and not the counter that the last event makes.
+// A worker turns its half before an event, so a flush that ends before the worker is done was begun before the last event,
+// which makes the counter. It has the five values before it began, and not the counter.
 #[test]
 fn halves_turn_during_the_run(rt: HostRuntime) -> Result<(), Fail> {
     let alloc = rt.alloc();
-    let gate = FlushAmong::new(1_005);
+    let gate = FlushAmong::new();
     let mut lines = repeated(alloc, "rec root h 7\n", 1_004)?;
     lines.push_str("inc root z 1\n")?;
     let files = vec![in alloc; file_of(alloc, lines.as_str())?]?;
@@ -100,16 +101,21 @@ fn halves_turn_during_the_run(rt: HostRuntime) -> Result<(), Fail> {
         !gate.patience.is_lost(),
         "flush 1 waited for the sixth event in vain"
     );
+    assert!(rt; gate.was_among(), "flush 1 came too late");
     let flushes = report.flushes.items();
     let last = MetricId(1);
     assert!(rt; flushes.len() == 3);
+    let parts = flushes[0].parts.items().len();
     let values = values_in(&flushes[0]);
-    let units = delta_of(&flushes[0], last);
     assert!(rt;
-        !gate.was_among() || (values >= 5 && units == 0),
-        "flush 1 has {values} values, and {units} units of z"
+        parts == 1 && values >= 5,
+        "flush 1 has {parts} parts with {values} values"
     );
-    assert!(rt; units_of(flushes, last) == 1 && all_values(flushes) == 1_004);
+    assert!(rt;
+        flushes[0].deltas.items().is_empty(),
+        "flush 1 has units of z"
+    );
+    assert!(rt; units_of(&flushes[1..], last) == 1 && all_values(flushes) == 1_004);
     drop(report);
     Ok(())
 }
