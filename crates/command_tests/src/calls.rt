@@ -7,7 +7,7 @@ use std::alloc::Global;
 use std::process::Abort;
 use std::test::Fail;
 use tag_rules::{PatternMaker, RegexMaker};
-use test_support::{Played, Wanted, assert_played, words_of};
+use test_support::{Played, Wanted, words_of};
 
 // Calls `quiet_stats_with` under a key of its own. It has no clauses, so that no test's proof carries those of
 // that call.
@@ -77,6 +77,6 @@ pub(crate) fn assert_call(
     wanted: Wanted<'_>,
 ) -> Result<(), Fail> {
     let played = play_over(alloc, words, shelf, 100, 999)?;
-    assert_played(rt, words, &played, wanted);
+    assert!(rt; played.came_to(wanted), "{words}");
     Ok(())
 }

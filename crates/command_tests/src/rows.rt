@@ -4,7 +4,7 @@ use crate::calls::play_over;
 use std::alloc::Global;
 use std::process::Abort;
 use std::test::Fail;
-use test_support::{Wanted, assert_played, shelf_with};
+use test_support::{Wanted, shelf_with};
 
 // A row a block. Behind `>` stand the words, then the lines of the files, whose last has no newline where it ends in `\`,
 // the number of the pull that fails of each file if one does, the status, and the lines of both outputs.
@@ -438,7 +438,7 @@ fn assert_row(rt: &impl Abort, alloc: Global, row: &str) -> Result<(), Fail> {
         out: &text_behind(alloc, row, "out:")?,
         err: &text_behind(alloc, row, "err:")?,
     };
-    assert_played(rt, row, &played, wanted);
+    assert!(rt; played.came_to(wanted), "{row}");
     Ok(())
 }
 

@@ -11,7 +11,7 @@ use std::sync::Wait;
 use std::test::Fail;
 use std::thread::Threads;
 use tag_rules::RegexMaker;
-use test_support::{Played, Wanted, assert_played, words_of};
+use test_support::{Played, Wanted, words_of};
 
 // Rows of two lines, parted by an empty line. The first line has the words behind the command, the files `f1` and `f2`,
 // and what fails: an opening, a pull of a file, or a push of `out` or `err`, each with its number from 0. The second one
@@ -167,7 +167,7 @@ fn assert_row<R: Threads + Wait + Sync + Abort>(
             &err
         },
     };
-    assert_played(rt, row, &played, wanted);
+    assert!(rt; played.came_to(wanted), "{row}");
     // The bootstrap's source counts its one failed pull; an opening is counted by the shelf.
     let boot_fails = case.starts_with("f1 f2") && !case.contains("open");
     assert_eq!(rt; played.outcome.boot_faults, u64::from(boot_fails), "{row}");

@@ -12,9 +12,7 @@ use std::sync::Wait;
 use std::test::Fail;
 use std::thread::Threads;
 use tag_rules::RegexMaker;
-use test_support::{
-    EDGE_JSON, Played, Wanted, assert_played, file_of, shelf_of, shelf_with, words_of,
-};
+use test_support::{EDGE_JSON, Played, Wanted, file_of, shelf_of, shelf_with, words_of};
 
 // What a call of the program over that shelf comes to, with that output sink.
 fn run_into<R: Threads + Wait + Sync>(
@@ -134,7 +132,7 @@ fn workers_side_by_side(rt: HostRuntime) -> Result<(), Fail> {
             out: row.out.as_bytes(),
             err: row.err.as_bytes(),
         };
-        assert_played(&rt, row.words, &played, wanted);
+        assert!(rt; played.came_to(wanted), "{}", row.words);
     }
     Ok(())
 }
@@ -167,7 +165,7 @@ fn bad_words(rt: HostRuntime) -> Result<(), Fail> {
             out: b"",
             err: USAGE,
         };
-        assert_played(&rt, words, &played, wanted);
+        assert!(rt; played.came_to(wanted), "{words}");
     }
     Ok(())
 }

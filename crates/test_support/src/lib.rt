@@ -10,4 +10,4 @@ pub use example_texts::{
     TAGS_SYMBOLS, WEB_EVENTS,
 };
 pub use files::{file_of, shelf_of, shelf_with};
-pub use played::{Played, Wanted, assert_played, words_of};
+pub use played::{Played, Wanted, words_of};

@@ -3,7 +3,6 @@
 use stats_commands::Outcome;
 use stats_io::{MemShelf, MemSink};
 use std::alloc::Global;
-use std::process::Abort;
 use std::test::Fail;
 
 /// What a call left.
@@ -35,10 +34,12 @@ pub fn words_of(alloc: Global, text: &str) -> Result<Vec<String>, Fail> {
     Ok(words)
 }
 
-/// The call of that case came to what is wanted.
-pub fn assert_played(rt: &impl Abort, case: &str, played: &Played, wanted: Wanted<'_>) {
-    assert_eq!(rt; played.outcome.status, wanted.status, "{case}");
-    assert_eq!(rt; played.outcome.report.is_some(), wanted.reports, "{case}");
-    assert!(rt; played.out.bytes() == wanted.out, "{case}");
-    assert!(rt; played.err.bytes() == wanted.err, "{case}");
+impl Played {
+    /// Whether the call came to what is wanted.
+    pub fn came_to(&self, wanted: Wanted<'_>) -> bool {
+        if self.outcome.status != wanted.status || self.outcome.report.is_some() != wanted.reports {
+            return false;
+        }
+        self.out.bytes() == wanted.out && self.err.bytes() == wanted.err
+    }
 }
