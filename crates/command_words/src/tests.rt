@@ -64,7 +64,6 @@ none | replay --help
 none | run -h
 none | run --version
 none | run -V
-none | run --format x - f
 none | replays - f
 check - | check -
 check b | check b
