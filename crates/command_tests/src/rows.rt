@@ -432,11 +432,15 @@ fn assert_row(rt: &impl Abort, alloc: Global, row: &str) -> Result<(), Fail> {
     let shelf = shelf_with(alloc, &first, &second, b"", failing_pull)?;
     let played = play_over(alloc, words, shelf, 7, 999)?;
     let status = digit_behind(row, "status ");
+    let (out, err) = (
+        text_behind(alloc, row, "out:")?,
+        text_behind(alloc, row, "err:")?,
+    );
     let wanted = Wanted {
         status,
         reports: words.starts_with("replay") && status != 2,
-        out: &text_behind(alloc, row, "out:")?,
-        err: &text_behind(alloc, row, "err:")?,
+        out: &out,
+        err: &err,
     };
     assert!(rt; played.came_to(wanted), "{row}");
     Ok(())
