@@ -1,5 +1,5 @@
 //! Text as bytes.
-ghost use Rattle.std.specs.Prelude.{◌≡◌, ◌≤◌, IfOk, Some, nat_eq, refl, length, take, [], IsTrue, false};
+ghost use Rattle.std.specs.Prelude.{◌≡◌, ◌≤◌, ◌+◌, IfOk, Some, nat_eq, refl, length, take, slice_range};
 ghost use Rattle.std.specs.Hash as fed;
 ghost use Rattle.std.specs.Cmp.Lexicographic.{pointwise, slice_cmp, nat_list_eq_equiv, nat_list_cmp_total, texts_ties};
 ghost use Rattle.std.specs.Cmp.Lexicographic.{texts_po};
@@ -7,25 +7,35 @@ ghost use Rattle.std.specs.Cmp.{partial_equiv_from_equiv};
 ghost use Rattle.std.specs.Cmp.Rules.{hashing};
 ghost use Rattle.std.specs.Ordering.{nat_cmp};
 ghost use Rattle.std.proofs.Common.{rules};
-ghost use Rattle.stat_defs.specs.Texts.{bytes_of, IsHeld};
+ghost use Rattle.stat_defs.specs.Texts.{bytes_in, bytes_of, IsPart, IsHeld};
 
 use crate::memory::NoMemory;
 use std::alloc::{AllocError, Global};
 use std::cmp::Ordering;
 use std::hash::{Hash, Hasher};
 use std::marker::Model;
+use std::sync::ArcSlice;
 
-// A text of at most so many bytes lies in the value itself.
-const MAX_SHORT: usize = 23;
+// Maximum number of bytes that lie in the value itself.
+const MAX_SHORT: usize = 22;
+
+// The bytes from one place of a vector up to another. Texts share the vector.
+#[derive(Drop, Debug)]
+struct Part {
+    whole: ArcSlice<u8>,
+    from: u32,
+    to: u32,
+}
 
 #[derive(Drop, Debug)]
 enum Held {
     Short { count: u8, bytes: [u8; MAX_SHORT] },
-    Long(Vec<u8>),
+    Long(Part),
 }
 
 /// A text: a name, a label, a prefix or a pattern. Contracts see it as its list of bytes, and it is compared byte by
-/// byte. A short text takes no memory of its own, which no contract says.
+/// byte. A short text takes no memory of its own, and the copies and the parts of a long one share its bytes, which no
+/// contract says.
 #[derive(Drop, Debug)]
 pub struct Txt {
     held: Held,
@@ -43,7 +53,7 @@ impl Model for Txt {
     ghost invariant = { λ t. IsHeld t.held };
 }
 
-const _: () = prove!(size_of::<Txt>() == 32);
+const _: () = prove!(size_of::<Txt>() == 24);
 
 // The bytes, with zeros behind them.
 fn padded(bytes: &[u8]) -> [u8; MAX_SHORT]
@@ -67,18 +77,41 @@ fn in_place(bytes: &[u8]) -> Held
     }
 }
 
-// Puts these bytes in the place of the vector's, where they fit into its memory.
-fn refill_vec(held: &mut Vec<u8>, bytes: &[u8]) -> bool
-    ensures filled { IsTrue result → held.new.items ≡ bytes.now }
-    ensures kept { result ≡ false → held.new ≡ held.old }
+// All bytes of the vector, of which a text has fewer than 2^32.
+fn whole(bytes: Vec<u8>) -> Result<Held, NoMemory>
+    ensures held { IfOk result IsHeld }
+    ensures bytes { IfOk result (λ held. bytes_of held ≡ bytes.items) }
 {
-    if bytes.len() > held.capacity() {
-        return false;
+    let Ok(to) = u32::try_from(bytes.len()) else {
+        return Err(NoMemory);
+    };
+    Ok(Held::Long(Part {
+        whole: ArcSlice::from_vec(bytes)?,
+        from: 0,
+        to,
+    }))
+}
+
+impl Part {
+    // The bytes from one place of these up to another.
+    fn part(&self, from: usize, to: usize) -> Result<Part, AllocError>
+        requires part { IsPart self.now }
+        requires places { (from ≤ to) × (self.now.from + to ≤ self.now.to) }
+        ensures part { IfOk result IsPart }
+        ensures bytes { IfOk result (λ part. bytes_in part ≡ slice_range (bytes_in self.now) from to) }
+    {
+        Ok(Part {
+            whole: self.whole.clone()?,
+            from: (self.from as usize + from) as u32,
+            to: (self.from as usize + to) as u32,
+        })
     }
-    held.clear();
-    match held.extend_from_slice(bytes) {
-        Ok(()) => true,
-        Err(_) => unreachable!(),
+
+    fn bytes(&self) -> &[u8]
+        requires { IsPart self.now }
+        ensures { result.now ≡ bytes_in self.now }
+    {
+        &self.whole.as_slice()[self.from as usize..self.to as usize]
     }
 }
 
@@ -87,48 +120,36 @@ impl Txt {
     pub fn of(alloc: Global, bytes: &[u8]) -> Result<Txt, NoMemory>
         ensures { IfOk result (λ t. t ≡ bytes.now) }
     {
-        if bytes.len() <= MAX_SHORT {
-            return Ok(Txt {
-                held: in_place(bytes),
-            });
-        }
-        Ok(Txt {
-            held: Held::Long(bytes.to_vec(alloc)?),
-        })
+        let held = if bytes.len() <= MAX_SHORT {
+            in_place(bytes)
+        } else {
+            whole(bytes.to_vec(alloc)?)?
+        };
+        Ok(Txt { held })
     }
 
-    /// The same bytes, without a copy.
-    pub fn of_vec(bytes: Vec<u8>) -> Txt
-        ensures { result ≡ bytes.items }
+    /// The same bytes, without a copy where they are many.
+    pub fn of_vec(bytes: Vec<u8>) -> Result<Txt, NoMemory>
+        ensures { IfOk result (λ t. t ≡ bytes.items) }
     {
-        Txt {
-            held: Held::Long(bytes),
-        }
+        let held = if bytes.len() <= MAX_SHORT {
+            in_place(&bytes)
+        } else {
+            whole(bytes)?
+        };
+        Ok(Txt { held })
     }
 
-    /// The empty text, with memory for a text of so many bytes.
-    pub fn with_room(alloc: Global, room: usize) -> Result<Txt, NoMemory>
-        ensures { IfOk result (λ t. t ≡ []) }
+    /// The bytes from one place up to another, without a copy where they are many.
+    pub fn part(&self, from: usize, to: usize) -> Result<Txt, NoMemory>
+        requires { (from ≤ to) × (to ≤ length self.now) }
+        ensures { IfOk result (λ t. t ≡ slice_range self.now from to) }
     {
-        Ok(Txt {
-            held: Held::Long(Vec::with_capacity(alloc, room)?),
-        })
-    }
-
-    /// Puts these bytes in the place of the text's own where they fit into the memory that it has, and says whether
-    /// they did.
-    pub fn refill(&mut self, bytes: &[u8]) -> bool
-        ensures filled { IsTrue result → self.new ≡ bytes.now }
-        ensures kept { result ≡ false → self.new ≡ self.old }
-    {
-        if let Held::Long(held) = &mut self.held {
-            return refill_vec(held, bytes);
-        }
-        if bytes.len() > MAX_SHORT {
-            return false;
-        }
-        self.held = in_place(bytes);
-        true
+        let held = match &self.held {
+            Held::Long(part) if to - from > MAX_SHORT => Held::Long(part.part(from, to)?),
+            _ => in_place(&self.bytes()[from..to]),
+        };
+        Ok(Txt { held })
     }
 
     pub fn bytes(&self) -> &[u8]
@@ -136,7 +157,7 @@ impl Txt {
     {
         match &self.held {
             Held::Short { count, bytes } => &bytes[..*count as usize],
-            Held::Long(bytes) => bytes,
+            Held::Long(part) => part.bytes(),
         }
     }
 }
@@ -151,7 +172,7 @@ impl Clone for Txt {
                     count: *count,
                     bytes: *bytes,
                 },
-                Held::Long(bytes) => Held::Long(bytes.clone()?),
+                Held::Long(part) => Held::Long(part.part(0, (part.to - part.from) as usize)?),
             },
         })
     }
