@@ -12,13 +12,13 @@ pub fn full_name(alloc: Global, prefix: &Txt, name: &Txt) -> Result<Txt, NoMemor
     ensures { IfOk result (λ text. text ≡ full prefix.now name.now) }
 {
     let prefix = prefix.bytes();
-    let name = name.bytes();
     if prefix.is_empty() {
-        return Txt::of(alloc, name);
+        return Ok(name.clone()?);
     }
+    let name = name.bytes();
     let mut text = Vec::with_capacity(alloc, prefix.len() + 1 + name.len())?;
     text.extend_from_slice(prefix)?;
     text.push(b'.')?;
     text.extend_from_slice(name)?;
-    Ok(Txt::of_vec(text))
+    Txt::of_vec(text)
 }

@@ -436,7 +436,7 @@ fn new_metric(
         kind: key.kind,
         mode: key.mode,
         numbers: Numbers::of(numbers.to_vec(alloc)?),
-        tagged: rules.split(alloc, name.bytes())?,
+        tagged: rules.split(alloc, name)?,
         text: Txt::of(alloc, b"")?,
         life: Life::Live,
     })

@@ -18,7 +18,7 @@ fn indexed(alloc: Global, list: &str, i: usize, part: &str) -> Result<Txt, NoMem
     ensures { IfOk result (λ path. path ≡ indexed list.now i part.now) }
 {
     let text = format!(in alloc; "{list}[{i}]{part}")?;
-    Ok(Txt::of_vec(text.into_bytes()))
+    Txt::of_vec(text.into_bytes())
 }
 
 // The paths of a part of each of so many members of a list.

@@ -120,7 +120,7 @@ fn pattern(alloc: Global, part: Part, text: &str) -> Result<Pattern, Fail>
 
 // What the rules make of a name: what is left of it, and after it each tag.
 fn shown(alloc: Global, rules: &TagRules, name: &str) -> Result<Vec<u8>, Fail> {
-    let tagged = rules.split(alloc, name.as_bytes())?;
+    let tagged = rules.split(alloc, &Txt::of(alloc, name.as_bytes())?)?;
     let mut text = tagged.extracted.bytes().to_vec(alloc)?;
     for tag in tagged.tags.items() {
         text.extend_from_slice(b" ")?;

@@ -31,7 +31,7 @@ fn indexed(alloc: Global, list: &str, i: usize, part: &str, rest: &str) -> Resul
     ensures { IfOk result (λ t. t ≡ indexed list.now i (part.now ++ rest.now)) }
 {
     let text = format!(in alloc; "{list}[{i}]{part}{rest}")?;
-    Ok(Txt::of_vec(text.into_bytes()))
+    Txt::of_vec(text.into_bytes())
 }
 
 /// The path of a part of the member at a place, as `stats_run.scopes[2].label` for the part `.label`; of the whole

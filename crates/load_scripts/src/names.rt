@@ -25,7 +25,7 @@ const _: () = prove!(COUNTERS == 512 && HISTOGRAMS == 16);
 fn lettered(alloc: Global, letter: &str, n: usize) -> Result<Txt, NoMemory>
     ensures { IfOk result (λ name. name ≡ letter.now ++ decimal n) }
 {
-    Ok(Txt::of_vec(format!(in alloc; "{letter}{n}")?.into_bytes()))
+    Txt::of_vec(format!(in alloc; "{letter}{n}")?.into_bytes())
 }
 
 // The names of a letter with the numbers from 0 on.

@@ -147,14 +147,14 @@ impl SymbolTable {
         ensures { IfOk result (λ text. text ≡ text_in self.now name.now) }
     {
         let Some((first, rest)) = name.symbols().split_first() else {
-            return Ok(Txt::of_vec(Vec::new(alloc)));
+            return Txt::of(alloc, b"");
         };
         let mut text = self.token_of(*first).to_vec(alloc)?;
         for n in rest {
             text.push(b'.')?;
             text.extend_from_slice(self.token_of(*n))?;
         }
-        Ok(Txt::of_vec(text))
+        Txt::of_vec(text)
     }
 }
 

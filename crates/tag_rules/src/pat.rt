@@ -74,7 +74,9 @@ impl Pat {
             return Err(Error::CompiledTooBig);
         }
         let starts = Starts::of(alloc, &parsed.hir)?;
-        let text = Txt::of_vec(text.as_bytes().to_vec(alloc)?);
+        let Ok(text) = Txt::of(alloc, text.as_bytes()) else {
+            return Err(Error::OutOfMemory);
+        };
         Ok(Pat { text, nfa, starts })
     }
 
