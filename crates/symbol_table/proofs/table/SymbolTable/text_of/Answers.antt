@@ -3,6 +3,7 @@ use Rattle.std.specs.List.{flat_map}
 use Rattle.std.proofs.lemmas.List.{take_all}
 use Rattle.symbol_table.specs.Table.{uses_at, token_in, text_in}
 use Rattle.symbol_table.proofs.Holding.{text_whole, text_more, tail_used}
+use Rattle.std.proofs.lemmas.Result.{IfOk-weaker}
 use Rattle.symbol_table.proofs.table.SymbolTable.text_of.Goals as goal
 
 pub token_of-requires-in-loop-n : goal.token_of-requires-in-loop-n
@@ -24,4 +25,5 @@ returns c =
     let whole = ap (λ (l : List ℕ). c.in_ok-text.text.items ++ flat_map (λ n. 46 ∷ token_in c.args.self.now n) l) (take_all c.loop-n.n-index c.in-Some.rest.now c.loop-n-test.false) in
     let first = ap (λ (s : List ℕ). s ++ flat_map (λ n. 46 ∷ token_in c.args.self.now n) c.in-Some.rest.now) copy in
     let name = ap (text_in c.args.self.now) (sym c.in-Some.ensures.cases.0 ∙ c.symbols.ensures.numbers) in
-    c.of_vec-2.ensures ∙ (c.loop-n.invariant ∙ (whole ∙ (first ∙ (sym (text_whole c.args.self.now c.in-Some.first.now c.in-Some.rest.now) ∙ name))))
+    let all = c.loop-n.invariant ∙ (whole ∙ (first ∙ (sym (text_whole c.args.self.now c.in-Some.first.now c.in-Some.rest.now) ∙ name))) in
+    IfOk-weaker c.of_vec.result (λ text. text ≡ c.loop-n.text.items) (λ text. text ≡ text_in c.args.self.now c.args.name.now) (λ text is. is ∙ all) c.of_vec.ensures
