@@ -107,6 +107,7 @@ impl Recorder {
     /// Applies an event, where no acknowledgement is due: by what is held, else by one find, one opening or one release
     /// of the book, under its lock, which may wait. The text of an accepted readout is set by one call more. Where there
     /// is no memory the event counts as given, and the log may have the find of its key.
+    #[inline(always)]
     pub fn apply<R: Wait>(
         &mut self,
         rt: &R,

@@ -64,6 +64,7 @@ fn left_behind(
 impl Recorder {
     /// Looks once whether the flusher asks for the half, which is turned then, and loads the number of releases once.
     /// Where that is above what the seat has acknowledged, all are acknowledged by one call of the book, which may wait.
+    #[inline(always)]
     pub fn poll<R: Wait>(
         &mut self,
         rt: &R,

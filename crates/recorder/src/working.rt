@@ -16,6 +16,7 @@ use std::sync::Wait;
 use store_parts::Store;
 
 /// Polls, and applies one event. Where the recorder's entries were those of its events, they are so with this one.
+#[inline(always)]
 pub fn work_one<R: Wait>(
     rt: &R,
     alloc: Global,
