@@ -7,7 +7,7 @@ use crate::shelf::{OpenFault, Shelf};
 use crate::sink::{Push, Sink};
 use crate::source::{Pull, Source};
 use std::alloc::Global;
-use std::io::{Read, Write};
+use std::io::{BufReader, Read, Write};
 use std::marker::{Model, Send};
 use std::rt::Files;
 use std::{fs, io};
@@ -78,6 +78,10 @@ impl<F: Read> Source for FileSource<F> {
     }
 }
 
+// Number of bytes that are read ahead in a file: a file is pulled in small pieces, and not each of them is a call of the
+// system.
+const READ_AHEAD: usize = 32_768;
+
 /// The files of the folder where the program runs.
 #[derive(Drop)]
 pub struct FolderShelf<'a, R> {
@@ -114,16 +118,23 @@ impl<'a, R: Files> Shelf for FolderShelf<'a, R>
 where
     R::File: Send,
 {
-    type S = FileSource<R::File>;
+    type S = FileSource<BufReader<R::File>>;
 
     ghost holds = { λ s name. None };
 
     ghost state = { λ s. s };
 
-    fn open(&mut self, alloc: Global, name: &str) -> Result<FileSource<R::File>, OpenFault> {
+    fn open(
+        &mut self,
+        alloc: Global,
+        name: &str,
+    ) -> Result<FileSource<BufReader<R::File>>, OpenFault> {
         let copy = String::from_str(alloc, name)?;
         match fs::open(self.rt, name) {
-            Ok(inner) => Ok(FileSource::new(inner, copy)),
+            Ok(file) => match BufReader::with_capacity(alloc, READ_AHEAD, file) {
+                Ok(inner) => Ok(FileSource::new(inner, copy)),
+                Err(_) => Err(OpenFault::NoMemory),
+            },
             Err(_) => {
                 self.faults = self.faults.saturating_add(1);
                 self.failed = Some(copy);
