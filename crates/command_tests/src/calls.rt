@@ -9,6 +9,12 @@ use std::test::Fail;
 use tag_rules::{PatternMaker, RegexMaker};
 use test_support::{Played, Wanted, words_of};
 
+/// A file of two increments of one counter.
+pub(crate) const TWO_INCS: &[u8] = b"inc root a 3\ninc root a 4\n";
+
+/// What is written of one file without events.
+pub(crate) const NO_EVENTS_OUTPUT: &[u8] = b"# last\n# worker 1: 0 accepted, 0 dropped\n";
+
 // Calls `quiet_stats_with` under a key of its own. It has no clauses, so that no test's proof carries those of
 // that call.
 fn call<K: PatternMaker, F: Shelf, O: Sink, E: Sink>(

@@ -1,16 +1,12 @@
 //! What fails: openings, pulls, pushes and patterns.
 
-use crate::calls::{assert_call, play, play_over, play_with};
+use crate::calls::{NO_EVENTS_OUTPUT, TWO_INCS, assert_call, play, play_over, play_with};
 use stats_io::{MemShelf, MemSink, Shelf};
 use std::alloc::Global;
 use std::process::Abort;
 use std::test::Fail;
 use tag_rules::RegexMaker;
 use test_support::{Played, Wanted, shelf_of};
-
-const TWO_INCS: &[u8] = b"inc root a 3\ninc root a 4\n";
-
-const NO_EVENTS_OUTPUT: &[u8] = b"# last\n# worker 1: 0 accepted, 0 dropped\n";
 
 #[test]
 fn a_missing_file(rt: HostRuntime) -> Result<(), Fail> {

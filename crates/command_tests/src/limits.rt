@@ -1,6 +1,6 @@
 //! Words that are no command, and limits of words, names, lines and files.
 
-use crate::calls::{assert_call, play_over, play_with};
+use crate::calls::{NO_EVENTS_OUTPUT, TWO_INCS, assert_call, play_over, play_with};
 use stat_defs::Verdict;
 use stats_io::{MemShelf, MemSink};
 use std::alloc::Global;
@@ -14,10 +14,6 @@ const NO_COMMANDS: &str =
 
 const USAGE: &[u8] =
     b"usage: envoy_stats run|replay [--symbols] [--format statsd|prom|admin] BOOT FILE.. | check BOOT | bins V.. | load [--run] W E\n";
-
-const TWO_INCS: &[u8] = b"inc root a 3\ninc root a 4\n";
-
-const NO_EVENTS_OUTPUT: &[u8] = b"# last\n# worker 1: 0 accepted, 0 dropped\n";
 
 #[test]
 fn words_that_are_no_command(rt: HostRuntime) -> Result<(), Fail> {
