@@ -129,7 +129,7 @@ impl<A: KnowsLog> BookSeat<A> {
     {
         let _access = &self.access;
         let key = key_of(alloc, query)?;
-        self.cache.reserve(alloc, query)?;
+        self.cache.reserve(&key)?;
         let answer = self.access.find(way, alloc, &key)?;
         hold(&mut self.cache, query, answer);
         Ok(answer.verdict)

@@ -1,6 +1,6 @@
 //! What a cache holds, by its calls.
 use name_map::HashKey;
-use stat_defs::{Kind, MetricId, Mode, NoMemory, ScopeId, Verdict};
+use stat_defs::{Key, Kind, MetricId, Mode, NoMemory, ScopeId, Txt, Verdict};
 use std::alloc::Global;
 use std::hash::{BuildHasher, Hasher};
 use std::process::Abort;
@@ -18,6 +18,16 @@ fn ask(kind: Kind, name: &[u8]) -> Query<'_> {
     }
 }
 
+// The key that is asked for.
+fn key_of(alloc: Global, query: &Query<'_>) -> Result<Key, NoMemory> {
+    Ok(Key {
+        label: Txt::of(alloc, query.label)?,
+        kind: query.kind,
+        mode: query.mode,
+        name: Txt::of(alloc, query.name)?,
+    })
+}
+
 // Holds the key that is asked for, if it is not held.
 fn hold(
     alloc: Global,
@@ -29,7 +39,7 @@ fn hold(
     match cache.hit(query) {
         Some(_) => Ok(()),
         None => {
-            cache.reserve(alloc, query)?;
+            cache.reserve(&key_of(alloc, query)?)?;
             cache.fill(query, ScopeId(scope), Verdict::Accepted(MetricId(id)));
             Ok(())
         }

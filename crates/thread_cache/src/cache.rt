@@ -5,7 +5,7 @@ ghost use Rattle.std.specs.Prelude.{IsTrue, IfSome, OnOk, OnErr};
 ghost use Rattle.std.specs.List.{list_any};
 ghost use Rattle.indexmap.specs.IndexMap.{spare};
 ghost use Rattle.indexmap.specs.IndexSet.{index_set_len};
-ghost use Rattle.stat_defs.specs.declared.events.Key.{Key};
+ghost use Rattle.stat_defs.specs.declared.events.Key.{Key as TheKey};
 ghost use Rattle.stat_defs.specs.Keys.{held_under, same_key, is_through, HoldsOnce};
 ghost use Rattle.thread_cache.specs.Keys.{asked, key_of};
 ghost use Rattle.thread_cache.specs.Scopes.{is_live, is_dropped, is_listed};
@@ -17,7 +17,7 @@ use crate::scopes::{Scopes, drop_scopes, is_live};
 use crate::table::{Slot, Table, count_live, open_scope, put, slot_of, tidy};
 use indexmap::{IndexMap, IndexSet};
 use name_map::{HashKey, name_map};
-use stat_defs::{NoMemory, ScopeId, Verdict};
+use stat_defs::{Key, NoMemory, ScopeId, Verdict};
 use std::alloc::Global;
 use std::marker::Model;
 
@@ -115,15 +115,14 @@ impl Cache {
         look_up(&self.table, &self.scopes, self.stale, query)
     }
 
-    /// Makes room for an entry of the query's key. Room is no entry, and it stays until the key is filled. After want
-    /// of memory the cache is as it was.
-    pub fn reserve(&mut self, alloc: Global, query: &Query<'_>) -> Result<(), NoMemory>
-        ensures reserved { OnOk result (self.new
-            ≡ record self.old { rooms = with_room (asked query.now) self.old.rooms }) }
-        ensures room { OnOk result (IsTrue (has_room (asked query.now) self.new.rooms)) }
+    /// Makes room for an entry of the key, whose texts it shares. Room is no entry, and it stays until the key is
+    /// filled. After want of memory the cache is as it was.
+    pub fn reserve(&mut self, key: &Key) -> Result<(), NoMemory>
+        ensures reserved { OnOk result (self.new ≡ record self.old { rooms = with_room key.now self.old.rooms }) }
+        ensures room { OnOk result (IsTrue (has_room key.now self.new.rooms)) }
         ensures kept { OnErr result (self.new ≡ self.old) }
     {
-        let copy = copy_of(alloc, query)?;
+        let copy = copy_of(key)?;
         let more = self.rooms.len() + 1;
         self.table.reserve(more)?;
         self.scopes.reserve(more)?;
@@ -135,7 +134,7 @@ impl Cache {
     pub fn fill(&mut self, query: &Query<'_>, scope: ScopeId, verdict: Verdict)
         requires room { IsTrue (has_room (asked query.now) self.old.rooms) }
         requires free { held_under (asked query.now) self.old.entries ≡ None }
-        ensures held { (key : Key) → held_under key self.new.entries
+        ensures held { (key : TheKey) → held_under key self.new.entries
             ≡ held_with (record { key = asked query.now; scope = scope.0; verdict = verdict }) self.old.entries key }
         ensures one_more { length self.new.entries ≡ length self.old.entries + 1 }
         ensures rooms { self.new.rooms ≡ without_room (asked query.now) self.old.rooms }
@@ -150,7 +149,7 @@ impl Cache {
     /// Drops the entries of these scopes. It takes no memory.
     pub fn drop_released(&mut self, released: &[ScopeId])
         ensures entries { self.new.entries ≡ filter (λ held. not (is_through released.now held)) self.old.entries }
-        ensures held { (key : Key) → held_under key self.new.entries
+        ensures held { (key : TheKey) → held_under key self.new.entries
             ≡ held_without released.now (held_under key self.old.entries) }
         ensures rooms { self.new.rooms ≡ self.old.rooms }
     {

@@ -2,11 +2,9 @@
 ghost use Rattle.std.specs.Prelude.{◌≡◌, ◌∷◌, [], IfOk};
 ghost use Rattle.std.specs.Cmp.Rules.{hashing};
 ghost use Rattle.std.proofs.Common.{rules};
-ghost use Rattle.thread_cache.specs.Keys.{asked, key_of};
+ghost use Rattle.thread_cache.specs.Keys.{key_of};
 
-use crate::query::Query;
-use stat_defs::{Kind, Mode, NoMemory, Txt};
-use std::alloc::Global;
+use stat_defs::{Key, Kind, Mode, NoMemory, Txt};
 use std::hash::{Hash, Hasher};
 
 /// A key as the table keeps it.
@@ -30,14 +28,14 @@ impl Hash for CacheKey {
     }
 }
 
-// A key of the query's own, whose short texts lie in it.
-pub(crate) fn copy_of(alloc: Global, query: &Query<'_>) -> Result<CacheKey, NoMemory>
-    ensures { IfOk result (λ key. key_of key ≡ asked query.now) }
+// The key as it is kept, which shares the texts.
+pub(crate) fn copy_of(key: &Key) -> Result<CacheKey, NoMemory>
+    ensures { IfOk result (λ copy. key_of copy ≡ key.now) }
 {
     Ok(CacheKey {
-        label: Txt::of(alloc, query.label)?,
-        kind: query.kind,
-        mode: query.mode,
-        name: Txt::of(alloc, query.name)?,
+        label: key.label.clone()?,
+        kind: key.kind,
+        mode: key.mode,
+        name: key.name.clone()?,
     })
 }
