@@ -257,14 +257,29 @@ def names_of_one_hash(before, count):
     return [(front + word).decode() + end for end in ends]
 
 
+def of_many_hashes(texts):
+    """The same texts with the first byte of the third word changed, so that no two have one hash."""
+    return [text[:16] + ("a" if text[16] != "a" else "b") + text[17:] for text in texts]
+
+
 def one_hash():
-    """Names that all have one hash without a key: as the program's tables ask for them, behind a label, and alone."""
-    chosen = names_of_one_hash([b"root", b"\xff"], METRICS // 2) + names_of_one_hash([], METRICS // 2)
-    # The first byte of the third word is changed, and no two names have one hash.
-    plain = [name[:16] + ("a" if name[16] != "a" else "b") + name[17:] for name in chosen]
+    """Names that all have one hash without a key: as a seat's table of keys asks for them, behind a label, and alone."""
+    chosen = names_of_one_hash([b"root"], METRICS // 2) + names_of_one_hash([], METRICS // 2)
+    plain = of_many_hashes(chosen)
     lines = lambda names: ["inc root %s 1" % name for name in names] * 4
     return Case([put("f", lines(chosen))], beside=[put("plain", lines(plain))],
                 ends=lambda told: told == [(4 * METRICS, 0)])
+
+
+def labels_of_one_hash():
+    """Scopes whose labels all have one hash without a key, each opened and used."""
+    count = METRICS // 4
+    chosen = names_of_one_hash([], count)
+    plain = of_many_hashes(chosen)
+    lines = lambda labels: [form % label for label in labels for form in ("open %s p", "inc %s a 1")] \
+        + ["inc %s a 1" % label for label in labels] * 2
+    return Case([put("f", lines(chosen))], beside=[put("plain", lines(plain))],
+                ends=lambda told: told == [(4 * count, 0)])
 
 
 def fed_for_ever(name):
@@ -357,7 +372,7 @@ def odd_bytes():
 
 
 CASES = [many_releases, open_and_release, dots, only_dots, warm_histograms, churn, rules, twice_the_names, one_hash,
-         endless_pipe, endless_bootstrap, directory, bootstrap_directory, zeros, bootstrap_zeros, full_device,
+         labels_of_one_hash, endless_pipe, endless_bootstrap, directory, bootstrap_directory, zeros, bootstrap_zeros, full_device,
          most_events, an_event_too_many, most_bytes, a_byte_too_many, big_bootstrap, deep_bootstrap, longest_lines,
          a_line_too_long, odd_bytes]
 

@@ -61,7 +61,7 @@ try 'it tells each crate, and the program last' 3 'proved crate \([0-9]*\) of \1
 try 'it says so before it builds' 3 'proved and built first' "$none" sh -c "rm $top/crates/envoy_stats/out/script.sum; $top/envoy_stats check -"
 try 'and corrects how long it will take' 3 'minutes gone, about [0-9]* to go' "$none" sh -c "rm $top/crates/envoy_stats/out/script.sum; $top/envoy_stats check -"
 rm "$top/crates/envoy_stats/out/script.sum"
-usage=$(sed -n 's/^ *b"\(usage: .*\)\\n";$/\1/p' "$top/crates/envoy_stats/src/tests.rt")
+usage=$(sed -n 's/^ *b"\(usage: .*\)\\n";$/\1/p' "$top/crates/command_tests/src/limits.rt")
 try 'the usage is the one that the tests of the program have' 0 '^same$' "$none" \
   sh -c "[ \"\$($top/envoy_stats --help 2>&1)\" = '$usage' ] && echo same"
 while read -r line; do
