@@ -1,8 +1,8 @@
 //! Events of checked parts.
 
 use checked_events::{
-    EventFault, gauge_add, gauge_sub, inc, is_label, is_local_name, is_prefix, is_readout,
-    open_scope, set_text,
+    EventFault, gauge_add, gauge_set, gauge_sub, inc, is_label, is_local_name, is_prefix,
+    is_readout, open_scope, rec, release, set_text,
 };
 use stat_defs::{Event, Mode};
 use std::test::Fail;
@@ -42,6 +42,19 @@ fn lawful_parts_make_an_event(rt: HostRuntime) -> Result<(), Fail> {
     assert!(rt; gauge_sub(alloc, "a_1", "b.c", Mode::Uninit, 1).is_ok());
     assert!(rt; set_text(alloc, "root", "version", "1.2 of 3").is_ok());
     assert!(rt; open_scope(alloc, "a", "").is_ok());
+    assert!(rt; gauge_set(alloc, "a", "b", Mode::Accumulate, 7).is_ok());
+    assert!(rt; rec(alloc, "a", "b", u64::MAX).is_ok());
+    assert!(rt; release(alloc, "root").is_ok());
+    Ok(())
+}
+
+#[test]
+fn each_maker_tells_its_part(rt: HostRuntime) -> Result<(), Fail> {
+    let alloc = rt.alloc();
+    let set = fault_of(gauge_set(alloc, "a", "b c", Mode::Never, 1));
+    assert!(rt; set == Some(EventFault::Name));
+    assert!(rt; fault_of(rec(alloc, "a", "", 1)) == Some(EventFault::Name));
+    assert!(rt; fault_of(release(alloc, "a b")) == Some(EventFault::Label));
     Ok(())
 }
 
