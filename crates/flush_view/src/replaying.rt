@@ -56,5 +56,11 @@ fn is_end(entry: &Entry) -> bool
 pub(crate) fn ends_in(log: &[Entry]) -> usize
     ensures { result ≡ ends_in log.now }
 {
-    log.iter().filter(|entry| is_end(entry)).count()
+    let mut ends = 0;
+    for entry in log {
+        if is_end(entry) {
+            ends += 1;
+        }
+    }
+    ends
 }
