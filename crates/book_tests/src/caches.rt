@@ -1,4 +1,7 @@
 //! What a cache holds, by its calls.
+ghost use Rattle.std.specs.Prelude.{◌≡◌, IfOk};
+ghost use Rattle.thread_cache.specs.Keys.{asked};
+
 use name_map::HashKey;
 use stat_defs::{Key, Kind, MetricId, Mode, NoMemory, ScopeId, Txt, Verdict};
 use std::alloc::Global;
@@ -19,7 +22,9 @@ fn ask(kind: Kind, name: &[u8]) -> Query<'_> {
 }
 
 // The key that is asked for.
-fn key_of(alloc: Global, query: &Query<'_>) -> Result<Key, NoMemory> {
+fn key_of(alloc: Global, query: &Query<'_>) -> Result<Key, NoMemory>
+    ensures { IfOk result (λ key. key ≡ asked query.now) }
+{
     Ok(Key {
         label: Txt::of(alloc, query.label)?,
         kind: query.kind,
