@@ -22,29 +22,30 @@ def tags(rules):
     return {"stats_config": {"use_all_default_tags": False, "stats_tags": rules}}
 
 
-def increments(names):
-    return "".join("inc root %s 1\n" % name for name in names)
+def increments(names, label="root"):
+    return "".join("inc %s %s 1\n" % (label, name) for name in names)
 
 
 def short_names(count):
     return ("name_%d" % i for i in range(count))
 
 
-def long_names(count):
-    """Names of 511 bytes in parts of 7 bytes."""
-    return (("n%d." % i + "abcdef." * 80)[:510] + "x" for i in range(count))
+def in_a_long_scope(boot, count):
+    """Names of 511 bytes in parts of 7 bytes: a prefix of 255 bytes, a dot and a name of 255 bytes."""
+    boot["stats_run"] = {"scopes": [{"label": "s", "prefix": ("abcdef." * 37)[:254] + "p"}]}
+    return boot, [increments((("n%d." % i + "abcdef." * 40)[:254] + "x" for i in range(count)), "s")]
 
 
 def fixed_tags():
-    """64 fixed tags of 500 bytes, of which StatsD text shows none."""
-    rules = [{"tag_name": "t%d" % k, "fixed_value": ("v%d" % k).ljust(500, "v")} for k in range(64)]
+    """64 fixed tags of 500 bytes, name and value, of which StatsD text shows none."""
+    rules = [{"tag_name": ("t%d" % k).ljust(250, "t"), "fixed_value": ("v%d" % k).ljust(250, "v")} for k in range(64)]
     return tags(rules), [increments(short_names(METRICS))]
 
 
 def long_tags():
     """64 rules that each give a tag of nearly the whole name."""
-    rules = [{"tag_name": "t%d" % k, "regex": "^n[0-9]+(\\.(.+)%s)$" % ("." * (k % 8))} for k in range(64)]
-    return tags(rules), [increments(long_names(METRICS))]
+    rules = [{"tag_name": "t%d" % k, "regex": "^((.+)%s)$" % ("." * k)} for k in range(64)]
+    return in_a_long_scope(tags(rules), METRICS)
 
 
 def refused_names():
@@ -54,10 +55,13 @@ def refused_names():
 
 
 def alternations():
-    """64 rules that are alternations of some 1,000 bytes, against 64 long names, none of which has a match."""
-    words = ["abcdef%s" % chr(ord("g") + i % 20) + "xyz"[i % 3] * (1 + i % 3) for i in range(95)]
-    rules = [{"tag_name": "t%d" % k, "regex": "\\.((%s)%d\\.)" % ("|".join(words), k)} for k in range(64)]
-    return tags(rules), [increments(long_names(64))]
+    """64 rules that are alternations of some 1,000 bytes without a common beginning, against 64 names of 511 bytes that
+    nearly match everywhere."""
+    words = ["%s%02d" % ("ab"[i % 2] * 8, i) for i in range(90)]
+    rules = [{"tag_name": "t%d" % k, "regex": "((%s)%d)" % ("|".join(words), k)} for k in range(64)]
+    boot = tags(rules)
+    boot["stats_run"] = {"scopes": [{"label": "s", "prefix": "a" * 255}]}
+    return boot, [increments(("a" * 252 + "%03d" % i for i in range(64)), "s")]
 
 
 def rules_and_patterns():
