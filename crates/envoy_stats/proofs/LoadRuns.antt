@@ -9,6 +9,8 @@ use Rattle.boot_file.specs.Boot.{boot}
 use Rattle.boot_file.proofs.Empty.{usual_config, usual_boots}
 use Rattle.boot_load.specs.Load.{IsBoot, IsConfigured}
 use Rattle.book_state.specs.declared.limits.TheConstants.{MAX_WORKERS}
+use Rattle.ledger.specs.Ledger.{HasNames, plan_of}
+use Rattle.flush_view.proofs.LedgerNames.{names_of_ledgers}
 use Rattle.flush_view.proofs.Showable.{ledgers_show}
 use Rattle.command_words.specs.Command.{Load, command}
 use Rattle.load_scripts.specs.declared.limits.TheConstants.{MAX_SCRIPTS, MAX_SCRIPT_EVENTS}
@@ -51,9 +53,10 @@ boot_is_not_done NoMemory e = absurd (omega (arith, e))
 
 -- the report of a load side by side can be summed up
 pub load_runs : (count n : ℕ) (recorded : Recorded) → count ≤ MAX_SCRIPTS → IsConfig recorded.config → recorded.config.flushes ≡ 0
-    → recorded.rules ≡ recorded.config.tags → recorded.buckets ≡ recorded.config.buckets
-    → IsLoadRunOf recorded.config count n recorded.report → Applies IsLoadRunOf recorded.config count n recorded
-load_runs count n recorded few lawful none rules buckets is =
+    → recorded.buckets ≡ recorded.config.buckets → IsLoadRunOf recorded.config count n recorded.report
+    → HasNames (plan_of recorded.config).rules count (record { report = recorded.report; names = recorded.names })
+    → Applies IsLoadRunOf recorded.config count n recorded
+load_runs count n recorded few lawful none buckets is has =
     let many = texts_many count n in
     let within : length (script_texts count n) ≤ MAX_WORKERS = omega (arith, many, few) in
     record {
@@ -61,7 +64,10 @@ load_runs count n recorded few lawful none rules buckets is =
       comes = is;
       summable = record {
         recorded_is = record {
-          rules = rules;
+          names = names_of_ledgers.run recorded.config (script_texts count n) (scripts count n)
+              (record { report = recorded.report; names = recorded.names }) is
+              (subst (λ (workers : ℕ). HasNames (plan_of recorded.config).rules workers
+              (record { report = recorded.report; names = recorded.names })) (sym many) has);
           buckets = buckets;
           showable = ledgers_show.run recorded.config (script_texts count n) (scripts count n) recorded.report lawful within is;
           few = omega (arith, is.read.an_end_each, many, few);

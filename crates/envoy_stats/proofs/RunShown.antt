@@ -1,10 +1,12 @@
 -- The report of a run can be shown.
-use Rattle.std.proofs.Common.{◌≡◌, ◌≤◌, ℕ, Option, List, length, map, refl, arith}
+use Rattle.std.proofs.Common.{◌≡◌, ◌≤◌, ℕ, Option, List, length, map, refl, sym, subst, arith}
 use Rattle.std.proofs.lemmas.List.{length-map}
 use Rattle.stat_defs.specs.Configs.{IsConfig}
 use Rattle.stat_defs.specs.declared.configs.Config.{Config}
 use Rattle.stats_io.specs.States.{SourceState, ShelfState}
 use Rattle.book_state.specs.declared.limits.TheConstants.{MAX_WORKERS}
+use Rattle.ledger.specs.Ledger.{HasNames, plan_of}
+use Rattle.flush_view.proofs.LedgerNames.{names_of_ledgers}
 use Rattle.flush_view.proofs.Showable.{ledgers_show}
 use Rattle.replay_report.specs.declared.replaying.TheConstants.{MAX_FILES}
 use Rattle.file_reading.specs.FileRead.{FileRead}
@@ -15,17 +17,21 @@ use Rattle.stats_commands.specs.declared.replay.Recorded.{Recorded}
 
 module _ {F S : Type 0} (shelf : F → ShelfState) (source : S → SourceState) where
   pub run_records : (holds : List ℕ → Option (List ℕ)) (names : List (List ℕ)) (before after : F) (recorded : Recorded)
-      → IsConfig recorded.config → recorded.rules ≡ recorded.config.tags → recorded.buckets ≡ recorded.config.buckets → length names ≤ MAX_FILES
+      → IsConfig recorded.config → recorded.buckets ≡ recorded.config.buckets → length names ≤ MAX_FILES
       → IsRunOf shelf source holds recorded.config names before after recorded.report
+      → HasNames (plan_of recorded.config).rules (length names) (record { report = recorded.report; names = recorded.names })
       → Records (IsRunOf shelf source holds) recorded.config names before after recorded
-  run_records holds names before after recorded lawful rules buckets few is =
+  run_records holds names before after recorded lawful buckets few is has =
       let many : length (map holds names) ≡ length names = length-map names holds in
       let within : length (map holds names) ≤ MAX_WORKERS = omega (arith, many, few) in
       record {
         config_is = refl;
         comes = is;
         recorded_is = record {
-          rules = rules;
+          names = names_of_ledgers.run recorded.config (map holds names) (map (λ (file : FileRead). file.events) is.files)
+              (record { report = recorded.report; names = recorded.names }) is.ledger
+              (subst (λ (workers : ℕ). HasNames (plan_of recorded.config).rules workers
+              (record { report = recorded.report; names = recorded.names })) (sym many) has);
           buckets = buckets;
           showable = ledgers_show.run recorded.config (map holds names) (map (λ (file : FileRead). file.events) is.files) recorded.report
               lawful within is.ledger;

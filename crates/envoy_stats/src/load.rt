@@ -11,7 +11,7 @@ use command_words::Load;
 use load_run::run_scripts;
 use name_map::HashKey;
 use run_files::Setup;
-use stat_defs::NoMemory;
+use stat_defs::{NoMemory, Reported};
 use stats_commands::{Outcome, Recorded, give_up, refuse_boot, tell_summary};
 use stats_io::{Shelf, Sink};
 use std::alloc::Global;
@@ -36,7 +36,7 @@ fn record<R: Threads + Wait + Sync>(
         rules,
         matcher,
         buckets,
-        view_rules,
+        view_rules: _,
     } = boot;
     let Load {
         scripts,
@@ -49,11 +49,11 @@ fn record<R: Threads + Wait + Sync>(
         rules,
         matcher,
     };
-    let report = run_scripts(rt, alloc, setup, scripts, events)?;
+    let Reported { report, names } = run_scripts(rt, alloc, setup, scripts, events)?;
     Ok(Recorded {
         report,
+        names,
         config,
-        rules: view_rules,
         buckets,
     })
 }

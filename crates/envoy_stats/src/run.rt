@@ -10,7 +10,7 @@ use boot_load::{Boot, LoadFault, load};
 use command_words::Reporting;
 use name_map::HashKey;
 use run_report::run_names;
-use stat_defs::NoMemory;
+use stat_defs::{NoMemory, Reported};
 use stats_commands::{Outcome, Recorded, give_up, refuse_boot, tell};
 use stats_io::{Shelf, Sink};
 use std::alloc::Global;
@@ -38,13 +38,15 @@ fn record<R: Threads + Wait + Sync, F: Shelf>(
         rules,
         matcher,
         buckets,
-        view_rules,
+        view_rules: _,
     } = boot;
-    let report = run_names(rt, alloc, key, &config, rules, matcher, files, shelf)?;
+    let Reported { report, names } = run_names(
+        rt, alloc, key, &config, rules, matcher, files, shelf,
+    )?;
     Ok(Recorded {
         report,
+        names,
         config,
-        rules: view_rules,
         buckets,
     })
 }

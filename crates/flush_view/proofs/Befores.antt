@@ -11,10 +11,11 @@ use Rattle.book_state.specs.State.{Row, State, is_gone}
 use Rattle.book_state.specs.Stored.{StateView, after_entry}
 use Rattle.book_state.proofs.Lists.{not_some, some_same, true_false}
 use Rattle.ledger.specs.OneReport.{is_not_gone}
-use Rattle.flush_view.specs.Before.{left_of, before_of, is_left, text_in, text_left, AreRising}
+use Rattle.flush_view.specs.Before.{left_of, before_of, is_left, text_in, text_left}
 use Rattle.flush_view.specs.Replaying.{AreNext}
 use Rattle.flush_view.specs.Rows.{text_at}
 use Rattle.flush_view.specs.Views.{NumberedMetric, has_not_gone, text_row}
+use Rattle.flush_view.specs.Walk.{AreRising}
 use Rattle.flush_view.proofs.Replayed.{next_between, applied_between}
 
 -- one row more

@@ -24,3 +24,6 @@ pub mod BinsShown
 pub mod CallsLawful
 pub mod Showable
 pub mod RowsBins
+pub mod Lefts
+pub mod LedgerNames
+pub mod Walking

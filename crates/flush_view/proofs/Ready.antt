@@ -1,5 +1,5 @@
 -- What holds where all is ready for a view.
-use Rattle.std.proofs.Common.{◌≡◌, ℕ, suc, ◌+◌, ◌<◌, Option, Some, None, List, map, take, length, slice_get, get_or, refl, ap, sym, ◌∙◌, subst, arith, IsUtf8}
+use Rattle.std.proofs.Common.{◌≡◌, ℕ, suc, ◌+◌, ◌<◌, Option, Some, None, List, take, length, slice_get, get_or, refl, ap, sym, ◌∙◌, subst, arith, IsUtf8}
 use Rattle.std.specs.Prelude.{option_map}
 use Rattle.std.specs.List.{AllByRecursion}
 use Rattle.std.proofs.lemmas.List.{length-replicate}
@@ -16,7 +16,7 @@ use Rattle.book_state.specs.State.{State, metrics_of}
 use Rattle.book_state.specs.Stored.{StateView, IsLawfulCall}
 use Rattle.book_state.proofs.Lists.{get_map, get_within, some_same}
 use Rattle.flush_view.specs.declared.progress.Progress.{Progress}
-use Rattle.flush_view.specs.Before.{Before, before_of, before_flush, place_of}
+use Rattle.flush_view.specs.Before.{Before, before_of}
 use Rattle.flush_view.specs.Kept.{HasFollowed, Follows, IsAtStart, metrics_made, last_book, ordered_metrics, befores_of, kept_of}
 use Rattle.flush_view.specs.Replaying.{AreNext, first_state, state_after}
 use Rattle.flush_view.specs.Rows.{view_kept}
@@ -27,7 +27,7 @@ use Rattle.flush_view.proofs.FullNames.{names_are_texts}
 use Rattle.flush_view.proofs.Following.{countable, no_bins_at, no_sum_at}
 use Rattle.flush_view.proofs.Picked.{all_in_order, names_within}
 use Rattle.flush_view.proofs.Replayed.{tags_drawn, all_next, state_replayed}
-use Rattle.flush_view.proofs.Viewing.{taken_to, followed_on, view_is}
+use Rattle.flush_view.proofs.Viewing.{followed_on, view_is}
 
 pub next_same : (tags tags' : List TagSpec) (n n' : ℕ) (log log' : List Entry) → tags ≡ tags' → n ≡ n' → log ≡ log'
     → AreNext (first_state tags' n') log' → AreNext (first_state tags n) log
@@ -64,20 +64,6 @@ module _ (config : Config) (report : Report) where
       (subst (λ (s : State). AllByRecursion (λ (metric : Metric). IsUtf8 metric.name) (metrics_of s))
       (stored_is report.log)
       (names_are_texts first refl refl report.log next)))
-
-  -- what is known before each sweep is that of the replay
-  pub befores_known : (tags : List TagSpec) (workers : ℕ) → tags ≡ config.tags → workers ≡ ends_in report.log
-      → map (before_flush (first_state tags workers) report.log) report.flushes ≡ befores_of config report
-  befores_known tags workers same_tags same_workers =
-      (λ i. map (before_flush (first_state (same_tags i) (same_workers i)) report.log) report.flushes)
-      ∙ (λ i. map (λ (flush : FlushRecord). before_of (known_at flush i)) report.flushes) where
-        known_at : (flush : FlushRecord)
-            → (state_after config.tags (ends_in report.log) (take (place_of report.log flush) report.log)).state
-            ≡ state_before (view_rules config).names report.log flush
-        known_at flush =
-            ap (λ (l : List Entry). (state_after config.tags (ends_in report.log) l).state)
-            (taken_to flush.at report.log)
-            ∙ stored_is (take flush.at report.log)
 
   -- before the first flush
   pub started : (count : ℕ) (progress : Progress) → IsAtStart count progress → count ≡ metrics_made config report

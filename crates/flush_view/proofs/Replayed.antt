@@ -19,7 +19,7 @@ tags_drawn matcher tags = refl
 
 module _ (rules : NameRules) where
   -- a step of the rules is one of the stored state
-  same_step : (v : StateView) (e : Entry) → rules.tagged ≡ tagged v.tags
+  pub same_step : (v : StateView) (e : Entry) → rules.tagged ≡ tagged v.tags
       → effect rules e.seat e.call e.reply v.state ≡ (after_entry v e).state
   same_step v e tags = same_effect rules (drawing v.tags) (tags ∙ sym (drawn v.tags)) e.seat e.call e.reply v.state
 

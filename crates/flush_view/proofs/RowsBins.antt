@@ -5,17 +5,15 @@ use Rattle.std.specs.List.{flat_map, AllByRecursion}
 use Rattle.std.proofs.lemmas.List.Elements.{All-map}
 use Rattle.std.proofs.lemmas.List.Sums.{sum_by-append}
 use Rattle.stat_defs.specs.declared.bins.Bound.{Bound}
-use Rattle.stat_defs.specs.declared.configs.Config.{Config}
 use Rattle.stat_defs.specs.declared.ids.Kind.TheVariants.{Histogram}
 use Rattle.stat_defs.specs.declared.reports.FlushRecord.{FlushRecord}
 use Rattle.stat_defs.specs.declared.reports.Part.{Part}
-use Rattle.stat_defs.specs.declared.reports.Report.{Report}
 use Rattle.stat_defs.specs.declared.views.FlushView.{FlushView}
 use Rattle.loglinear_bins.specs.declared.place.TheConstants.{MAX_COUNT}
 use Rattle.loglinear_bins.specs.Counts.{total}
 use Rattle.book_state.specs.State.{State}
 use Rattle.book_state.proofs.Lists.{map_some, not_some, some_same}
-use Rattle.flush_view.specs.Showing.{HasLawfulParts, IsShowable, AreBinsShown, HasBinsShown, ViewsHaveBins, values_taken}
+use Rattle.flush_view.specs.Showing.{HasLawfulParts, AreBinsShown, HasBinsShown, ViewsHaveBins, values_taken}
 use Rattle.flush_view.specs.Views.{NumberedMetric, view_rules, state_before, last_state, metrics_shown, has_histogram_row, histogram_row, parts_on, merged_parts, view_of}
 use Rattle.flush_view.proofs.BinsShown.{AllLawful, flush_lawful, flushes_lawful}
 use Rattle.flush_view.proofs.Countings.{total_merged}

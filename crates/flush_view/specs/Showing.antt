@@ -1,6 +1,6 @@
 -- What is asked of a report whose flushes are shown, and what callers see of views that are given one after another.
 -- This project's own.
-use Rattle.std.specs.Prelude.{◌≤◌, ◌<◌, ◌^◌, ℕ, suc, Bool, true, nat_lt, if◌then◌else◌, Option, List, length, map}
+use Rattle.std.specs.Prelude.{◌≡◌, ◌≤◌, ◌<◌, ◌^◌, ℕ, suc, Bool, true, nat_lt, if◌then◌else◌, Option, List, length, map}
 use Rattle.std.specs.Prelude.{sum_by}
 use Rattle.std.specs.List.{flat_map, All, AllByRecursion}
 use Rattle.std.specs.List.Sorted.{IsNonDecreasing}
@@ -8,6 +8,7 @@ use Rattle.stat_defs.specs.declared.bins.BinCount.{BinCount}
 use Rattle.stat_defs.specs.declared.configs.Config.{Config}
 use Rattle.stat_defs.specs.declared.reports.FlushRecord.{FlushRecord}
 use Rattle.stat_defs.specs.declared.reports.Report.{Report}
+use Rattle.stat_defs.specs.declared.reports.Reported.{Reported}
 use Rattle.stat_defs.specs.declared.views.FlushView.{FlushView}
 use Rattle.stat_defs.specs.declared.views.HistRow.{HistRow}
 use Rattle.loglinear_bins.specs.declared.place.TheConstants.{MAX_COUNT}
@@ -17,9 +18,9 @@ use Rattle.book_state.specs.Log.{Legal}
 use Rattle.book_state.specs.Stored.{IsLawfulCall}
 use Rattle.stat_defs.specs.Configs.{IsConfig}
 use Rattle.ledger.specs.Flushes.{flushed}
-use Rattle.ledger.specs.Ledger.{RunLedger, ReplayLedger, plan_of}
+use Rattle.ledger.specs.Ledger.{RunLedger, ReplayLedger, HasNames, plan_of}
 use Rattle.stat_defs.specs.declared.events.Event.{Event}
-use Rattle.flush_view.specs.Views.{view_rules, ends_in, parts_on, view, IsView}
+use Rattle.flush_view.specs.Views.{view_rules, ends_in, names_shown, parts_on, view, IsView}
 
 -- how many values of a histogram these flushes took
 abbrev pub values_taken : ℕ → List FlushRecord → ℕ
@@ -49,6 +50,16 @@ pub record LedgersShow : Type 0 where
   pub replay : (config : Config) (contents : List (Option (List ℕ))) (events : List (List Event)) (report : Report)
       → IsConfig config → length contents ≤ MAX_WORKERS
       → ReplayLedger contents events (plan_of config) report → IsShowable config report
+
+-- The names that came with the report of a run or a replay are those that its views are made of. A run has a worker for
+-- each file, a replay has one.
+pub record NamesOfLedgers : Type 0 where
+  pub run : (config : Config) (contents : List (Option (List ℕ))) (events : List (List Event)) (made : Reported)
+      → RunLedger contents events (plan_of config) made.report → HasNames (plan_of config).rules (length contents) made
+      → made.names ≡ names_shown (view_rules config).names made.report.log
+  pub replay : (config : Config) (contents : List (Option (List ℕ))) (events : List (List Event)) (made : Reported)
+      → ReplayLedger contents events (plan_of config) made.report → HasNames (plan_of config).rules 1 made
+      → made.names ≡ names_shown (view_rules config).names made.report.log
 
 -- rising bins, none of them empty, of no more values than are counted
 pub record AreBinsShown (bins : List BinCount) : Type 0 where

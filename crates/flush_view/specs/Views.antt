@@ -13,6 +13,7 @@ use Rattle.stat_defs.specs.declared.ids.Kind.{Kind}
 use Rattle.stat_defs.specs.declared.ids.Kind.TheVariants.{Counter, Gauge, Histogram, Text}
 use Rattle.stat_defs.specs.declared.metrics.Metric.{Metric}
 use Rattle.stat_defs.specs.declared.reports.FlushRecord.{FlushRecord}
+use Rattle.stat_defs.specs.declared.reports.LogNames.{LogNames}
 use Rattle.stat_defs.specs.declared.reports.Part.{Part}
 use Rattle.stat_defs.specs.declared.reports.Report.{Report}
 use Rattle.stat_defs.specs.declared.views.CounterRow.{CounterRow}
@@ -26,6 +27,7 @@ use Rattle.tag_rules.specs.Bounds.{bounds_for}
 use Rattle.book_state.specs.State.{NameRules, State, metrics_of}
 use Rattle.book_state.specs.Log.{replay}
 use Rattle.book_state.specs.SeatLaws.{is_end}
+use Rattle.name_changes.specs.Changes.{names_in_log}
 use Rattle.stat_book.specs.Calls.{name_rules}
 use Rattle.ledger.specs.Flushes.{flushed_in, flushed}
 use Rattle.ledger.specs.OneReport.{is_not_gone}
@@ -53,6 +55,10 @@ state_before rules log flush = replay rules (ends_in log) (take flush.at log)
 
 abbrev pub last_state : NameRules → List Entry → State
 last_state rules log = replay rules (ends_in log) log
+
+-- what became of the names in a log
+abbrev pub names_shown : NameRules → List Entry → LogNames
+names_shown rules log = names_in_log rules (ends_in log) log
 
 -- a metric with its number
 abbrev pub NumberedMetric : Type 0

@@ -2,7 +2,7 @@
 ghost use Rattle.flush_view.specs.Laws.{ViewOfEach, NoEndShown, OneOutput, IntervalOfValues, CumulativeOfAll};
 ghost use Rattle.flush_view.specs.Laws.{EndsOfWorkers, FlushesInLog, TotalsOfUnits, LastBinsOfAll, SumsRise, OneOrder};
 ghost use Rattle.flush_view.specs.Laws.{NumbersMade, NoneRetired};
-ghost use Rattle.flush_view.specs.Showing.{LedgersShow, ViewsHaveBins};
+ghost use Rattle.flush_view.specs.Showing.{LedgersShow, NamesOfLedgers, ViewsHaveBins};
 
 /// A law: the views of all flushes are those of each flush.
 pub fn view_of_each()
@@ -87,4 +87,9 @@ pub fn ledgers_show()
 /// have no more values than are counted, as the texts ask.
 pub fn views_have_bins()
     ensures { ViewsHaveBins }
+{}
+
+/// A law: the names that a ledger's report came with are those that its views are made of.
+pub fn names_of_ledgers()
+    ensures { NamesOfLedgers }
 {}

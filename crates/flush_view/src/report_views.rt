@@ -1,22 +1,17 @@
 //! The views of a report, one after another.
-ghost use Rattle.std.specs.Prelude.{◌≡◌, ◌<◌, ◌≤◌, true, false, length, map, IfOk, OnOk, OnErr};
-ghost use Rattle.book_state.specs.State.{metrics_of};
-ghost use Rattle.book_state.specs.declared.limits.TheConstants.{MAX_WORKERS};
-ghost use Rattle.flush_view.specs.Before.{AreRising, before_flush};
-ghost use Rattle.flush_view.specs.Replaying.{AreNext, first_state, state_after};
-ghost use Rattle.flush_view.specs.Views.{IsView, view_rules, last_state, ends_in};
+ghost use Rattle.std.specs.Prelude.{◌≡◌, ◌<◌, true, false, length, map, IfOk, OnOk, OnErr};
+ghost use Rattle.flush_view.specs.Views.{IsView, view_rules, last_state, names_shown};
 ghost use Rattle.flush_view.specs.Symbols.{live_metrics};
 ghost use Rattle.flush_view.specs.Showing.{IsShowable, first_views, view_in_turn, after_view};
 
 use crate::before::Before;
 use crate::naming::{NumberedMetric, in_order, live_in_order};
 use crate::progress::Progress;
-use crate::replaying::{apply_with_flushes, ends_in};
-use book_state::{BookState, StateParts};
-use stat_defs::{Config, Entry, FlushView, Metric, NoMemory, Report};
+use crate::walk::befores_in;
+use stat_defs::{Config, FlushView, LogNames, Metric, NoMemory, Report};
 use std::alloc::Global;
 use std::marker::Model;
-use tag_rules::{Buckets, TagRules};
+use tag_rules::Buckets;
 
 /// The views of a report. Contracts see them as the configuration and the report, and as the number of views that
 /// were given.
@@ -46,50 +41,23 @@ impl<'a> Model for ReportViews<'a> {
     ghost invariant = { Kept };
 }
 
-// How many workers a log has.
-fn workers_of(log: &[Entry]) -> u32
-    requires { ends_in log.now ≤ MAX_WORKERS }
-    ensures { result ≡ ends_in log.now }
-{
-    ends_in(log) as u32
-}
-
-// The metrics of the book after the whole log of a report, and what is known before the sweep of each flush.
-fn replayed(
-    alloc: Global,
-    rules: TagRules,
-    workers: u32,
-    report: &Report,
-) -> Result<(Vec<Metric>, Vec<Before>), NoMemory>
-    requires next { AreNext (first_state rules workers) report.now.log }
-    requires rising { AreRising 0 report.now.flushes }
-    ensures metrics { IfOk result (λ made. made.0.items
-        ≡ metrics_of (state_after rules workers report.now.log).state) }
-    ensures befores { IfOk result (λ made. made.1.items
-        ≡ map (before_flush (first_state rules workers) report.now.log) report.now.flushes) }
-{
-    let mut book = BookState::new(alloc, rules, workers)?;
-    let befores = apply_with_flushes(alloc, &mut book, report.log.items(), report.flushes.items())?;
-    let StateParts { rules: _, metrics } = book.into_parts(alloc)?;
-    Ok((metrics, befores))
-}
-
 impl<'a> ReportViews<'a> {
-    /// The views of this report. Rules and buckets are those that were built from the configuration.
+    /// The views of this report, which came with these names. Buckets are those that were built from the configuration.
     pub fn new(
         alloc: Global,
         config: &'a Config,
-        rules: TagRules,
+        names: LogNames,
         buckets: &'a Buckets,
         report: &'a Report,
     ) -> Result<ReportViews<'a>, NoMemory>
-        requires rules { rules ≡ config.now.tags }
+        requires names { names ≡ names_shown (view_rules config.now).names report.now.log }
         requires buckets { buckets.now ≡ config.now.buckets }
         requires showable { IsShowable config.now report.now }
         ensures { IfOk result (λ views. views ≡ first_views config.now report.now) }
     {
-        let workers = workers_of(report.log.items());
-        let (metrics, befores) = replayed(alloc, rules, workers, report)?;
+        let LogNames { metrics, changes } = names;
+        let befores = befores_in(alloc, config, changes.items(), report)?;
+        let metrics = in_order(alloc, metrics.into_items())?;
         let progress = Progress::new(alloc, metrics.len())?;
         Ok(ReportViews {
             config,
@@ -97,7 +65,7 @@ impl<'a> ReportViews<'a> {
             report,
             given: 0,
             whole: true,
-            metrics: in_order(alloc, metrics)?,
+            metrics,
             befores,
             progress,
         })
@@ -134,22 +102,22 @@ impl<'a> ReportViews<'a> {
     }
 }
 
-/// What flush k of a report shows; flushes are numbered from 0.
+/// What flush k of a report shows, which came with these names; flushes are numbered from 0.
 pub fn flush_view(
     alloc: Global,
     config: &Config,
-    rules: TagRules,
+    names: LogNames,
     buckets: &Buckets,
     report: &Report,
     k: usize,
 ) -> Result<FlushView, NoMemory>
-    requires rules { rules ≡ config.now.tags }
+    requires names { names ≡ names_shown (view_rules config.now).names report.now.log }
     requires buckets { buckets.now ≡ config.now.buckets }
     requires showable { IsShowable config.now report.now }
     requires within { k < length report.now.flushes }
     ensures { IfOk result (λ shown. IsView config.now report.now k shown) }
 {
-    let mut views = ReportViews::new(alloc, config, rules, buckets, report)?;
+    let mut views = ReportViews::new(alloc, config, names, buckets, report)?;
     for _i in 0..k {
         let _earlier = views.next(alloc)?;
     }

@@ -39,7 +39,7 @@ fn counter_row(
 {
     Ok(CounterRow {
         name: numbered.1.name.clone()?,
-        tagged: copy_of_tagged(alloc, &numbered.1.tagged)?,
+        tagged: copy_of_tagged(&numbered.1.tagged)?,
         delta: sum_at(units, numbered.0),
         total: sum_at(totals, numbered.0),
     })
@@ -79,7 +79,7 @@ fn gauge_row(alloc: Global, words: &[u64], numbered: &NumberedMetric) -> Result<
 {
     Ok(GaugeRow {
         name: numbered.1.name.clone()?,
-        tagged: copy_of_tagged(alloc, &numbered.1.tagged)?,
+        tagged: copy_of_tagged(&numbered.1.tagged)?,
         value: sum_at(words, numbered.0).cast_signed(),
     })
 }
@@ -172,7 +172,7 @@ fn histogram_row(
 {
     Ok(HistRow {
         name: numbered.1.name.clone()?,
-        tagged: copy_of_tagged(alloc, &numbered.1.tagged)?,
+        tagged: copy_of_tagged(&numbered.1.tagged)?,
         interval: pairs_at(alloc, intervals, numbered.0)?,
         cumulative: pairs_at(alloc, cumulative, numbered.0)?,
         bounds: bounds_of(alloc, buckets, &numbered.1.name)?,

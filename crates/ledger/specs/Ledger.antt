@@ -11,11 +11,13 @@ use Rattle.stat_defs.specs.declared.history.Entry.{Entry}
 use Rattle.stat_defs.specs.declared.reports.FileEnd.{FileEnd}
 use Rattle.stat_defs.specs.declared.reports.FileEnd.TheVariants as file
 use Rattle.stat_defs.specs.declared.reports.Report.{Report}
+use Rattle.stat_defs.specs.declared.reports.Reported.{Reported}
 use Rattle.event_script.specs.FileEvents.{AreEventsOf}
 use Rattle.book_state.specs.State.{NameRules}
 use Rattle.book_state.specs.Log.{is_sweep, replay, Legal}
 use Rattle.book_state.specs.SeatLaws.{is_end}
 use Rattle.book_state.specs.Follows.{Follows}
+use Rattle.name_changes.specs.Changes.{names_in_log}
 use Rattle.stat_book.specs.Calls.{name_rules}
 use Rattle.ledger.specs.Lists.{EachNumbered, OfLast}
 use Rattle.ledger.specs.Work.{Work, events_in, verdicts_in, apart, together, units_of, recordings}
@@ -119,3 +121,7 @@ pub record Ledger (config : Config) (contents : List (Option (List ℕ))) (repor
 pub record Direct (config : Config) (contents : List (Option (List ℕ))) (report : Report) : Type 0 where
   pub events : List (List Event)
   pub report_of : ReplayLedger contents events (plan_of config) report
+
+-- the names that a report came with are those of its log, which so many workers wrote
+abbrev pub HasNames : NameRules → ℕ → Reported → Type 0
+HasNames rules workers reported = reported.names ≡ names_in_log rules workers reported.report.log

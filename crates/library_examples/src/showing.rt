@@ -6,7 +6,7 @@ ghost use Rattle.flush_view.specs.Views.{IsView};
 ghost use Rattle.library_examples.specs.StoreOf.{IsReportOfStore};
 ghost use Rattle.library_examples.specs.Unbuilt.{HasNoViews};
 
-use flush_view::flush_view;
+use flush_view::{flush_view, names_of_log};
 use plain_store::PlainStore;
 use stat_defs::{Config, FlushRecord, FlushView, LastFlush, List, NoMemory, Report};
 use std::alloc::Global;
@@ -22,7 +22,11 @@ pub fn finish_report(
     requires { flushes.items ≡ store.flushes }
     ensures { IfOk result (λ report. IsReportOfStore store report) }
 {
-    let LastFlush { last, log } = store.finish(alloc)?;
+    let LastFlush {
+        last,
+        log,
+        names: _,
+    } = store.finish(alloc)?;
     let mut flushes = flushes;
     flushes.push(last)?;
     Ok(Report {
@@ -62,5 +66,6 @@ pub fn shown_of(
     ensures refused { IfErr result (λ fault. HasNoViews config.now fault) }
 {
     let (rules, buckets) = rules_and_buckets(alloc, config)?;
-    Ok(flush_view(alloc, config, rules, &buckets, report, k)?)
+    let names = names_of_log(alloc, config, rules, report)?;
+    Ok(flush_view(alloc, config, names, &buckets, report, k)?)
 }

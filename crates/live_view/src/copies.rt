@@ -7,7 +7,7 @@ use flush_view::copies::copy_of_tagged;
 use stat_defs::{Metric, MetricId, NoMemory};
 use std::alloc::Global;
 
-fn copy_of_metric(alloc: Global, metric: &Metric) -> Result<Metric, NoMemory>
+fn copy_of_metric(metric: &Metric) -> Result<Metric, NoMemory>
     ensures { IfOk result (λ copy. copy ≡ metric.now) }
 {
     Ok(Metric {
@@ -15,7 +15,7 @@ fn copy_of_metric(alloc: Global, metric: &Metric) -> Result<Metric, NoMemory>
         kind: metric.kind,
         mode: metric.mode,
         numbers: metric.numbers.clone()?,
-        tagged: copy_of_tagged(alloc, &metric.tagged)?,
+        tagged: copy_of_tagged(&metric.tagged)?,
         text: metric.text.clone()?,
         life: metric.life,
     })
@@ -28,7 +28,7 @@ pub(crate) fn copy_of_metrics(alloc: Global, book: &BookState) -> Result<Vec<Met
     let made = book.made();
     let mut metrics = Vec::with_capacity(alloc, made as usize)?;
     for id in 0..made {
-        metrics.push(copy_of_metric(alloc, book.metric(MetricId(id)))?)?;
+        metrics.push(copy_of_metric(book.metric(MetricId(id)))?)?;
     }
     Ok(metrics)
 }

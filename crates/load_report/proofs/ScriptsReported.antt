@@ -10,6 +10,7 @@ use Rattle.stat_defs.specs.declared.history.Verdict.{Verdict}
 use Rattle.stat_defs.specs.declared.memory.NoMemory.{NoMemory}
 use Rattle.stat_defs.specs.declared.reports.LastFlush.{LastFlush}
 use Rattle.stat_defs.specs.declared.reports.Report.{Report}
+use Rattle.stat_defs.specs.declared.reports.Reported.{Reported}
 use Rattle.stat_defs.specs.declared.reports.WorkerEnd.{WorkerEnd}
 use Rattle.event_script.specs.FileEvents.{AreEventsOf}
 use Rattle.load_scripts.specs.declared.limits.TheConstants.{MAX_SCRIPTS, MAX_SCRIPT_EVENTS}
@@ -17,12 +18,12 @@ use Rattle.load_scripts.specs.Load.{script_events, script_text, scripts, script_
 use Rattle.load_scripts.proofs.Files.{script_is_file}
 use Rattle.lone_worker.specs.declared.worker.TheConstants.{MAX_EVENTS}
 use Rattle.ledger.specs.Work.{Work, events_in, verdicts_in, work_of, together}
-use Rattle.ledger.specs.Ledger.{TakenAtFault, AreRead, IsReportOf, last_flush_alone, plan_of}
+use Rattle.ledger.specs.Ledger.{TakenAtFault, AreRead, IsReportOf, HasNames, last_flush_alone, plan_of}
 use Rattle.ledger.proofs.WorkLists.{lengths, events_back, verdicts_back}
 use Rattle.plain_store.specs.Store.{StoreHistory, new_store, Finishes}
 use Rattle.replay_report.specs.Applying.{with_applied, AreApplied}
-use Rattle.replay_report.specs.FileRun.{all_verdicts, report_with}
-use Rattle.replay_report.proofs.AppliedReport.{applied_report}
+use Rattle.replay_report.specs.FileRun.{all_verdicts, report_with, reported_with}
+use Rattle.replay_report.proofs.AppliedReport.{applied_report, applied_names}
 use Rattle.load_report.specs.LoadRun.{all_script_events, AreScriptsApplied, whole_end, script_ends}
 use Rattle.load_report.specs.LoadReport.{IsLoadOf}
 
@@ -80,17 +81,28 @@ module _ (count n : ℕ) (verdicts : List (List Verdict)) (given : LastFlush) wh
 
   pub reported : (config : Config) (first store : StoreHistory) (ends : List WorkerEnd) → count ≤ MAX_SCRIPTS
       → n ≤ MAX_SCRIPT_EVENTS → first ≡ new_store config → AreScriptsApplied first count n verdicts store
-      → Finishes store given → ends ≡ script_ends count → (answer : Result Report NoMemory)
-      → IfOk answer (λ made. made ≡ report_with verdicts ends given) → IfOk answer (IsLoadOf config count n)
+      → Finishes store given → ends ≡ script_ends count → (answer : Result Reported NoMemory)
+      → IfOk answer (λ made. made ≡ reported_with verdicts ends given)
+      → IfOk answer (λ made. IsLoadOf config count n made.report)
   reported config first store ends few small new are finishes ended (Ok made) is =
-      subst (λ (r : Report). IsLoadOf config count n r)
-      (sym (is ∙ ap (λ (es : List WorkerEnd). report_with verdicts es given) ended))
+      subst (λ (m : Reported). IsLoadOf config count n m.report)
+      (sym (is ∙ ap (λ (es : List WorkerEnd). reported_with verdicts es given) ended))
       (is_load config store few small
       (subst (λ (s : StoreHistory). AreScriptsApplied s count n verdicts store) new are) finishes)
   reported config first store ends few small new are finishes ended (Err fault) is = tt
 
-  pub ends_told : (ends : List WorkerEnd) → ends ≡ script_ends count → (answer : Result Report NoMemory)
-      → IfOk answer (λ made. made ≡ report_with verdicts ends given)
-      → IfOk answer (λ made. made.ends ≡ script_ends count)
-  ends_told ends ended (Ok made) is = ap (λ (r : Report). r.ends) is ∙ ended
+  pub ends_told : (ends : List WorkerEnd) → ends ≡ script_ends count → (answer : Result Reported NoMemory)
+      → IfOk answer (λ made. made ≡ reported_with verdicts ends given)
+      → IfOk answer (λ made. made.report.ends ≡ script_ends count)
+  ends_told ends ended (Ok made) is = ap (λ (m : Reported). m.report.ends) is ∙ ended
   ends_told ends ended (Err fault) is = tt
+
+  pub with_names : (config : Config) (first store : StoreHistory) (ends : List WorkerEnd) → first ≡ new_store config
+      → AreScriptsApplied first count n verdicts store → Finishes store given → (answer : Result Reported NoMemory)
+      → IfOk answer (λ made. made ≡ reported_with verdicts ends given)
+      → IfOk answer (HasNames (plan_of config).rules 1)
+  with_names config first store ends new are finishes (Ok made) is =
+      let scripts_are = subst (λ (s : StoreHistory). AreScriptsApplied s count n verdicts store) new are in
+      subst (HasNames (plan_of config).rules 1) (sym is)
+      (applied_names config _ (all_verdicts verdicts) store given scripts_are.are_applied finishes)
+  with_names config first store ends new are finishes (Err fault) is = tt

@@ -15,12 +15,13 @@ use Rattle.stat_defs.specs.declared.reports.FileEnd.{FileEnd}
 use Rattle.stat_defs.specs.declared.reports.FileEnd.TheVariants.{Whole, BadLine, LineTooLong, TooBig, TooMany}
 use Rattle.stat_defs.specs.declared.reports.FileEnd.TheVariants.{ReadFault, NotOpened}
 use Rattle.stat_defs.specs.declared.reports.Report.{Report}
+use Rattle.stat_defs.specs.declared.reports.Reported.{Reported}
 use Rattle.stat_defs.specs.declared.reports.WorkerEnd.{WorkerEnd}
 use Rattle.event_script.specs.FileEvents.{AreEventsOf}
 use Rattle.event_script.specs.Script.{File}
 use Rattle.event_script.proofs.OneReading.{file_single}
 use Rattle.file_reading.specs.SourceRead.{IsSourceRead}
-use Rattle.ledger.specs.Ledger.{RunLedger, AreRead, plan_of}
+use Rattle.ledger.specs.Ledger.{RunLedger, AreRead, plan_of, HasNames}
 use Rattle.ledger.proofs.Lists.{cons_same}
 use Rattle.load_scripts.specs.declared.limits.TheConstants.{MAX_SCRIPTS, MAX_SCRIPT_EVENTS}
 use Rattle.load_scripts.specs.Load.{script_events, script_text, scripts, script_texts}
@@ -142,18 +143,26 @@ as_many_files count n files are =
     ap (λ (l : List (Given (List ℕ))). length l) are
     ∙ length-map-range_with_len (λ script. Opened (script_text script n)) 1 count
 
-pub load_run_told : (config : Config) (count n : ℕ) (files : List (Given (List ℕ))) (result : Result Report NoMemory)
-    → count ≤ MAX_SCRIPTS → n ≤ MAX_SCRIPT_EVENTS → files ≡ script_files count n
-    → IfOk result (IsRunOfGiven as_source config files) → IfOk result (IsLoadRunOf config count n)
-load_run_told config count n files (Ok report) few short are is =
-    load_run_is config count n report few short
-    (subst (λ (l : List (Given (List ℕ))). IsRunOfGiven as_source config l report) are is)
-load_run_told config count n files (Err refused) few short are is = tt
+module _ (config : Config) (count n : ℕ) (files : List (Given (List ℕ))) (are : files ≡ script_files count n) where
+  module _ (few : count ≤ MAX_SCRIPTS) (short : n ≤ MAX_SCRIPT_EVENTS) where
+    pub load_run_told : (result : Result Reported NoMemory)
+        → IfOk result (λ made. IsRunOfGiven as_source config files made.report)
+        → IfOk result (λ made. IsLoadRunOf config count n made.report)
+    load_run_told (Ok made) is =
+        load_run_is config count n made.report few short
+        (subst (λ (l : List (Given (List ℕ))). IsRunOfGiven as_source config l made.report) are is)
+    load_run_told (Err refused) is = tt
 
-pub load_ends_told : (config : Config) (count n : ℕ) (files : List (Given (List ℕ))) (result : Result Report NoMemory)
-    → count ≤ MAX_SCRIPTS → n ≤ MAX_SCRIPT_EVENTS → files ≡ script_files count n
-    → IfOk result (IsRunOfGiven as_source config files) → IfOk result (λ report. All (λ end. end.end ≡ Whole) report.ends)
-load_ends_told config count n files (Ok report) few short are is =
-    All-from_recursion (λ end. end.end ≡ Whole) report.ends (ends_are_whole config count n report few short
-    (subst (λ (l : List (Given (List ℕ))). IsRunOfGiven as_source config l report) are is))
-load_ends_told config count n files (Err refused) few short are is = tt
+    pub load_ends_told : (result : Result Reported NoMemory)
+        → IfOk result (λ made. IsRunOfGiven as_source config files made.report)
+        → IfOk result (λ made. All (λ end. end.end ≡ Whole) made.report.ends)
+    load_ends_told (Ok made) is =
+        All-from_recursion (λ end. end.end ≡ Whole) made.report.ends (ends_are_whole config count n made.report few short
+        (subst (λ (l : List (Given (List ℕ))). IsRunOfGiven as_source config l made.report) are is))
+    load_ends_told (Err refused) is = tt
+
+  pub load_names_told : (result : Result Reported NoMemory)
+      → IfOk result (HasNames (plan_of config).rules (length files))
+      → IfOk result (HasNames (plan_of config).rules count)
+  load_names_told result has =
+      subst (λ (workers : ℕ). IfOk result (HasNames (plan_of config).rules workers)) (as_many_files count n files are) has

@@ -2,6 +2,7 @@
 ghost use Rattle.std.specs.Prelude.{◌≡◌, ◌≤◌, All, IfOk};
 ghost use Rattle.stat_defs.specs.Configs.{IsConfig};
 ghost use Rattle.stat_defs.specs.declared.reports.FileEnd.TheVariants.{Whole};
+ghost use Rattle.ledger.specs.Ledger.{HasNames, plan_of};
 ghost use Rattle.load_scripts.specs.declared.limits.TheConstants.{MAX_SCRIPTS, MAX_SCRIPT_EVENTS};
 ghost use Rattle.load_run.specs.LoadRun.{IsLoadRunOf};
 ghost use Rattle.load_run.specs.Files.{script_files};
@@ -9,7 +10,7 @@ ghost use Rattle.load_run.specs.Files.{script_files};
 use run_files::{Setup, run_files};
 use run_gates::PaceGate;
 use script_source::ScriptSource;
-use stat_defs::{NoMemory, Report};
+use stat_defs::{NoMemory, Reported};
 use std::alloc::Global;
 use std::sync::Wait;
 use std::thread::Threads;
@@ -35,14 +36,15 @@ pub fn run_scripts<R: Threads + Wait + Sync>(
     setup: Setup<'_>,
     scripts: u32,
     events: u32,
-) -> Result<Report, NoMemory>
+) -> Result<Reported, NoMemory>
     requires config { IsConfig setup.config.now }
     requires built { (setup.rules ≡ setup.config.now.tags) × (setup.matcher ≡ setup.config.now.matcher) }
     requires some { 1 ≤ scripts }
     requires scripts { scripts ≤ MAX_SCRIPTS }
     requires events { events ≤ MAX_SCRIPT_EVENTS }
-    ensures ledger { IfOk result (IsLoadRunOf setup.entry.config.now scripts events) }
-    ensures ends { IfOk result (λ report. All (λ end. end.end ≡ Whole) report.ends) }
+    ensures ledger { IfOk result (λ made. IsLoadRunOf setup.entry.config.now scripts events made.report) }
+    ensures ends { IfOk result (λ made. All (λ end. end.end ≡ Whole) made.report.ends) }
+    ensures names { IfOk result (HasNames (plan_of setup.entry.config.now).rules scripts) }
 {
     let gate = PaceGate::new(alloc, scripts, setup.config.flush_every)?;
     let files = files_of(alloc, scripts, events)?;

@@ -11,7 +11,7 @@ use Rattle.book_state.specs.State.{State, metrics_of, ids_from}
 use Rattle.book_state.specs.Log.{replay}
 use Rattle.name_changes.specs.Changes.{names_not_gone, newest}
 use Rattle.stat_book.specs.Calls.{rules_of, state_of, IsLegal}
-use Rattle.stat_book.specs.NameChanges.{changes_of}
+use Rattle.stat_book.specs.NameChanges.{changes_of, names_of}
 use Rattle.book_lock.specs.History.{IsOneHistory}
 use Rattle.locked_book.specs.declared.ending.BookEnd.{BookEnd}
 use Rattle.locked_book.specs.Lists.{AreMetrics, SweepsListed}
@@ -40,6 +40,7 @@ pub record IsLastOf (found : BookHistory) (end : BookEnd) : Type 0 where
   pub made : end.made ≡ counters_made (state_of last)
   pub metrics : AreMetrics end.made
   pub log : end.log ≡ last.log
+  pub names : end.names ≡ names_of last
   pub legal : IsLegal last
 
 -- what the seats know is of one history, which the last sweep ends

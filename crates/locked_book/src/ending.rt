@@ -10,17 +10,18 @@ ghost use Rattle.locked_book.specs.Ending.{as_id, counters_made, GivesNames, Are
 use crate::listing::{Listing, of_kind};
 use crate::shared::{LockedBook, SharedBook};
 use crate::sweeping::sweep_in;
-use stat_book::Book;
-use stat_defs::{Entry, Kind, List, MetricId, NoMemory};
+use stat_book::{Book, BookParts};
+use stat_defs::{Entry, Kind, List, LogNames, MetricId, NoMemory};
 use std::alloc::Global;
 
-/// What a book leaves: the listing of its last sweep, all counters that were ever made, rising, and all calls with
-/// their replies.
+/// What a book leaves: the listing of its last sweep, all counters that were ever made, rising, and all calls with their
+/// replies and the names in them.
 #[derive(Drop)]
 pub struct BookEnd {
     pub listing: Listing,
     pub made: List<MetricId>,
     pub log: List<Entry>,
+    pub names: LogNames,
 }
 
 // The numbers of all metrics that were made, rising.
@@ -55,10 +56,12 @@ fn end_of(alloc: Global, book: Book) -> Result<BookEnd, NoMemory>
         drop(book);
         return Err(NoMemory);
     };
+    let BookParts { log, names } = book.into_parts(alloc)?;
     Ok(BookEnd {
         listing,
         made: List::of(made),
-        log: List::of(book.into_log()),
+        log: List::of(log),
+        names,
     })
 }
 

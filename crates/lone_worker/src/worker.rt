@@ -12,6 +12,7 @@ ghost use Rattle.book_state.specs.Step.{overdue_in};
 ghost use Rattle.book_state.specs.Safe.{SymbolsSafe};
 ghost use Rattle.book_state.specs.Stored.{IsLawfulCall};
 ghost use Rattle.stat_book.specs.Calls.{rules_of, state_of, IsLegal, Logged};
+ghost use Rattle.stat_book.specs.NameChanges.{names_of};
 ghost use Rattle.book_seat.specs.Naming.{NamesOwn};
 ghost use Rattle.lone_worker.specs.Worker.{new_worker, IsFollowed, Decides, IsCutShort};
 
@@ -20,7 +21,7 @@ use book_access::OwnedBook;
 use book_seat::BookSeat;
 use ghost_list::GhostList;
 use name_map::HashKey;
-use stat_book::Book;
+use stat_book::{Book, BookParts};
 use stat_defs::{Config, Entry, Event, EventRef, Kind, MetricId, NoMemory, Swept, Verdict};
 use std::alloc::Global;
 use std::marker::Model;
@@ -174,9 +175,10 @@ impl LoneWorker {
         self.seat.book().log()
     }
 
-    /// The calls of the book, when its worker is done.
-    pub fn into_log(self) -> Vec<Entry>
-        ensures { result.items ≡ self.book.log }
+    /// What the book leaves, when its worker is done.
+    pub fn into_parts(self, alloc: Global) -> Result<BookParts, NoMemory>
+        ensures log { IfOk result (λ parts. parts.log.items ≡ self.book.log) }
+        ensures names { IfOk result (λ parts. parts.names ≡ names_of self.book) }
     {
         let LoneWorker {
             seat,
@@ -185,7 +187,7 @@ impl LoneWorker {
             events: _,
             verdicts: _,
         } = self;
-        seat.into_book().into_log()
+        seat.into_book().into_parts(alloc)
     }
 
     /// How many metrics were made.

@@ -10,6 +10,7 @@ use Rattle.stat_defs.specs.declared.history.Reply.TheVariants as reply
 use Rattle.stat_defs.specs.declared.metrics.Metric.{Metric}
 use Rattle.stat_defs.specs.declared.reports.FlushRecord.{FlushRecord}
 use Rattle.stat_defs.specs.declared.reports.LastFlush.{LastFlush}
+use Rattle.stat_defs.specs.declared.reports.LogNames.{LogNames}
 use Rattle.stat_defs.specs.declared.reports.Reading.{Reading}
 use Rattle.merge_round.specs.Rounds.{ArePartsOf}
 use Rattle.book_state.specs.State.{NameRules, State, Row, metrics_of}
@@ -17,6 +18,7 @@ use Rattle.book_state.specs.Follows.{Follows}
 use Rattle.book_state.specs.Log.{replay}
 use Rattle.book_state.proofs.Lists.{get_map, true_false}
 use Rattle.stat_book.specs.Calls.{rules_of, state_of, IsLegal, Logged}
+use Rattle.stat_book.specs.NameChanges.{names_of}
 use Rattle.lone_worker.specs.Worker.{WorkerHistory, IsFollowed}
 use Rattle.ledger.specs.Work.{units_of}
 use Rattle.ledger.specs.Gauges.{gauge_word}
@@ -117,7 +119,7 @@ module _ (old : StoreHistory) (book : BookHistory) (n : ℕ) (swept : Logged old
 module _ (old : StoreHistory) (mid new : BookHistory) (worker : WorkerHistory) (sums : Sums) (flush : FlushRecord) (at : ℕ) (log : List Entry)
     (ended : Logged old.worker.book 1 call.End reply.Ended mid) (sweeps : SweepsLast mid sums at new flush) (at_is : at ≡ length mid.log) (log_is : log ≡ new.log)
     (one : mid.workers ≡ 1) (legal : IsLegal new) (worker_is : worker ≡ record old.worker { book = new; ended = true }) (followed : worker.whole ≡ true → IsFollowed worker)
-    (exact : old.whole ≡ true → AreOfWork old sums) where
+    (exact : old.whole ≡ true → AreOfWork old sums) (names : LogNames) (names_are : names ≡ names_of new) where
   abbrev ends : Entry
   ends = record { seat = 1; call = call.End; reply = reply.Ended }
 
@@ -152,11 +154,12 @@ module _ (old : StoreHistory) (mid new : BookHistory) (worker : WorkerHistory) (
         words = at_last.words;
       }
 
-  pub finishes : Finishes old (record { last = flush; log = log })
+  pub finishes : Finishes old (record { last = flush; log = log; names = names })
   finishes = record {
     at = sweeps.shows.place ∙ (at_is ∙ (ap (λ (b : BookHistory). length b.log) ended.logged ∙ length-append old.worker.book.log (ends ∷ [])));
     swept = (sweeps.gone, whole_log ∙ ap (λ (b : BookHistory). b.log ++ sweep ∷ []) ended.logged);
     legal = subst (λ (b : BookHistory). IsLegal b) new_is legal;
+    names = names_are ∙ ap (λ (b : BookHistory). names_of b) new_is;
     follows = λ whole.
         let follows = subst (λ (w : WorkerHistory). IsFollowed w) worker_is (followed (ap (λ (w : WorkerHistory). w.whole) worker_is ∙ whole)) in
         subst (λ (b : BookHistory). Follows (rules_of b) 1 1 old.worker.events old.worker.verdicts b.log) new_is follows;
@@ -170,4 +173,4 @@ module _ (old : StoreHistory) (mid new : BookHistory) (worker : WorkerHistory) (
 -- a worker with such sums that ended finishes the store
 pub ends_finish : (old : StoreHistory) (sums : Sums) (given : LastFlush) → (old.whole ≡ true → AreOfWork old sums) → EndsWith old.worker sums given → Finishes old given
 ends_finish old sums given exact e =
-    finishes old e.ends.mid e.new.book e.new sums given.last (length e.ends.mid.log) given.log e.ends.ended e.ends.sweeps refl e.log e.ends.one_worker e.ends.legal e.ends.rest e.ends.followed exact
+    finishes old e.ends.mid e.new.book e.new sums given.last (length e.ends.mid.log) given.log e.ends.ended e.ends.sweeps refl e.log e.ends.one_worker e.ends.legal e.ends.rest e.ends.followed exact given.names e.names

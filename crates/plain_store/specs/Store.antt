@@ -10,6 +10,7 @@ use Rattle.stat_defs.specs.declared.reports.FlushRecord.{FlushRecord}
 use Rattle.stat_defs.specs.declared.reports.LastFlush.{LastFlush}
 use Rattle.book_state.specs.Follows.{Follows}
 use Rattle.stat_book.specs.Calls.{rules_of, IsLegal, Logged}
+use Rattle.stat_book.specs.NameChanges.{names_of}
 use Rattle.lone_worker.specs.Worker.{WorkerHistory, new_worker, Decides, IsCutShort as IsWorkerCutShort}
 use Rattle.ledger.specs.Work.{Work, units_of}
 use Rattle.ledger.specs.Gauges.{gauge_word}
@@ -81,6 +82,7 @@ pub record Finishes (old : StoreHistory) (given : LastFlush) : Type 0 where
       ≡ (old.worker.book.log ++ record { seat = 1; call = call.End; reply = reply.Ended } ∷ [])
       ++ record { seat = 0; call = call.Sweep; reply = reply.Swept n } ∷ [])
   pub legal : IsLegal (record old.worker.book { log = given.log })
+  pub names : given.names ≡ names_of (record old.worker.book { log = given.log })
   -- said of a worker none of whose events was cut short
   pub follows : old.worker.whole ≡ true
       → Follows (rules_of old.worker.book) 1 1 old.worker.events old.worker.verdicts given.log

@@ -10,6 +10,7 @@ use Rattle.stat_defs.specs.declared.ids.Kind.TheVariants.{Counter, Gauge}
 use Rattle.stat_defs.specs.declared.history.Call.TheVariants as call
 use Rattle.stat_defs.specs.declared.history.Reply.TheVariants as reply
 use Rattle.stat_book.specs.Calls.{state_of, IsLegal, Logged}
+use Rattle.stat_book.specs.NameChanges.{names_of}
 use Rattle.lone_worker.specs.Worker.{WorkerHistory, IsFollowed}
 use Rattle.ledger.specs.Flushes.{ids_made, ids_not_gone}
 use Rattle.stat_defs.specs.declared.ids.MetricId.{MetricId}
@@ -121,8 +122,9 @@ pub record Ends (old : WorkerHistory) (sums : Sums) (new : WorkerHistory) (flush
   pub legal : IsLegal new.book
   pub followed : new.whole ≡ true → IsFollowed new
 
--- so it was, and the log is that of the worker behind it
+-- so it was, and the log and its names are those of the worker behind it
 pub record EndsWith (old : WorkerHistory) (sums : Sums) (given : LastFlush) : Type 0 where
   pub new : WorkerHistory
   pub ends : Ends old sums new given.last
   pub log : given.log ≡ new.book.log
+  pub names : given.names ≡ names_of new.book

@@ -6,12 +6,14 @@ ghost use Rattle.loglinear_bins.specs.declared.place.TheConstants.{MAX_COUNT};
 ghost use Rattle.stat_defs.specs.declared.history.Call.TheVariants as call;
 ghost use Rattle.stat_defs.specs.declared.history.Reply.TheVariants as reply;
 ghost use Rattle.stat_book.specs.Calls.{state_of, Logged};
+ghost use Rattle.stat_book.specs.NameChanges.{names_of};
 ghost use Rattle.plain_store.specs.Sums.{is_of_kind, value_count, Shows, SweepsLast, Ends, EndsWith};
 
 use crate::lists::all_made;
 use crate::record::take_flush;
 use crate::sums::Sums;
 use lone_worker::LoneWorker;
+use stat_book::BookParts;
 use stat_defs::{FlushRecord, LastFlush, List, MetricId, NoMemory};
 use std::alloc::Global;
 
@@ -72,18 +74,21 @@ fn end_all(alloc: Global, worker: &mut LoneWorker, sums: &mut Sums) -> Result<Fl
     Ok(flush)
 }
 
-// The record with the log of a worker that is done.
-fn with_log(worker: LoneWorker, last: FlushRecord) -> LastFlush
-    ensures last { result.last ≡ last }
-    ensures log { result.log ≡ worker.book.log }
+// The record with what the book of a worker leaves that is done.
+fn with_parts(alloc: Global, worker: LoneWorker, last: FlushRecord) -> Result<LastFlush, NoMemory>
+    ensures last { IfOk result (λ given. given.last ≡ last) }
+    ensures log { IfOk result (λ given. given.log ≡ worker.book.log) }
+    ensures names { IfOk result (λ given. given.names ≡ names_of worker.book) }
 {
-    LastFlush {
+    let BookParts { log, names } = worker.into_parts(alloc)?;
+    Ok(LastFlush {
         last,
-        log: List::of(worker.into_log()),
-    }
+        log: List::of(log),
+        names,
+    })
 }
 
-/// The last flush of a worker and its sums, with the log.
+/// The last flush of a worker and its sums, with the log of its book and the names in it.
 pub(crate) fn finish_parts(
     alloc: Global,
     worker: LoneWorker,
@@ -96,7 +101,7 @@ pub(crate) fn finish_parts(
     let mut worker = worker;
     let mut sums = sums;
     match end_all(alloc, &mut worker, &mut sums) {
-        Ok(last) => Ok(with_log(worker, last)),
+        Ok(last) => with_parts(alloc, worker, last),
         Err(no_memory) => Err(no_memory),
     }
 }

@@ -9,7 +9,7 @@ use boot_file::usual;
 use boot_load::{LoadFault, boot_line, load};
 use name_map::HashKey;
 use replay_report::replay_files;
-use stat_defs::{Config, FileEnd, Report};
+use stat_defs::{Config, FileEnd, Report, Reported};
 use stats_io::{MemFile, MemShelf};
 use std::alloc::Global;
 use std::process::Abort;
@@ -106,7 +106,10 @@ fn replayed(alloc: Global, config: &Config, shelf: MemShelf, meter: &Meter) -> R
     let rules = TagRules::build(alloc, &mut maker, config.tags.items())?;
     let matcher = Matcher::build(alloc, &mut maker, &config.matcher)?;
     let key = HashKey::fixed();
-    Ok(replay_files(alloc, key, config, rules, matcher, &names, &mut shelf)?)
+    let Reported { report, names: _ } = replay_files(
+        alloc, key, config, rules, matcher, &names, &mut shelf,
+    )?;
+    Ok(report)
 }
 
 // How the file `f` ended.

@@ -6,6 +6,7 @@ use Rattle.stat_defs.specs.declared.events.Event.{Event}
 use Rattle.stat_defs.specs.declared.history.Verdict.{Verdict}
 use Rattle.stat_defs.specs.declared.reports.LastFlush.{LastFlush}
 use Rattle.stat_defs.specs.declared.reports.WorkerEnd.{WorkerEnd}
+use Rattle.name_changes.specs.Changes.{names_in_log}
 use Rattle.ledger.specs.Work.{Work, events_in, verdicts_in, work_of, together}
 use Rattle.ledger.specs.Ledger.{AreRead, ReplayLedger, IsReportOf, last_flush_alone, plan_of}
 use Rattle.ledger.proofs.WorkLists.{lengths, events_back, verdicts_back}
@@ -52,3 +53,11 @@ module _ (contents : List (Option (List ℕ))) (events : List (List Event)) (ver
         account = account config all told applied.entries given at_end verdicts ends;
         shown = shown config all told applied.entries given at_end verdicts ends;
       })
+
+-- the names of a store that was finished are those of its log
+pub applied_names : (config : Config) (events : List Event) (verdicts : List Verdict) (store : StoreHistory)
+    (given : LastFlush) → AreApplied (new_store config) events verdicts store → Finishes store given
+    → given.names ≡ names_in_log (plan_of config).rules 1 given.log
+applied_names config events verdicts store given applied finishes =
+    let at_end : Finishes (with_applied (new_store config) events verdicts applied.entries) given =
+    subst (λ (s : StoreHistory). Finishes s given) applied.applied finishes in at_end.names

@@ -10,21 +10,21 @@ use Rattle.stat_defs.specs.declared.reports.FileEnd.{FileEnd}
 use Rattle.stat_defs.specs.declared.reports.FileEnd.TheVariants.{Whole, BadLine, LineTooLong, TooBig, TooMany, ReadFault, NotOpened}
 use Rattle.stat_defs.specs.declared.reports.LastFlush.{LastFlush}
 use Rattle.stat_defs.specs.declared.memory.NoMemory.{NoMemory}
-use Rattle.stat_defs.specs.declared.reports.Report.{Report}
+use Rattle.stat_defs.specs.declared.reports.Reported.{Reported}
 use Rattle.stat_defs.specs.declared.reports.WorkerEnd.{WorkerEnd}
 use Rattle.stats_io.specs.States.{SourceState, ShelfState}
 use Rattle.event_script.specs.FileEvents.{AreEventsOf}
 use Rattle.ledger.specs.Work.{Work, events_in, verdicts_in, work_of, together}
-use Rattle.ledger.specs.Ledger.{TakenAtFault, AreRead, ReplayLedger, IsReportOf, last_flush_alone, plan_of}
+use Rattle.ledger.specs.Ledger.{TakenAtFault, AreRead, ReplayLedger, IsReportOf, HasNames, last_flush_alone, plan_of}
 use Rattle.ledger.proofs.WorkLists.{lengths, events_back, verdicts_back}
 use Rattle.plain_store.specs.Store.{StoreHistory, new_store, Finishes}
 use Rattle.file_reading.specs.WorkerEnd.{HasCause}
 use Rattle.file_reading.specs.FileRead.{FileRead, AreFiles, all_events}
 use Rattle.replay_report.specs.Applying.{with_applied, AreApplied}
-use Rattle.replay_report.specs.FileRun.{all_verdicts, report_with, AreRuns}
+use Rattle.replay_report.specs.FileRun.{all_verdicts, report_with, reported_with, AreRuns}
 use Rattle.replay_report.specs.ReplayReport.{IsReplayOf}
 use Rattle.replay_report.specs.declared.reading.Runs.{Runs}
-use Rattle.replay_report.proofs.AppliedReport.{applied_report}
+use Rattle.replay_report.proofs.AppliedReport.{applied_report, applied_names}
 
 -- the events of each file
 abbrev pub events_of : List FileRead → List (List Event)
@@ -127,11 +127,25 @@ module _ {F S : Type 0} (shelf : F → ShelfState) (source : S → SourceState) 
   pub reported : (names : List (List ℕ)) (before after : F) (config : Config) (first store : StoreHistory)
       (runs : Runs) (given : LastFlush) → first ≡ new_store config
       → AreRuns shelf source holds names before after first store runs → Finishes store given
-      → (answer : Result Report NoMemory)
-      → IfOk answer (λ report. report ≡ report_with runs.verdicts.items runs.ends.items given)
-      → IfOk answer (IsReplayOf shelf source holds config names before after)
-  reported names before after config first store runs given new are finishes (Ok report) is =
-      subst (λ (r : Report). IsReplayOf shelf source holds config names before after r) (sym is)
+      → (answer : Result Reported NoMemory)
+      → IfOk answer (λ made. made ≡ reported_with runs.verdicts.items runs.ends.items given)
+      → IfOk answer (λ made. IsReplayOf shelf source holds config names before after made.report)
+  reported names before after config first store runs given new are finishes (Ok made) is =
+      subst (λ (m : Reported). IsReplayOf shelf source holds config names before after m.report) (sym is)
       (is_replay names before after config store runs given
       (subst (λ (s : StoreHistory). AreRuns shelf source holds names before after s store runs) new are) finishes)
   reported names before after config first store runs given new are finishes (Err fault) is = tt
+
+  -- and they come with the names in their log
+  pub with_names : (names : List (List ℕ)) (before after : F) (config : Config) (first store : StoreHistory)
+      (runs : Runs) (given : LastFlush) → first ≡ new_store config
+      → AreRuns shelf source holds names before after first store runs → Finishes store given
+      → (answer : Result Reported NoMemory)
+      → IfOk answer (λ made. made ≡ reported_with runs.verdicts.items runs.ends.items given)
+      → IfOk answer (HasNames (plan_of config).rules 1)
+  with_names names before after config first store runs given new are finishes (Ok made) is =
+      let runs_are = subst (λ (s : StoreHistory). AreRuns shelf source holds names before after s store runs) new are in
+      subst (HasNames (plan_of config).rules 1) (sym is)
+      (applied_names config (all_events runs_are.files) (all_verdicts runs.verdicts.items) store given
+      runs_are.are_applied finishes)
+  with_names names before after config first store runs given new are finishes (Err fault) is = tt

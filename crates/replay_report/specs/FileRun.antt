@@ -5,6 +5,7 @@ use Rattle.stat_defs.specs.declared.events.Event.{Event}
 use Rattle.stat_defs.specs.declared.history.Verdict.{Verdict}
 use Rattle.stat_defs.specs.declared.reports.LastFlush.{LastFlush}
 use Rattle.stat_defs.specs.declared.reports.Report.{Report}
+use Rattle.stat_defs.specs.declared.reports.Reported.{Reported}
 use Rattle.stat_defs.specs.declared.reports.WorkerEnd.{WorkerEnd}
 use Rattle.stats_io.specs.States.{SourceState, ShelfState}
 use Rattle.event_script.specs.declared.limits.TheConstants.{MAX_EVENTS}
@@ -28,6 +29,10 @@ report_with verdicts ends given = record {
   reads = [];
   ends = ends;
 }
+
+-- the same, with the names in the log
+abbrev pub reported_with : List (List Verdict) → List WorkerEnd → LastFlush → Reported
+reported_with verdicts ends given = record { report = report_with verdicts ends given; names = given.names }
 
 -- a source was read to its end, and its events were applied
 pub record IsSourceRun {S : Type 0} (state : S → SourceState) (source : S) (earlier later : StoreHistory)

@@ -1,14 +1,15 @@
 //! The report of files.
 ghost use Rattle.std.specs.Prelude.{◌≡◌, ◌≤◌, length, map, string_bytes, IfOk};
 ghost use Rattle.stat_defs.specs.Configs.{IsConfig};
+ghost use Rattle.ledger.specs.Ledger.{HasNames, plan_of};
 ghost use Rattle.replay_report.specs.declared.replaying.TheConstants as limits;
-ghost use Rattle.replay_report.specs.FileRun.{report_with};
+ghost use Rattle.replay_report.specs.FileRun.{reported_with};
 ghost use Rattle.replay_report.specs.ReplayReport.{IsReplayOf};
 
 use crate::reading::read_files;
 use name_map::HashKey;
 use plain_store::PlainStore;
-use stat_defs::{Config, LastFlush, List, NoMemory, Report, Verdict, WorkerEnd};
+use stat_defs::{Config, LastFlush, List, NoMemory, Report, Reported, Verdict, WorkerEnd};
 use stats_io::Shelf;
 use std::alloc::Global;
 use tag_rules::{Matcher, TagRules};
@@ -20,25 +21,26 @@ pub const MAX_FILES: usize = 32;
 const _: () = prove!(MAX_FILES == 32);
 
 /// The report of events with these verdicts, a list each of files or of scripts that ended so, whose store gave this last
-/// flush: it has no other flush, and no readings.
+/// flush: it has no other flush, and no readings. It comes with the names in its log.
 pub fn report_of(
     alloc: Global,
     verdicts: Vec<List<Verdict>>,
     ends: Vec<WorkerEnd>,
     given: LastFlush,
-) -> Result<Report, NoMemory>
-    ensures { IfOk result (λ report. report ≡ report_with verdicts.items ends.items given) }
+) -> Result<Reported, NoMemory>
+    ensures { IfOk result (λ made. made ≡ reported_with verdicts.items ends.items given) }
 {
-    let LastFlush { last, log } = given;
+    let LastFlush { last, log, names } = given;
     let mut flushes = Vec::new(alloc);
     flushes.push(last)?;
-    Ok(Report {
+    let report = Report {
         verdicts: List::of(verdicts),
         flushes: List::of(flushes),
         log,
         reads: List::of(Vec::new(alloc)),
         ends: List::of(ends),
-    })
+    };
+    Ok(Reported { report, names })
 }
 
 /// Opens the files of a shelf one after another, reads each to its end and applies its events to one store. The report
@@ -52,13 +54,14 @@ pub fn replay_files<F: Shelf>(
     matcher: Matcher,
     names: &[String],
     shelf: &mut F,
-) -> Result<Report, NoMemory>
+) -> Result<Reported, NoMemory>
     requires lawful { IsConfig config.now }
     requires rules { rules ≡ config.now.tags }
     requires matcher { matcher ≡ config.now.matcher }
     requires few { length names.now ≤ limits.MAX_FILES }
-    ensures { IfOk result (IsReplayOf F.state F.S.state (F.holds shelf.old) config.now (map string_bytes names.now)
-        shelf.old shelf.new) }
+    ensures report { IfOk result (λ made. IsReplayOf F.state F.S.state (F.holds shelf.old) config.now
+        (map string_bytes names.now) shelf.old shelf.new made.report) }
+    ensures names { IfOk result (HasNames (plan_of config.now).rules 1) }
 {
     let mut store = PlainStore::with_key(alloc, key, config, rules, matcher)?;
     match read_files(alloc, shelf, names, &mut store) {

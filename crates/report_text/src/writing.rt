@@ -2,7 +2,7 @@
 ghost use Rattle.std.specs.Prelude.{◌≡◌, ◌≤◌, ◌++◌};
 ghost use Rattle.text_parts.specs.Answer.{IsTextAnswer};
 ghost use Rattle.flush_view.specs.Showing.{IsShowable};
-ghost use Rattle.flush_view.specs.Views.{view_rules, last_state};
+ghost use Rattle.flush_view.specs.Views.{view_rules, last_state, names_shown};
 ghost use Rattle.report_text.specs.ReportText.{report_text};
 ghost use Rattle.report_text.specs.Parts.{symbol_rows, symbols_text, text_behind, workers_text};
 
@@ -12,10 +12,10 @@ use crate::symbols::write_metrics;
 use crate::workers::write_workers;
 use flush_view::ReportViews;
 use output_options::OutputOptions;
-use stat_defs::{Config, List, Report, Verdict};
+use stat_defs::{Config, List, LogNames, Report, Verdict};
 use stats_io::{Sink, push_all};
 use std::alloc::Global;
-use tag_rules::{Buckets, TagRules};
+use tag_rules::Buckets;
 use text_parts::TextFault;
 
 /// Writes the rows of symbols.
@@ -85,18 +85,18 @@ fn write_behind<O: Sink>(
     write_rows(alloc, symbols, views, report.verdicts.items(), out)
 }
 
-/// Writes the text of a report. Its views are made and written one after another. Rules and buckets are those that
-/// were built from the configuration.
+/// Writes the text of a report, which came with these names. Its views are made and written one after another. Buckets
+/// are those that were built from the configuration.
 pub fn write_report<O: Sink>(
     alloc: Global,
     options: OutputOptions,
     config: &Config,
-    rules: TagRules,
+    names: LogNames,
     buckets: &Buckets,
     report: &Report,
     out: &mut O,
 ) -> Result<(), TextFault>
-    requires rules { rules ≡ config.now.tags }
+    requires names { names ≡ names_shown (view_rules config.now).names report.now.log }
     requires buckets { buckets.now ≡ config.now.buckets }
     requires showable { IsShowable config.now report.now }
     ensures answer { IsTextAnswer (O.state out.old) (O.state out.new)
@@ -104,7 +104,7 @@ pub fn write_report<O: Sink>(
     ensures later { (O.state out.old).faults ≤ (O.state out.new).faults }
 {
     let count = report.flushes.items().len();
-    let mut views = ReportViews::new(alloc, config, rules, buckets, report)?;
+    let mut views = ReportViews::new(alloc, config, names, buckets, report)?;
     write_flushes(
         alloc,
         options.format,

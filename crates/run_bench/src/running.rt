@@ -8,7 +8,7 @@ use boot_file::read;
 use name_map::HashKey;
 use run_files::{Setup, run_files};
 use run_gates::PaceGate;
-use stat_defs::{Config, NoMemory, Report};
+use stat_defs::{Config, NoMemory, Report, Reported};
 use stats_io::SureSource;
 use std::alloc::Global;
 use std::io;
@@ -56,7 +56,9 @@ fn run_timed<R: Threads + Wait + Sync + Clock + AllocGlobal>(
         matcher,
     };
     let start = Instant::now(rt)?;
-    let report = run_files(rt, alloc, gate, setup, files).map_err(no_memory)?;
+    let Reported { report, names: _ } = run_files(rt, alloc, gate, setup, files).map_err(
+        no_memory,
+    )?;
     Ok((start.elapsed(rt)?, report))
 }
 

@@ -5,7 +5,10 @@ use Rattle.stat_defs.specs.Books.{BookHistory}
 use Rattle.stat_defs.specs.declared.configs.Config.{Config}
 use Rattle.stat_defs.specs.declared.memory.NoMemory.{NoMemory}
 use Rattle.stat_defs.specs.declared.reports.Report.{Report}
+use Rattle.stat_defs.specs.declared.reports.Reported.{Reported}
 use Rattle.stats_io.specs.States.{SourceState}
+use Rattle.name_changes.specs.Changes.{names_in_log}
+use Rattle.ledger.specs.Ledger.{HasNames, plan_of}
 use Rattle.ledger.specs.Lists.{EachNumbered}
 use Rattle.recorder.specs.declared.ended.Ended.{Ended}
 use Rattle.recorder.specs.Tied.{HasEnded}
@@ -42,17 +45,17 @@ module _ {S : Type 0} (state : S → SourceState) (config : Config) (files : Lis
         ∙ sym (ap (λ (book : BookHistory). book.workers) is.book)));
   }
 
-  reported : (report : Report) → Reports started.store done report → IsRunOfGiven state config files report
-  reported report made =
+  reported : (given : Reported) → Reports started.store done given → IsRunOfGiven state config files given.report
+  reported given made =
       let all = back.gathered in
       run_made state config started.store files back.workers done.flushings.records.items done.flushings.flusher
-      done.readings.records.items done.readings.admin made.last report
+      done.readings.records.items done.readings.admin made.last given.report
       (ap (λ (book : BookHistory). book.config) is.book) worked
       back.flushings.flushed.shown (back.flushings.number ∙ is.rounds.0)
       back.readings.read.shown (back.readings.number ∙ is.rounds.1)
       (subst (λ (ended : List Ended).
       Closes started.store ended done.flushings.flusher done.readings.admin made.last) (sym all.ended) made.closes)
-      (made.is ∙ (λ i. record {
+      (ap (λ (r : Reported). r.report) made.is ∙ (λ i. record {
         verdicts = sym all.verdicts i;
         flushes = done.flushings.records.items ++ made.last.last ∷ [];
         log = made.last.log;
@@ -61,7 +64,16 @@ module _ {S : Type 0} (state : S → SourceState) (config : Config) (files : Lis
       }))
 
   -- its report
-  pub run_done : (result : Result Report NoMemory) → IfOk result (Reports started.store done)
-      → IfOk result (IsRunOfGiven state config files)
-  run_done (Ok report) made = reported report made
+  pub run_done : (result : Result Reported NoMemory) → IfOk result (Reports started.store done)
+      → IfOk result (λ made. IsRunOfGiven state config files made.report)
+  run_done (Ok given) made = reported given made
   run_done (Err e) made = tt
+
+  -- and the names in its log
+  pub run_names_known : (result : Result Reported NoMemory) → IfOk result (Reports started.store done)
+      → IfOk result (HasNames (plan_of config).rules (length files))
+  run_names_known (Ok given) made =
+      subst (HasNames (plan_of config).rules (length files)) (sym made.is)
+      (made.closes.names
+      ∙ ap (λ (book : BookHistory). names_in_log (plan_of book.config).rules book.workers made.last.log) is.book)
+  run_names_known (Err e) made = tt

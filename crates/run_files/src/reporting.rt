@@ -6,13 +6,13 @@ ghost use Rattle.run_files.specs.Readings.{HasRead};
 ghost use Rattle.run_files.specs.Reporting.{Reports};
 
 use crate::returning::Returned;
-use stat_defs::{LastFlush, List, NoMemory, Report};
+use stat_defs::{LastFlush, List, NoMemory, Report, Reported};
 use std::alloc::Global;
 use store_closing::close_store;
 use store_parts::Store;
 
 /// Closes the store, and puts the report together.
-pub(crate) fn report_of(alloc: Global, store: Store, done: Returned) -> Result<Report, NoMemory>
+pub(crate) fn report_of(alloc: Global, store: Store, done: Returned) -> Result<Reported, NoMemory>
     requires workers { HaveEnded store done.gathered.ended.items }
     requires flusher { HasFlushed store done.flushings.records.items done.flushings.flusher }
     requires reader { HasRead store done.readings.records.items done.readings.admin }
@@ -23,7 +23,7 @@ pub(crate) fn report_of(alloc: Global, store: Store, done: Returned) -> Result<R
         readings,
         gathered,
     } = done;
-    let LastFlush { last, log } = close_store(
+    let LastFlush { last, log, names } = close_store(
         alloc,
         store,
         gathered.ended,
@@ -32,11 +32,12 @@ pub(crate) fn report_of(alloc: Global, store: Store, done: Returned) -> Result<R
     )?;
     let mut flushes = flushings.records;
     flushes.push(last)?;
-    Ok(Report {
+    let report = Report {
         verdicts: List::of(gathered.verdicts),
         flushes: List::of(flushes),
         log,
         reads: List::of(readings.records),
         ends: List::of(gathered.ends),
-    })
+    };
+    Ok(Reported { report, names })
 }

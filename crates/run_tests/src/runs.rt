@@ -5,7 +5,7 @@ use boot_file::read;
 use name_map::HashKey;
 use run_files::{Setup, run_files};
 use run_gates::Gate;
-use stat_defs::{Config, FlushRecord, MetricId, Part, ReadRecord, Report};
+use stat_defs::{Config, FlushRecord, MetricId, Part, ReadRecord, Report, Reported};
 use stats_io::{MemSource, Source};
 use std::alloc::Global;
 use std::process::Abort;
@@ -74,7 +74,8 @@ fn run_with<R: Threads + Wait + Abort + Sync, G: Gate + Sync, S: Source + Drop +
         rules,
         matcher,
     };
-    Ok(run_files(rt, alloc, gate, setup, files)?)
+    let Reported { report, names: _ } = run_files(rt, alloc, gate, setup, files)?;
+    Ok(report)
 }
 
 /// The units of a counter in a flush: 0 where it has no delta.

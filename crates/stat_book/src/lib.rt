@@ -6,5 +6,5 @@ mod finds;
 mod laws;
 mod sweeps;
 
-pub use book::Book;
+pub use book::{Book, BookParts};
 pub use laws::thread_law;

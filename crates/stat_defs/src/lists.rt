@@ -1,10 +1,12 @@
-//! A small type over `Vec`, which contracts see as its list.
-ghost use Rattle.std.specs.Prelude.{◌≡◌};
+//! Lists, which contracts see as their values.
+ghost use Rattle.std.specs.Prelude.{◌≡◌, IfOk};
 ghost use Rattle.std.specs.Cmp.Lexicographic.{pointwise, lists_equiv, lists_per};
 ghost use Rattle.std.specs.List.{AllZip};
 
+use crate::memory::NoMemory;
 use std::alloc::AllocError;
 use std::marker::Model;
+use std::sync::ArcSlice;
 
 /// A list of values, in order.
 #[derive(Drop, Debug)]
@@ -68,5 +70,70 @@ impl<T: PartialEq> PartialEq for List<T> {
 }
 
 impl<T: Eq> Eq for List<T> {
+    ghost laws = { lists_equiv T.Eq.laws };
+}
+
+/// A list that stays as it is: its copies share its values, which no contract says. An empty one takes no memory.
+#[derive(Drop, Debug)]
+pub struct SharedList<T> {
+    held: Option<ArcSlice<T>>,
+}
+
+impl<T> Model for SharedList<T> {
+    ghost use Rattle.std.specs.Prelude.{List as Listed, []};
+    ghost use Rattle.std.specs.Option.{option_map_or};
+    ghost use Rattle.std.specs.Arc.{arc_slice_items};
+
+    ghost Value = { Listed T };
+
+    ghost view = { λ t. option_map_or arc_slice_items t.held [] };
+}
+
+impl<T: Drop> SharedList<T> {
+    pub fn of(items: Vec<T>) -> Result<SharedList<T>, NoMemory>
+        ensures { IfOk result (λ list. list ≡ items.items) }
+    {
+        if items.is_empty() {
+            return Ok(SharedList { held: None });
+        }
+        Ok(SharedList {
+            held: Some(ArcSlice::from_vec(items)?),
+        })
+    }
+
+    pub fn items(&self) -> &[T]
+        ensures { result.now ≡ self.now }
+    {
+        match &self.held {
+            None => &[],
+            Some(held) => held.as_slice(),
+        }
+    }
+}
+
+impl<T: Drop> Clone for SharedList<T> {
+    ghost is_clone = { λ list copy. copy ≡ list };
+
+    fn clone(&self) -> Result<SharedList<T>, AllocError> {
+        Ok(SharedList {
+            held: match &self.held {
+                None => None,
+                Some(held) => Some(held.clone()?),
+            },
+        })
+    }
+}
+
+impl<T: PartialEq + Drop> PartialEq for SharedList<T> {
+    ghost eq = { pointwise T.eq };
+
+    ghost laws = { lists_per T.PartialEq.laws };
+
+    fn eq(&self, other: &SharedList<T>) -> bool {
+        self.items() == other.items()
+    }
+}
+
+impl<T: Eq + Drop> Eq for SharedList<T> {
     ghost laws = { lists_equiv T.Eq.laws };
 }

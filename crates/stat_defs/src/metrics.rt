@@ -1,7 +1,7 @@
 //! Metrics and the tags of their names.
 
 use crate::ids::{Kind, Mode};
-use crate::lists::{List, Numbers};
+use crate::lists::{Numbers, SharedList};
 use crate::text::Txt;
 
 /// A tag that was drawn out of a metric's name.
@@ -11,11 +11,11 @@ pub struct Tag {
     pub value: Txt,
 }
 
-/// A name without the places that its tags took, and the tags in the order of their rules.
+/// A name without the places that its tags took, and the tags in the order of their rules. Copies share the tags.
 #[derive(Drop, Debug, Clone, PartialEq, Eq)]
 pub struct Tagged {
     pub extracted: Txt,
-    pub tags: List<Tag>,
+    pub tags: SharedList<Tag>,
 }
 
 /// Whether some live scope bears a metric, its last bearer was released as that release, or its name is free again.

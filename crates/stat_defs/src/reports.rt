@@ -1,9 +1,10 @@
 //! What a run of the store recorded.
 
 use crate::bins::BinList;
-use crate::history::{Entry, Verdict};
+use crate::history::{Entry, NameOp, Verdict};
 use crate::ids::MetricId;
 use crate::lists::List;
+use crate::metrics::Metric;
 
 /// The units of a counter since the flush before.
 #[derive(Clone, Copy, Debug, PartialEq, Eq)]
@@ -46,11 +47,21 @@ pub struct ReadRecord {
     pub gauges: List<Reading>,
 }
 
-/// The last flush, and the whole log.
+/// What became of the names in a log.
+#[derive(Drop, Debug)]
+pub struct LogNames {
+    /// Every metric that was made. A metric's number is its place.
+    pub metrics: List<Metric>,
+    /// The changes of the names that are not gone, in the order of the log.
+    pub changes: List<NameOp>,
+}
+
+/// The last flush, and the whole log with its names.
 #[derive(Drop, Debug)]
 pub struct LastFlush {
     pub last: FlushRecord,
     pub log: List<Entry>,
+    pub names: LogNames,
 }
 
 /// How the reading of an event file ended. Lines are numbered from 1.
@@ -86,4 +97,11 @@ pub struct Report {
     pub log: List<Entry>,
     pub reads: List<ReadRecord>,
     pub ends: List<WorkerEnd>,
+}
+
+/// A report, and the names in its log.
+#[derive(Drop, Debug)]
+pub struct Reported {
+    pub report: Report,
+    pub names: LogNames,
 }

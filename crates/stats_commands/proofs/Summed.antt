@@ -11,6 +11,8 @@ use Rattle.boot_load.specs.declared.loading.Boot.{Boot}
 use Rattle.boot_load.specs.declared.fault.LoadFault.{LoadFault}
 use Rattle.boot_load.specs.declared.fault.LoadFault.TheVariants as unloaded
 use Rattle.book_state.specs.declared.limits.TheConstants.{MAX_WORKERS}
+use Rattle.ledger.specs.Ledger.{HasNames, plan_of}
+use Rattle.flush_view.proofs.LedgerNames.{names_of_ledgers}
 use Rattle.flush_view.proofs.Showable.{ledgers_show}
 use Rattle.load_scripts.specs.declared.limits.TheConstants.{MAX_SCRIPTS}
 use Rattle.load_scripts.specs.Load.{scripts, script_texts}
@@ -33,9 +35,10 @@ texts_many count n = length-map (range_with_len 1 count) _ ∙ length-range_with
 
 -- the report of a load can be summed up
 pub load_applies : (count n : ℕ) (recorded : Recorded) → count ≤ MAX_SCRIPTS → IsConfig recorded.config
-    → recorded.rules ≡ recorded.config.tags → recorded.buckets ≡ recorded.config.buckets
-    → IsLoadOf recorded.config count n recorded.report → Applies IsLoadOf recorded.config count n recorded
-load_applies count n recorded few lawful rules buckets is =
+    → recorded.buckets ≡ recorded.config.buckets → IsLoadOf recorded.config count n recorded.report
+    → HasNames (plan_of recorded.config).rules 1 (record { report = recorded.report; names = recorded.names })
+    → Applies IsLoadOf recorded.config count n recorded
+load_applies count n recorded few lawful buckets is has =
     let many = texts_many count n in
     let within : length (script_texts count n) ≤ MAX_WORKERS = omega (arith, many, few) in
     record {
@@ -43,7 +46,8 @@ load_applies count n recorded few lawful rules buckets is =
       comes = is;
       summable = record {
         recorded_is = record {
-          rules = rules;
+          names = names_of_ledgers.replay recorded.config (script_texts count n) (scripts count n)
+              (record { report = recorded.report; names = recorded.names }) is has;
           buckets = buckets;
           showable = ledgers_show.replay recorded.config (script_texts count n) (scripts count n) recorded.report lawful within is;
           few = omega (arith, is.read.an_end_each, many, few);

@@ -9,6 +9,7 @@ use Rattle.boot_load.specs.declared.loading.Boot.{Boot}
 use Rattle.boot_load.specs.declared.fault.LoadFault.{LoadFault}
 use Rattle.boot_load.specs.BootLine.{boot_line}
 use Rattle.flush_view.specs.Showing.{IsShowable}
+use Rattle.flush_view.specs.Views.{names_shown, view_rules}
 use Rattle.replay_report.specs.declared.replaying.TheConstants.{MAX_FILES}
 use Rattle.text_parts.specs.declared.fault.TextFault.{TextFault}
 use Rattle.text_parts.specs.declared.fault.TextFault.TheVariants.{WriteFault, NoMemory}
@@ -26,9 +27,9 @@ pub record IsBuilt (boot : Boot) : Type 0 where
   pub buckets : boot.buckets ≡ boot.config.buckets
   pub view_rules : boot.view_rules ≡ boot.config.tags
 
--- the report can be shown, with the patterns of its configuration
+-- the report can be shown, with the names in its log and the buckets of its configuration
 pub record IsRecorded (recorded : Recorded) : Type 0 where
-  pub rules : recorded.rules ≡ recorded.config.tags
+  pub names : recorded.names ≡ names_shown (view_rules recorded.config).names recorded.report.log
   pub buckets : recorded.buckets ≡ recorded.config.buckets
   pub showable : IsShowable recorded.config recorded.report
   pub few : length recorded.report.ends ≤ MAX_FILES

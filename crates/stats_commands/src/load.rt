@@ -13,7 +13,7 @@ use boot_load::{Boot, LoadFault, load as load_boot};
 use command_words::Load;
 use load_report::load_report;
 use name_map::HashKey;
-use stat_defs::NoMemory;
+use stat_defs::{NoMemory, Reported};
 use stats_io::{Shelf, Sink};
 use std::alloc::Global;
 use tag_rules::PatternMaker;
@@ -28,18 +28,20 @@ fn record(alloc: Global, key: HashKey, boot: Boot, asked: Load) -> Result<Record
         rules,
         matcher,
         buckets,
-        view_rules,
+        view_rules: _,
     } = boot;
     let Load {
         scripts,
         events,
         ..
     } = asked;
-    let report = load_report(alloc, key, &config, rules, matcher, scripts, events)?;
+    let Reported { report, names } = load_report(
+        alloc, key, &config, rules, matcher, scripts, events,
+    )?;
     Ok(Recorded {
         report,
+        names,
         config,
-        rules: view_rules,
         buckets,
     })
 }

@@ -18,18 +18,18 @@ use name_map::HashKey;
 use output_options::OutputOptions;
 use replay_report::replay_files;
 use report_text::write_report;
-use stat_defs::{Config, NoMemory, Report};
+use stat_defs::{Config, LogNames, NoMemory, Report, Reported};
 use stats_io::{Shelf, Sink};
 use std::alloc::Global;
-use tag_rules::{Buckets, PatternMaker, TagRules};
+use tag_rules::{Buckets, PatternMaker};
 use text_parts::TextFault;
 
-/// A report, and what its text is made with.
+/// A report with the names in its log, and what its text is made with besides.
 #[derive(Drop)]
 pub struct Recorded {
     pub report: Report,
+    pub names: LogNames,
     pub config: Config,
-    pub rules: TagRules,
     pub buckets: Buckets,
 }
 
@@ -51,13 +51,15 @@ fn record<F: Shelf>(
         rules,
         matcher,
         buckets,
-        view_rules,
+        view_rules: _,
     } = boot;
-    let report = replay_files(alloc, key, &config, rules, matcher, files, shelf)?;
+    let Reported { report, names } = replay_files(
+        alloc, key, &config, rules, matcher, files, shelf,
+    )?;
     Ok(Recorded {
         report,
+        names,
         config,
-        rules: view_rules,
         buckets,
     })
 }
@@ -110,13 +112,13 @@ pub fn tell<O: Sink, E: Sink>(
 {
     let Recorded {
         report,
+        names,
         config,
-        rules,
         buckets,
     } = recorded;
     match fault_lines(alloc, report.ends.items()) {
         Ok(faults) => {
-            let written = write_report(alloc, options, &config, rules, &buckets, &report, out);
+            let written = write_report(alloc, options, &config, names, &buckets, &report, out);
             end_as(report, &faults, written, err)
         }
         Err(NoMemory) => give_up(err),

@@ -19,11 +19,11 @@ fn summary_of(alloc: Global, asked: Load, recorded: Recorded) -> Result<Vec<u8>,
 {
     let Recorded {
         report,
+        names,
         config,
-        rules,
         buckets,
     } = recorded;
-    let view = flush_view(alloc, &config, rules, &buckets, &report, 0)?;
+    let view = flush_view(alloc, &config, names, &buckets, &report, 0)?;
     summary(
         alloc,
         asked.scripts,

@@ -21,6 +21,7 @@ use Rattle.book_state.specs.State.{NameRules, State}
 use Rattle.book_state.specs.Step.{overdue_in}
 use Rattle.book_state.specs.Log.{openings, replay, Legal}
 use Rattle.stat_book.specs.Calls.{rules_of, state_of, IsLegal, name_rules}
+use Rattle.stat_book.specs.NameChanges.{names_of}
 use Rattle.stat_defs.specs.Changes.{GoesOnLater}
 use Rattle.name_changes.specs.Changes.{changes_in}
 use Rattle.stat_book.specs.NameChanges.{changes_of}
@@ -318,7 +319,7 @@ module _ (store : Store) (ended : List Ended) (flusher : FlusherKnown) (reader :
         let none = none_pending (replay R W log) counts told.flusher told.reader all_latched id is.value is.pending adds is.end in
         record { value = is.value; end = subst (λ (n : ℕ). IsCounterEnd id counts told.flusher told.reader is.value n) none is.end }
 
-    pub closes : (lastflush : LastFlush) → lastflush ≡ record { last = shown; log = last.log } → Closes store ended flusher reader lastflush
+    pub closes : (lastflush : LastFlush) → lastflush ≡ record { last = shown; log = last.log; names = names_of last } → Closes store ended flusher reader lastflush
     closes lastflush is =
-        subst (λ (l : LastFlush). Closes store ended flusher reader l) (sym (is ∙ (λ i. record { last = shown; log = (last_is i).log })))
-        (record { flush = flush; shown = refl; accounts = accounts; follow = each_follows; emptied = emptied })
+        subst (λ (l : LastFlush). Closes store ended flusher reader l) (sym (is ∙ (λ i. record { last = shown; log = (last_is i).log; names = names_of (last_is i) })))
+        (record { flush = flush; shown = refl; accounts = accounts; follow = each_follows; emptied = emptied; names = refl })

@@ -7,6 +7,7 @@ use Rattle.stat_defs.specs.declared.ids.MetricId.{MetricId}
 use Rattle.stat_defs.specs.declared.reports.LastFlush.{LastFlush}
 use Rattle.stat_defs.specs.declared.reports.Report.{Report}
 use Rattle.book_state.specs.declared.limits.TheConstants.{MAX_METRICS}
+use Rattle.name_changes.specs.Changes.{names_in_log}
 use Rattle.locked_book.specs.Sharing.{first_of}
 use Rattle.metric_words.specs.CounterLaws.{IsCounterEnd}
 use Rattle.flush_words.specs.Words.{after_latches}
@@ -68,7 +69,7 @@ EachFollows plan told ended = EachNumbered
 
 -- The store came to its end with this last flush and this log. All its parties account for what they did, whether events
 -- were refused or not, and nothing is pending in any word of the counters' bank, whether its number was a counter's,
--- another metric's or none.
+-- another metric's or none. The names are those of the log.
 pub record Closes (store : Store) (ended : List Ended) (flusher : FlusherKnown) (reader : ReaderKnown)
     (last : LastFlush) : Type 0 where
   pub flush : FlushTold
@@ -79,3 +80,5 @@ pub record Closes (store : Store) (ended : List Ended) (flusher : FlusherKnown) 
   pub follow : EachFollows (plan_told (first_of store.book).config (told_of ended flusher reader flush))
       (told_of ended flusher reader flush) ended
   pub emptied : (id : ℕ) → id < MAX_METRICS → IsEmptied (told_of ended flusher reader flush) (record { 0 = id })
+  pub names : let first = first_of store.book in
+      last.names ≡ names_in_log (plan_of first.config).rules first.workers last.log

@@ -66,5 +66,6 @@ pub fn close_store(
             parts: List::of(parts),
         },
         log: end.log,
+        names: end.names,
     })
 }

@@ -6,7 +6,7 @@ ghost use Rattle.replay_report.specs.declared.replaying.TheConstants as limits;
 use boot_file::usual;
 use name_map::HashKey;
 use replay_report::replay_files;
-use stat_defs::{Config, FileEnd, MetricId, Report, ScopeId, Verdict};
+use stat_defs::{Config, FileEnd, MetricId, Report, Reported, ScopeId, Verdict};
 use stats_io::{MemFile, MemShelf};
 use std::alloc::Global;
 use std::test::Fail;
@@ -43,7 +43,10 @@ fn replayed(alloc: Global, config: &Config, shelf: &mut MemShelf) -> Result<Repo
     let rules = TagRules::build(alloc, &mut maker, config.tags.items())?;
     let matcher = Matcher::build(alloc, &mut maker, &config.matcher)?;
     let key = HashKey::fixed();
-    Ok(replay_files(alloc, key, config, rules, matcher, &names, shelf)?)
+    let Reported { report, names: _ } = replay_files(
+        alloc, key, config, rules, matcher, &names, shelf,
+    )?;
+    Ok(report)
 }
 
 fn report_of(alloc: Global, mut shelf: MemShelf) -> Result<Report, Fail> {

@@ -6,7 +6,7 @@ ghost use Rattle.flush_view.specs.Showing.{IsShowable};
 ghost use Rattle.store_tests.specs.TriedFlushes.{tried_flushes, tried_part};
 
 use crate::stores::{NO_TAGS, config_of, three_flushes, written};
-use flush_view::ReportViews;
+use flush_view::{ReportViews, names_of_log};
 use library_examples::{rules_and_buckets, shown_of};
 use output_options::{Format, OutputOptions};
 use stat_defs::{
@@ -338,7 +338,8 @@ fn views_told(alloc: Global, config: &Config, report: &Report) -> Result<Vec<u8>
     requires showable { IsShowable config.now report.now }
 {
     let (rules, buckets) = rules_and_buckets(alloc, config)?;
-    let mut views = ReportViews::new(alloc, config, rules, &buckets, report)?;
+    let names = names_of_log(alloc, config, rules, report)?;
+    let mut views = ReportViews::new(alloc, config, names, &buckets, report)?;
     let mut text = Vec::new(alloc);
     let put = put_views(alloc, &mut text, &mut views, 4);
     drop(views);

@@ -7,6 +7,7 @@ ghost use Rattle.lone_worker.specs.declared.worker.TheConstants as worker;
 ghost use Rattle.plain_store.specs.Store.{new_store};
 
 use boot_file::{read, usual};
+use flush_view::names_of_log;
 use library_examples::{
     LinesApplied, apply_lines, count_in_turn, count_lines, count_often, count_twice,
     rules_and_buckets, shown_of, store_of,
@@ -166,7 +167,8 @@ pub(crate) fn written(
 {
     let (rules, buckets) = rules_and_buckets(alloc, config)?;
     let mut out = MemSink::new(alloc, 8000, 4000, Vec::new(alloc))?;
-    write_report(alloc, options, config, rules, &buckets, report, &mut out)?;
+    let names = names_of_log(alloc, config, rules, report)?;
+    write_report(alloc, options, config, names, &buckets, report, &mut out)?;
     Ok(out)
 }
 

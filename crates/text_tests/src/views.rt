@@ -3,7 +3,9 @@ ghost use Rattle.std.specs.Prelude.{IfOk, All, OnOk};
 ghost use Rattle.text_parts.specs.Histograms.{AreHistograms, HasHistograms};
 
 use loglinear_bins::{Bins, MAX_COUNT};
-use stat_defs::{Bound, CounterRow, FlushView, GaugeRow, HistRow, List, Tag, Tagged, TextRow, Txt};
+use stat_defs::{
+    Bound, CounterRow, FlushView, GaugeRow, HistRow, List, SharedList, Tag, Tagged, TextRow, Txt,
+};
 use std::alloc::Global;
 use std::test::Fail;
 
@@ -13,7 +15,7 @@ fn cut(text: &str, at: char) -> (&str, &str) {
 }
 
 // The tags of `NAME=VALUE,NAME=VALUE`.
-fn tags_of(alloc: Global, text: &str) -> Result<List<Tag>, Fail> {
+fn tags_of(alloc: Global, text: &str) -> Result<SharedList<Tag>, Fail> {
     let mut tags = Vec::new(alloc);
     for tag in text.split(',') {
         let (name, value) = cut(tag, '=');
@@ -23,7 +25,7 @@ fn tags_of(alloc: Global, text: &str) -> Result<List<Tag>, Fail> {
             tags.push(Tag { name, value })?;
         }
     }
-    Ok(List::of(tags))
+    Ok(SharedList::of(tags)?)
 }
 
 // What is left of a name and its tags, which are written behind it; all of the name where nothing is.

@@ -3,7 +3,9 @@ ghost use Rattle.std.specs.Prelude.{All, IfOk, OnOk};
 ghost use Rattle.text_parts.specs.Histograms.{IsHistogram, AreHistograms, HasHistograms};
 
 use loglinear_bins::{Bins, MAX_COUNT};
-use stat_defs::{BinList, Bound, CounterRow, FlushView, HistRow, List, NoMemory, Tag, Tagged, Txt};
+use stat_defs::{
+    BinList, Bound, CounterRow, FlushView, HistRow, List, NoMemory, SharedList, Tag, Tagged, Txt,
+};
 use std::alloc::Global;
 
 /// Metrics of one cluster.
@@ -44,7 +46,7 @@ fn tagged_of(alloc: Global, i: u32) -> Result<Tagged, NoMemory> {
     tags.push(tag_of(alloc, "region", "eu-1")?)?;
     Ok(Tagged {
         extracted: Txt::of(alloc, extracted.as_bytes())?,
-        tags: List::of(tags),
+        tags: SharedList::of(tags)?,
     })
 }
 

@@ -8,5 +8,5 @@ pub returns : goal.returns
 returns g c =
     let few : length (map string_bytes c.args.files.now) ≤ MAX_FILES = omega (arith, length-map c.args.files.now string_bytes, c.requires.few) in
     records g.F.Shelf.state g.F.S.Source.state (g.F.Shelf.holds c.args.shelf.now) (map string_bytes c.args.files.now) c.args.shelf.now
-    c.replay_files.new.shelf (record { report = c.in_ok-report.report; config = c.args.boot.config; rules = c.args.boot.view_rules; buckets = c.args.boot.buckets })
-    c.requires.built.lawful c.requires.built.view_rules c.requires.built.buckets few c.in_ok-report.ensures
+    c.replay_files.new.shelf (record { report = c.in_ok-report.field-0.report; names = c.in_ok-report.field-0.names; config = c.args.boot.config; buckets = c.args.boot.buckets })
+    c.requires.built.lawful c.requires.built.buckets few c.in_ok-report.ensures.report c.in_ok-report.ensures.names

@@ -127,4 +127,4 @@ returns c =
     (ap (λ (l : List CellEnd). map halves_at_end l) sorted.ends ∙ halves_same store.cells.items ended (let a = have.all in let b = store.whole.cells in omega (arith, a, b)))
     (subst (λ (p : ParentsState). IsLastRound c.args.flusher.tokens p c.in_ok-sorted.sorted.ends.items parts) own_told.cells.1
     (subst (λ (l : List FlushCell). IsLastRound l own.result.cells.parents c.in_ok-sorted.sorted.ends.items parts) own_told.cells.0 c.in_ok-parts.ensures))
-    _ (λ i. record { last = record { at = end.listing.at; deltas = c.of.ensures i; gauges = c.of-2.ensures i; parts = c.of-3.ensures i }; log = book.last.log i })
+    _ (λ i. record { last = record { at = end.listing.at; deltas = c.of.ensures i; gauges = c.of-2.ensures i; parts = c.of-3.ensures i }; log = book.last.log i; names = book.last.names i })
