@@ -237,12 +237,13 @@ def fed(state, text):
     return folded(first ^ state, second ^ FACTOR)
 
 
+LABEL_BYTES = b"ABCDEFGHIJKLMNOPQRSTUVWXYZ" + LETTERS.encode()
 FACTOR, BEGUN = 0x9E3779B97F4A7C15, 0x243F6A8885A308D3
 
 
-def names_of_one_hash(before, count):
+def names_of_one_hash(before, count, may=lambda b: 0x21 <= b <= 0x7E and b not in b".:|"):
     """Names of 32 bytes that all have one hash behind these texts, under the hasher without a key: their third word is
-    the state, so that the product is 0 whatever the fourth word is."""
+    the state, so that the product is 0 whatever the fourth word is. Its bytes are those that `may` stand in a name."""
     state, rng = BEGUN, random.Random(1)
     for text in before:
         state = fed(state, text)
@@ -251,7 +252,7 @@ def names_of_one_hash(before, count):
         front = bytes(rng.choice(LETTERS.encode()) for _ in range(16))
         first, second = (int.from_bytes(front[k:k + 8], "little") for k in (0, 8))
         word = folded(first ^ start, second ^ FACTOR).to_bytes(8, "little")
-        if all(0x21 <= b <= 0x7E and b not in b".:|" for b in word):
+        if all(may(b) for b in word):
             break
     ends = ("".join(LETTERS[at // 37**k % 37] for k in range(8)) for at in range(count))
     return [(front + word).decode() + end for end in ends]
@@ -274,7 +275,7 @@ def one_hash():
 def labels_of_one_hash():
     """Scopes whose labels all have one hash without a key, each opened and used."""
     count = METRICS // 4
-    chosen = names_of_one_hash([], count)
+    chosen = names_of_one_hash([], count, may=lambda b: b in LABEL_BYTES)
     plain = of_many_hashes(chosen)
     lines = lambda labels: [form % label for label in labels for form in ("open %s p", "inc %s a 1")] \
         + ["inc %s a 1" % label for label in labels] * 2

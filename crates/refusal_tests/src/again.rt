@@ -1,4 +1,4 @@
-//! Calls of a store's parties, each made once more where there was no memory.
+//! Calls of a store's parties, each made once more where there was no memory, if the desk says so.
 ghost use Rattle.std.specs.Prelude.{◌≡◌, ◌+◌, IsSome, All, IfOk, OnOk};
 ghost use Rattle.stat_defs.specs.Borrowed.{event_of};
 ghost use Rattle.stat_defs.specs.Events.{IsLawfulEvent};
@@ -21,12 +21,13 @@ use std::sync::Wait;
 use std::test::Fail;
 use store_parts::Store;
 
-/// Where a party works: the runtime that may wait, and the store.
+/// Where a party works: the runtime that may wait, and the store; and whether a refused call is made once more.
 #[derive(Drop)]
 pub(crate) struct Desk<'a, R: Wait> {
     pub(crate) rt: &'a R,
     pub(crate) alloc: Global,
     pub(crate) store: &'a Store,
+    pub(crate) again: bool,
 }
 
 fn poll<R: Wait>(desk: &Desk<'_, R>, recorder: &mut Recorder, _more: u32) -> Result<(), NoMemory>
@@ -35,10 +36,11 @@ fn poll<R: Wait>(desk: &Desk<'_, R>, recorder: &mut Recorder, _more: u32) -> Res
 {
     match recorder.poll(desk.rt, desk.alloc, desk.store) {
         Ok(_) => Ok(()),
-        Err(NoMemory) => {
+        Err(NoMemory) if desk.again => {
             let _polled = recorder.poll(desk.rt, desk.alloc, desk.store)?;
             Ok(())
         }
+        Err(NoMemory) => Err(NoMemory),
     }
 }
 
@@ -54,7 +56,8 @@ fn apply<R: Wait>(
 {
     match recorder.apply(desk.rt, desk.alloc, desk.store, event) {
         Ok(verdict) => Ok(verdict),
-        Err(NoMemory) => recorder.apply(desk.rt, desk.alloc, desk.store, event),
+        Err(NoMemory) if desk.again => recorder.apply(desk.rt, desk.alloc, desk.store, event),
+        Err(NoMemory) => Err(NoMemory),
     }
 }
 
@@ -115,7 +118,8 @@ pub(crate) fn read<R: Wait>(desk: &Desk<'_, R>, admin: &mut Admin) -> Result<Rea
     } = desk.store;
     match admin.read(book, desk.alloc, counters, gauges) {
         Ok(shown) => Ok(shown),
-        Err(NoMemory) => admin.read(book, desk.alloc, counters, gauges),
+        Err(NoMemory) if desk.again => admin.read(book, desk.alloc, counters, gauges),
+        Err(NoMemory) => Err(NoMemory),
     }
 }
 
@@ -125,7 +129,8 @@ fn begin<R: Wait>(desk: &Desk<'_, R>, flusher: &mut Flusher) -> Result<(), NoMem
 {
     match flusher.begin(desk.rt, desk.alloc, desk.store) {
         Ok(()) => Ok(()),
-        Err(NoMemory) => flusher.begin(desk.rt, desk.alloc, desk.store),
+        Err(NoMemory) if desk.again => flusher.begin(desk.rt, desk.alloc, desk.store),
+        Err(NoMemory) => Err(NoMemory),
     }
 }
 
@@ -137,7 +142,8 @@ fn pass<R: Wait>(desk: &Desk<'_, R>, flusher: &mut Flusher) -> Result<Pass, NoMe
 {
     match flusher.pass(desk.alloc, desk.store) {
         Ok(pass) => Ok(pass),
-        Err(NoMemory) => flusher.pass(desk.alloc, desk.store),
+        Err(NoMemory) if desk.again => flusher.pass(desk.alloc, desk.store),
+        Err(NoMemory) => Err(NoMemory),
     }
 }
 
@@ -148,7 +154,8 @@ fn take<R: Wait>(desk: &Desk<'_, R>, flusher: &mut Flusher) -> Result<FlushRecor
 {
     match flusher.flush(desk.alloc, desk.store) {
         Ok(shown) => Ok(shown),
-        Err(NoMemory) => flusher.flush(desk.alloc, desk.store),
+        Err(NoMemory) if desk.again => flusher.flush(desk.alloc, desk.store),
+        Err(NoMemory) => Err(NoMemory),
     }
 }
 
@@ -165,6 +172,29 @@ pub(crate) fn flush<R: Wait>(
     ensures flusher { IfOk result (λ _. IsIdle desk.now.store.now flusher.new) }
 {
     begin(desk, flusher)?;
+    poll(desk, recorder, more)?;
+    match pass(desk, flusher)? {
+        Pass::Done => Ok(take(desk, flusher)?),
+        Pass::Late(..) => Err("the half was not given")?,
+    }
+}
+
+/// A flush whose first pass does not find the worker's half.
+pub(crate) fn late_flush<R: Wait>(
+    desk: &Desk<'_, R>,
+    recorder: &mut Recorder,
+    flusher: &mut Flusher,
+    more: u32,
+) -> Result<FlushRecord, Fail>
+    requires worker { MayBeGiven desk.now.store.now more recorder.old }
+    requires flusher { IsIdle desk.now.store.now flusher.old }
+    ensures worker { IfOk result (λ _. MayBeGiven desk.now.store.now more recorder.new) }
+    ensures flusher { IfOk result (λ _. IsIdle desk.now.store.now flusher.new) }
+{
+    begin(desk, flusher)?;
+    if pass(desk, flusher)? != Pass::Late(1, 1) {
+        return Err("the half was not waited for")?;
+    }
     poll(desk, recorder, more)?;
     match pass(desk, flusher)? {
         Pass::Done => Ok(take(desk, flusher)?),

@@ -54,6 +54,7 @@ fn goes_on_without_a_refused_event(rt: HostRuntime) -> Result<(), Fail> {
         rt: &rt,
         alloc,
         store: &store,
+        again: true,
     };
     let given = calls(&desk, &mut recorder);
     let parties = Parties {

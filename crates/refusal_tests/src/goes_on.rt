@@ -112,6 +112,7 @@ fn goes_on_after_a_refusal(rt: HostRuntime) -> Result<(), Fail> {
         rt: &rt,
         alloc,
         store: &store,
+        again: true,
     };
     let told = calls(&desk, &mut recorder, &mut flusher, &mut admin);
     let parties = Parties {
