@@ -109,4 +109,5 @@ def main():
                 time_both(rounds, f"{name}, {n} files", files[:n])
 
 
-main()
+if __name__ == "__main__":
+    main()
