@@ -1,4 +1,4 @@
-use Rattle.std.proofs.Common.{◌≡◌, ◌++◌, ◌∙◌, ap, sym}
+use Rattle.std.proofs.Common.{◌++◌, ◌∙◌, ap, sym}
 use Rattle.tag_rules.proofs.KeptWhole.{left_same}
 use Rattle.tag_rules.proofs.tag_rules.left_of.Goals as goal
 
