@@ -1,5 +1,6 @@
 //! The seat, and the verdict on a key.
-ghost use Rattle.std.specs.Prelude.{◌≡◌, ◌↔◌, None, Ok, true, false, IsTrue, IfOk, OnErr, IfSome, option_map, unwrap_or};
+ghost use Rattle.std.specs.Prelude.{◌≡◌, ◌↔◌, None, Ok, true, false, IfOk, OnErr, IfSome, option_map, unwrap_or};
+ghost use Rattle.std.specs.Option.{IsSomeAnd};
 ghost use Rattle.stat_defs.specs.Names.{IsLocalName};
 ghost use Rattle.stat_defs.specs.Keys.{held_under};
 ghost use Rattle.stat_defs.specs.declared.events.Key.{Key as TheKey};
@@ -8,7 +9,7 @@ ghost use Rattle.stat_defs.specs.declared.history.Verdict.TheVariants as verdict
 ghost use Rattle.book_state.specs.SeatLaws.{is_held};
 ghost use Rattle.stat_book.specs.Finds.{scope_number};
 ghost use Rattle.thread_cache.specs.Keys.{asked};
-ghost use Rattle.thread_cache.specs.Held.{has_room, held_with};
+ghost use Rattle.thread_cache.specs.Held.{held_with};
 ghost use Rattle.book_access.specs.Calling.{WorksUnder};
 ghost use Rattle.book_seat.specs.Deciding.{held_in_log, JudgesKey, CallsInVain};
 ghost use Rattle.book_seat.specs.Naming.{IsInRoom};
@@ -53,24 +54,23 @@ fn key_of(alloc: Global, query: &Query<'_>) -> Result<Key, NoMemory>
     })
 }
 
-// Holds what was found under the query's key, if it is a verdict to hold.
-fn hold(cache: &mut Cache, query: &Query<'_>, answer: FindAnswer)
-    requires room { IsTrue (has_room (asked query.now) cache.old.rooms) }
-    requires free { held_under (asked query.now) cache.old.entries ≡ None }
+// Holds what was found under the key that has room, if it is a verdict to hold.
+fn hold(cache: &mut Cache, answer: FindAnswer)
+    requires room { IsSomeAnd cache.old.room (λ key. held_under key cache.old.entries ≡ None) }
     requires scope { (answer.scope ≡ None) ↔ (answer.verdict ≡ verdict.NoScope) }
-    ensures held { is_held answer.verdict ≡ true → (key : TheKey) → held_under key cache.new.entries
-        ≡ held_with (record {
-          key = asked query.now;
+    ensures held { is_held answer.verdict ≡ true → IfSome cache.old.room (λ room. (key : TheKey) →
+        held_under key cache.new.entries ≡ held_with (record {
+          key = room;
           scope = unwrap_or (option_map scope_number answer.scope) 0;
           verdict = answer.verdict;
-        }) cache.old.entries key }
+        }) cache.old.entries key) }
     ensures passed { is_held answer.verdict ≡ false → cache.new ≡ cache.old }
 {
     let Some(scope) = answer.scope else {
         return;
     };
     match answer.verdict {
-        Verdict::Accepted(_) | Verdict::Rejected => cache.fill(query, scope, answer.verdict),
+        Verdict::Accepted(_) | Verdict::Rejected => cache.fill(scope, answer.verdict),
         _ => {}
     }
 }
@@ -131,7 +131,7 @@ impl<A: KnowsLog> BookSeat<A> {
         let key = key_of(alloc, query)?;
         self.cache.reserve(&key)?;
         let answer = self.access.find(way, alloc, &key)?;
-        hold(&mut self.cache, query, answer);
+        hold(&mut self.cache, answer);
         Ok(answer.verdict)
     }
 

@@ -22,3 +22,4 @@ pub mod Storing
 pub mod Applying
 pub mod Stepping
 pub mod Naming
+pub mod Apart

@@ -11,6 +11,7 @@ pub mod Laws
 pub mod Worked
 pub mod SafeWorked
 pub mod Scopes
+pub mod Numbers
 pub mod ScopesKept
 pub mod Metrics
 pub mod MetricsKept

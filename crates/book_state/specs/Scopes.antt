@@ -1,7 +1,7 @@
 -- The scopes as they are stored, each with the metrics that it bears. This project's own.
-use Rattle.std.specs.Prelude.{ℕ, Bool, true, false, List, [], ◌∷◌, ◌++◌, if◌then◌else◌}
+use Rattle.std.specs.Prelude.{ℕ, Bool, true, false, List, []}
 use Rattle.book_state.specs.State.{Scope}
-use Rattle.book_state.specs.Bearing.{has}
+use Rattle.book_state.specs.Bearing.{with_number}
 
 -- a scope, and the numbers of the metrics that it bears
 pub record ScopeView : Type 0 where
@@ -22,7 +22,4 @@ emptied scope = record scope { live = false; bears = [] }
 
 -- a scope that bears this metric besides, once
 abbrev pub bearing : ℕ → ScopeView → ScopeView
-bearing metric scope = record scope {
-  bears = if has metric scope.bears then scope.bears else scope.bears ++ metric
-      ∷ [];
-}
+bearing metric scope = record scope { bears = with_number metric scope.bears }

@@ -8,7 +8,7 @@ use Rattle.book_state.specs.State.{live_in}
 use Rattle.book_state.specs.Scopes.{ScopeView, scope_of_view}
 
 abbrev pub row_shown : ScopeRow → ScopeView
-row_shown row = record { label = row.label; prefix = row.prefix; live = row.live; bears = row.bears.keys }
+row_shown row = record { label = row.label; prefix = row.prefix; live = row.live; bears = row.bears }
 
 abbrev pub shown : Inside → List ScopeView
 shown b = map row_shown b.rows.items

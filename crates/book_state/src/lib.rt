@@ -5,6 +5,7 @@ mod laws;
 mod limits;
 mod metrics;
 mod names;
+mod numbers;
 mod scopes;
 mod seats;
 mod state;

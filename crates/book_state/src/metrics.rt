@@ -115,6 +115,7 @@ impl MetricTable {
     /// Makes a metric, which this scope alone bears.
     pub fn make(
         &mut self,
+        alloc: Global,
         scopes: &mut ScopeTable,
         scope: u32,
         name: NameKey,
@@ -133,7 +134,7 @@ impl MetricTable {
         let histograms = self.histograms + histogram(metric.kind);
         self.rows.reserve(1)?;
         self.known.reserve(1)?;
-        let _new = scopes.bear(scope, id)?;
+        let _new = scopes.bear(alloc, scope, id)?;
         self.histograms = histograms;
         self.rows.push_reserved(MetricRow { metric, bearers: 1 });
         list_name(&mut self.known, name, id);

@@ -10,8 +10,8 @@ ghost use Rattle.book_state.specs.Bearing.{has};
 ghost use Rattle.book_state.specs.Scopes.{scope_of_view, opened, emptied, bearing};
 ghost use Rattle.book_state.specs.ScopesKept.{row_shown};
 
+use crate::numbers::NumberSet;
 use crate::tables::LabelTable;
-use indexmap::IndexSet;
 use name_map::{HashKey, name_map};
 use stat_defs::{NoMemory, Txt};
 use std::alloc::Global;
@@ -24,7 +24,7 @@ struct ScopeRow {
     label: Txt,
     prefix: Txt,
     live: bool,
-    bears: IndexSet<u32>,
+    bears: NumberSet,
 }
 
 /// The scopes that were opened so far; a scope's number is its place. Contracts see a table as the list of its scopes.
@@ -82,13 +82,7 @@ impl ScopeTable {
     }
 
     /// Opens a scope of a label that is not live, with the next number.
-    pub fn open(
-        &mut self,
-        alloc: Global,
-        id: u32,
-        label: &Txt,
-        prefix: &Txt,
-    ) -> Result<(), NoMemory>
+    pub fn open(&mut self, id: u32, label: &Txt, prefix: &Txt) -> Result<(), NoMemory>
         requires free { live_in (map scope_of_view self.old) label.now ≡ None }
         requires next { id ≡ length self.old }
         ensures opened { OnOk result (self.new ≡ self.old ++ opened label.now prefix.now ∷ []) }
@@ -100,7 +94,7 @@ impl ScopeTable {
             label: label.clone()?,
             prefix: prefix.clone()?,
             live: true,
-            bears: IndexSet::new(alloc),
+            bears: NumberSet::new(),
         };
         self.rows.reserve(1)?;
         list_label(&mut self.live, key, id)?;
@@ -109,24 +103,24 @@ impl ScopeTable {
     }
 
     /// Closes the live scope of a label, and gives the metrics that it bore.
-    pub fn close(&mut self, alloc: Global, id: u32, label: &Txt) -> IndexSet<u32>
+    pub fn close(&mut self, id: u32, label: &Txt) -> NumberSet
         requires { live_in (map scope_of_view self.old) label.now ≡ Some id }
         ensures closed { self.new ≡ change_at emptied id self.old }
-        ensures borne { IsSomeAnd (slice_get self.old id) (λ scope. result.keys ≡ scope.bears) }
+        ensures borne { IsSomeAnd (slice_get self.old id) (λ scope. result ≡ scope.bears) }
     {
         unlist_label(&mut self.live, label);
-        empty_row(alloc, &mut self.rows, id as usize)
+        empty_row(&mut self.rows, id as usize)
     }
 
     /// Lets a scope bear a metric besides, and tells whether it did not bear it before.
-    pub fn bear(&mut self, id: u32, metric: u32) -> Result<bool, NoMemory>
+    pub fn bear(&mut self, alloc: Global, id: u32, metric: u32) -> Result<bool, NoMemory>
         requires { id < length self.old }
         ensures bears { OnOk result (self.new ≡ change_at (bearing metric) id self.old) }
         ensures new { IfOk result (λ new. IsSomeAnd (slice_get self.old id)
             (λ scope. new ≡ not (has metric scope.bears))) }
         ensures err { OnErr result (self.new ≡ self.old) }
     {
-        bear_at(&mut self.rows, id as usize, metric)
+        bear_at(alloc, &mut self.rows, id as usize, metric)
     }
 }
 
@@ -152,18 +146,23 @@ fn unlist_label(live: &mut LabelTable, label: &Txt)
 }
 
 // Makes the scope at a place dead, and gives the metrics that it bore.
-fn empty_row(alloc: Global, rows: &mut Vec<ScopeRow>, at: usize) -> IndexSet<u32>
+fn empty_row(rows: &mut Vec<ScopeRow>, at: usize) -> NumberSet
     requires { at < length rows.old.items }
     ensures emptied { map row_shown rows.new.items ≡ change_at emptied at (map row_shown rows.old.items) }
-    ensures borne { IsSomeAnd (slice_get (map row_shown rows.old.items) at) (λ scope. result.keys ≡ scope.bears) }
+    ensures borne { IsSomeAnd (slice_get (map row_shown rows.old.items) at) (λ scope. result ≡ scope.bears) }
 {
     let row = &mut rows[at];
     row.live = false;
-    mem::replace(&mut row.bears, IndexSet::new(alloc))
+    mem::replace(&mut row.bears, NumberSet::new())
 }
 
 // Lets the scope at a place bear a metric besides.
-fn bear_at(rows: &mut Vec<ScopeRow>, at: usize, metric: u32) -> Result<bool, NoMemory>
+fn bear_at(
+    alloc: Global,
+    rows: &mut Vec<ScopeRow>,
+    at: usize,
+    metric: u32,
+) -> Result<bool, NoMemory>
     requires { at < length rows.old.items }
     ensures bears { OnOk result (map row_shown rows.new.items
         ≡ change_at (bearing metric) at (map row_shown rows.old.items)) }
@@ -172,5 +171,6 @@ fn bear_at(rows: &mut Vec<ScopeRow>, at: usize, metric: u32) -> Result<bool, NoM
     ensures err { OnErr result (map row_shown rows.new.items ≡ map row_shown rows.old.items) }
 {
     let row = &mut rows[at];
-    Ok(row.bears.insert(metric)?)
+    let new = row.bears.insert(alloc, metric)?;
+    Ok(new)
 }

@@ -235,6 +235,7 @@ impl BookState {
     /// Applies the entry of a find that a metric of this number was known to.
     pub fn find_again(
         &mut self,
+        alloc: Global,
         entry: &Entry,
         scope: u32,
         key: &Key,
@@ -247,7 +248,7 @@ impl BookState {
         ensures ok { OnOk result (self.new ≡ after_entry self.old entry.now) }
         ensures err { OnErr result (self.new ≡ self.old) }
     {
-        let new = self.scopes.bear(scope, id.0)?;
+        let new = self.scopes.bear(alloc, scope, id.0)?;
         self.metrics.find_again(id.0, key.mode, new);
         self.past = self.past.and(entry);
         Ok(())
@@ -279,7 +280,8 @@ impl BookState {
             &name.name,
             numbers_of(&entry.reply),
         )?;
-        self.metrics.make(&mut self.scopes, scope, name, metric)?;
+        self.metrics
+            .make(alloc, &mut self.scopes, scope, name, metric)?;
         self.past = self.past.and(entry);
         Ok(())
     }
@@ -321,7 +323,7 @@ impl BookState {
             self.note(entry);
             return Ok(());
         };
-        self.scopes.open(alloc, id.0, label, prefix)?;
+        self.scopes.open(id.0, label, prefix)?;
         self.past = self.past.and(entry);
         Ok(())
     }
@@ -338,7 +340,7 @@ impl BookState {
             return Ok(());
         };
         self.released.reserve(1)?;
-        let borne = self.scopes.close(alloc, id.0, label);
+        let borne = self.scopes.close(id.0, label);
         self.released.push_reserved(*id);
         let tag = self.released.len() as u64;
         self.metrics.lose_bearers(borne.as_slice(), tag);
@@ -355,7 +357,7 @@ impl BookState {
         match &entry.reply {
             Reply::Found(id) => {
                 let scope = self.scope_in(key);
-                self.find_again(entry, scope, key, *id)
+                self.find_again(alloc, entry, scope, key, *id)
             }
             Reply::Made { .. } => {
                 let scope = self.scope_in(key);

@@ -45,7 +45,7 @@ fn hold(
         Some(_) => Ok(()),
         None => {
             cache.reserve(&key_of(alloc, query)?)?;
-            cache.fill(query, ScopeId(scope), Verdict::Accepted(MetricId(id)));
+            cache.fill(ScopeId(scope), Verdict::Accepted(MetricId(id)));
             Ok(())
         }
     }

@@ -1,5 +1,5 @@
 -- A new book, and the openings of the configured scopes.
-use Rattle.std.proofs.Common.{◌≡◌, ◌≢◌, ℕ, zero, suc, ◌+◌, ◌*◌, ◌<◌, ◌≤◌, ◌&&◌, ◌==◌, List, [], ◌∷◌, ◌++◌, true, false, Option, Some, None, length, map, take, get_or, replicate, slice_get, All, refl, ap, sym, ◌∙◌, subst, arith, inl, append_assoc, append-nil}
+use Rattle.std.proofs.Common.{◌≡◌, ◌≢◌, ℕ, zero, suc, ◌+◌, ◌<◌, ◌≤◌, ◌&&◌, ◌==◌, List, [], ◌∷◌, ◌++◌, true, false, Option, Some, None, length, map, take, get_or, slice_get, All, refl, ap, sym, ◌∙◌, subst, arith, inl, append_assoc, append-nil}
 use Rattle.std.specs.List.{position_from, AllPairs}
 use Rattle.std.specs.FinMap as table
 use Rattle.std.specs.Ordering.{nat_cmp}
@@ -7,24 +7,22 @@ use Rattle.std.proofs.lemmas.List.{length-map, length-take, get_or-take}
 use Rattle.std.proofs.lemmas.List.Sums.{count_by-le-length}
 use Rattle.std.proofs.lemmas.List.Elements.{All-nil, All-cons, All-head, All-tail, All-from_get_or}
 use Rattle.std.proofs.lemmas.Slice.Eq.{bytes_eq-Decides}
-use Rattle.stat_defs.specs.Books.{BookHistory, releases_in, is_released}
-use Rattle.stat_defs.specs.Configs.{IsConfig, IsScopeSpec, AreScopes}
+use Rattle.stat_defs.specs.Books.{releases_in, is_released}
+use Rattle.stat_defs.specs.Configs.{IsConfig, IsScopeSpec}
 use Rattle.stat_defs.specs.declared.configs.Config.{Config}
 use Rattle.stat_defs.specs.declared.configs.ScopeSpec.{ScopeSpec}
 use Rattle.stat_defs.specs.declared.configs.TagSpec.{TagSpec}
-use Rattle.stat_defs.specs.declared.configs.TheConstants.{MAX_SCOPES}
 use Rattle.stat_defs.specs.declared.history.Entry.{Entry}
 use Rattle.symbol_table.specs.Table.{Table, total, uses_at, IsTable}
-use Rattle.book_state.specs.declared.limits.TheConstants.{MAX_WORKERS, MAX_OPENINGS, MAX_TOKENS}
+use Rattle.book_state.specs.declared.limits.TheConstants.{MAX_WORKERS}
 use Rattle.book_state.specs.State.{NameRules, State, Scope, live_scope, same_text, symbols_in}
-use Rattle.book_state.specs.Step.{effect}
 use Rattle.book_state.specs.Log.{empty, openings, replay_from, replay, Run}
 use Rattle.book_state.specs.Stored.{StateView, IsLawfulCall, drawing, after_entry, released_in}
 use Rattle.book_state.proofs.Lists.{not_some, not_true, all_at, map_some, get_map, position_none, count_cons}
 use Rattle.book_state.proofs.Growing.{replayed, runs_on}
 use Rattle.book_state.proofs.Entering.{same_replay_from, drawn}
 use Rattle.stat_book.specs.Appending.{first_entry}
-use Rattle.stat_book.specs.Calls.{rules_of, state_of, new_book, openings_by, is_opening}
+use Rattle.stat_book.specs.Calls.{rules_of, new_book, is_opening}
 use Rattle.stat_book.specs.Symbols.{AreUses}
 use Rattle.stat_book.specs.BookKept.{IsKept}
 use Rattle.stat_book.proofs.Keeping.{tags_are}

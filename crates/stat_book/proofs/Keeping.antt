@@ -1,11 +1,11 @@
 -- A book keeps its invariant when an entry is added.
-use Rattle.std.proofs.Common.{◌≡◌, ℕ, zero, suc, ◌+◌, ◌*◌, ◌<◌, ◌≤◌, ◌^◌, ◌==◌, ◌&&◌, nat_le, Option, Some, None, List, [], ◌∷◌, ◌++◌, Bool, true, false, cond, length, slice_get, replicate, All, append-nil, refl, ap, sym, ◌∙◌, subst, arith}
+use Rattle.std.proofs.Common.{◌≡◌, ℕ, zero, suc, ◌+◌, ◌*◌, ◌<◌, ◌≤◌, ◌==◌, ◌&&◌, nat_le, Option, Some, None, List, [], ◌∷◌, ◌++◌, Bool, true, false, cond, length, slice_get, append-nil, refl, ap, sym, ◌∙◌, subst, arith}
 use Rattle.std.specs.Option.{IsSomeAnd}
 use Rattle.std.proofs.lemmas.Bool.Decides.{nat_tests, Decides-eqb}
 use Rattle.std.proofs.lemmas.List.{length-replicate}
 use Rattle.std.proofs.lemmas.List.Concat.{flat_map-append}
 use Rattle.std.proofs.lemmas.List.Elements.{All-push}
-use Rattle.stat_defs.specs.Books.{BookHistory, releases_in, is_released}
+use Rattle.stat_defs.specs.Books.{BookHistory, is_released}
 use Rattle.stat_defs.specs.declared.history.Call.{Call}
 use Rattle.stat_defs.specs.declared.history.Call.TheVariants as call
 use Rattle.stat_defs.specs.declared.history.Reply.{Reply}
@@ -19,10 +19,10 @@ use Rattle.symbol_table.specs.Table.{Table, total}
 use Rattle.book_state.specs.declared.limits.TheConstants.{MAX_OPENINGS, MAX_TOKENS}
 use Rattle.book_state.specs.State.{NameRules, State, Seat, symbols_in}
 use Rattle.book_state.specs.Step.{effect, Allowed, Working, Works, Tells, on_seat}
-use Rattle.book_state.specs.Log.{empty, is_sweep, fits_seat, replay_from, replay}
+use Rattle.book_state.specs.Log.{empty, is_sweep, fits_seat, replay_from}
 use Rattle.book_state.specs.RunState.{IsRunState}
 use Rattle.book_state.specs.Stored.{StateView, IsNext, IsLawfulCall, drawing, after_entry, released_by, released_in}
-use Rattle.book_state.proofs.Lists.{count_push, some_at, within_some}
+use Rattle.book_state.proofs.Lists.{count_push, within_some}
 use Rattle.book_state.proofs.Growing.{replayed, legal_on, seats_stay}
 use Rattle.book_state.proofs.Entering.{same_effect, drawn}
 use Rattle.book_state.proofs.Safety.{empty_run, run_kept_all}

@@ -1,10 +1,9 @@
 -- A book that makes a metric, and the table of its symbols.
-use Rattle.std.proofs.Common.{◌≡◌, ℕ, zero, suc, ◌+◌, ◌*◌, ◌<◌, ◌≤◌, Option, Some, None, true, false, List, [], ◌∷◌, ◌++◌, length, append-nil, length-append, refl, ap, sym, ◌∙◌, subst, arith, inl, inr}
+use Rattle.std.proofs.Common.{◌≡◌, ℕ, ◌+◌, ◌<◌, ◌≤◌, Option, Some, None, List, [], ◌∷◌, ◌++◌, length, append-nil, length-append, refl, ap, sym, ◌∙◌, subst, arith}
 use Rattle.std.specs.List.{flat_map, zip}
 use Rattle.std.specs.FinMap as table
 use Rattle.std.specs.FinMap.{same_map, nat_cmp-IsAntisymmetric}
 use Rattle.std.specs.Cmp.{nat_cmp_total}
-use Rattle.std.specs.Ordering.{nat_cmp}
 use Rattle.std.proofs.lemmas.List.Concat.{flat_map-append}
 use Rattle.stat_defs.specs.Names.{tokens}
 use Rattle.stat_defs.specs.Books.{BookHistory}
@@ -19,18 +18,17 @@ use Rattle.symbol_table.specs.Table.{Table, Holds, uses_at, times, total, counte
 use Rattle.symbol_table.proofs.Counting.{uses_of_got}
 use Rattle.symbol_table.proofs.DrawingLemmas.{DrawsAll_same, holds_all, drawn_length}
 use Rattle.symbol_table.proofs.Adding.{uses_counted_all, uses_uncounted_all}
-use Rattle.book_state.specs.declared.limits.TheConstants.{MAX_OPENINGS, MAX_TOKENS}
-use Rattle.book_state.specs.State.{NameRules, Row, State, Uses, symbols_of, symbols_in}
+use Rattle.book_state.specs.declared.limits.TheConstants.{MAX_TOKENS}
+use Rattle.book_state.specs.State.{NameRules, State, Uses, symbols_of, symbols_in}
 use Rattle.book_state.specs.Finding.{scope_of, name_of, New}
 use Rattle.book_state.specs.Step.{effect, Allowed, made, hold, Works, Tells}
 use Rattle.book_state.specs.Stored.{StateView, IsLawfulCall, after_entry}
-use Rattle.book_state.proofs.Lists.{some_same}
-use Rattle.stat_book.specs.Calls.{rules_of, state_of, is_opening, openings_by}
+use Rattle.stat_book.specs.Calls.{rules_of, state_of}
 use Rattle.stat_book.specs.Finds.{outcome_in}
 use Rattle.stat_book.specs.Symbols.{AreUses}
 use Rattle.stat_book.specs.BookKept.{IsKept}
 use Rattle.stat_book.proofs.NamesStay.{seat_metrics}
-use Rattle.stat_book.proofs.Keeping.{with_entry, state_with, entry_kept, call_fits}
+use Rattle.stat_book.proofs.Keeping.{state_with, entry_kept, call_fits}
 use Rattle.stat_book.proofs.Uses.{less_holds, same_uses, made_uses}
 
 -- taking the uses of a name away again gives the table back

@@ -1,5 +1,5 @@
 -- Replies that leave the symbols as they are.
-use Rattle.std.proofs.Common.{◌≡◌, ℕ, zero, suc, ◌+◌, Bool, true, false, cond, Option, Some, None, List, [], ◌∷◌, ◌++◌, map, length, slice_get, zip, refl, ap, sym, ◌∙◌}
+use Rattle.std.proofs.Common.{◌≡◌, ℕ, zero, suc, ◌+◌, Bool, true, false, cond, Some, List, [], ◌∷◌, ◌++◌, map, length, slice_get, zip, refl, ap, sym, ◌∙◌}
 use Rattle.std.proofs.lemmas.List.{length-map}
 use Rattle.std.specs.List.{flat_map}
 use Rattle.stat_defs.specs.Names.{tokens}
@@ -12,10 +12,10 @@ use Rattle.stat_defs.specs.declared.metrics.Metric.{Metric}
 use Rattle.book_state.specs.State.{NameRules, Row, Seat, State, bears, is_gone, symbols_of, symbols_in, live_scope, known}
 use Rattle.book_state.specs.Finding.{scope_of, name_of, is_full, is_over_limit}
 use Rattle.book_state.specs.Step.{effect, Allowed, change_at, on_seat, on_metric, found, left_to, released}
-use Rattle.book_state.specs.RunState.{IsRow, IsRunState}
+use Rattle.book_state.specs.RunState.{IsRunState}
 use Rattle.book_state.proofs.Lists.{some_same, length-change_at}
 use Rattle.book_state.proofs.Releasing.{others}
-use Rattle.book_state.proofs.Finds.{KnownAt, known_at, tells_found}
+use Rattle.book_state.proofs.Finds.{known_at, tells_found}
 use Rattle.stat_book.specs.Appending.{KeepsNames}
 
 pub flat_same : {X Y : Type 0} (f : X → List Y) (g : X → X) (xs : List X) → ((i : ℕ) (x : X) → slice_get xs i ≡ Some x → f (g x) ≡ f x) → flat_map f (map g xs) ≡ flat_map f xs

@@ -1,6 +1,6 @@
 -- The names that a sweep makes gone, and the table of a book's symbols.
-use Rattle.std.proofs.Common.{◌≡◌, ℕ, zero, suc, ◌+◌, ◌*◌, ◌<◌, ◌≤◌, Bool, true, false, cond, Option, Some, None, List, [], ◌∷◌, ◌++◌, map, length, All, slice_get, refl, ap, sym, ◌∙◌, subst, arith}
-use Rattle.std.specs.List.{flat_map, zip, count_by}
+use Rattle.std.proofs.Common.{◌≡◌, ℕ, suc, ◌+◌, ◌<◌, ◌≤◌, Bool, true, false, cond, Option, Some, List, [], ◌∷◌, ◌++◌, map, length, All, slice_get, refl, ap, sym, ◌∙◌, subst, arith}
+use Rattle.std.specs.List.{flat_map, count_by}
 use Rattle.std.specs.Option.{option_map_or}
 use Rattle.std.proofs.lemmas.List.{length-map, map-append}
 use Rattle.std.proofs.lemmas.List.Elements.{All-nil, All-cons}
@@ -14,10 +14,9 @@ use Rattle.stat_defs.specs.declared.history.Reply.TheVariants as reply
 use Rattle.stat_defs.specs.declared.history.Entry.{Entry}
 use Rattle.stat_defs.specs.Names.{tokens}
 use Rattle.symbol_table.specs.Table.{Table, uses_at, times, total, uncounted_all, IsTable}
-use Rattle.book_state.specs.declared.limits.TheConstants.{MAX_TOKENS}
 use Rattle.book_state.specs.State.{Row, Seat, State, is_gone, ids_from, symbols_of, symbols_in, metrics_of}
 use Rattle.book_state.specs.Step.{Allowed, overdue, swept, overdue_in}
-use Rattle.book_state.specs.RunState.{IsRow, IsRunState}
+use Rattle.book_state.specs.RunState.{IsRunState}
 use Rattle.book_state.specs.Stored.{StateView, after_entry}
 use Rattle.book_state.proofs.Lists.{not_some, map_some, get_map, count_cons, true_false}
 use Rattle.book_state.proofs.Members.{Among, among_flat, flat_among}

@@ -1,21 +1,18 @@
 -- The table of a book's symbols, as names are made and go.
-use Rattle.std.proofs.Common.{◌≡◌, ℕ, zero, suc, ◌+◌, ◌<◌, ◌≤◌, ◌==◌, Bool, true, false, cond, Option, Some, None, List, [], ◌∷◌, ◌++◌, map, length, slice_get, zip, refl, ap, sym, ◌∙◌, subst, arith, inl, inr}
+use Rattle.std.proofs.Common.{◌≡◌, ℕ, zero, suc, ◌+◌, ◌<◌, ◌≤◌, ◌==◌, Bool, true, false, cond, Some, List, [], ◌∷◌, ◌++◌, map, length, slice_get, zip, refl, ap, sym, ◌∙◌, subst, arith, inl, inr}
 use Rattle.std.proofs.lemmas.Bool.Decides.{Decides-eqb}
 use Rattle.std.proofs.lemmas.List.{map-append}
-use Rattle.std.specs.List.{flat_map}
 use Rattle.std.specs.Option.{option_map}
 use Rattle.std.specs.FinMap as table
 use Rattle.stat_defs.specs.Names.{tokens}
-use Rattle.stat_defs.specs.declared.metrics.Life.TheVariants.{Gone}
 use Rattle.symbol_table.specs.Drawing.{DrawsAll, Same}
-use Rattle.symbol_table.specs.Table.{Table, Holds, uses_at, times, token_in, counted, counted_all, uncounted_all, IsTable}
+use Rattle.symbol_table.specs.Table.{Table, Holds, uses_at, times, counted, counted_all, uncounted_all, IsTable}
 use Rattle.symbol_table.proofs.Counting.{token_of_got, uses_of_got}
 use Rattle.symbol_table.proofs.DrawingLemmas.{counted_here, draws_after, holds_all, drawn_length}
 use Rattle.symbol_table.proofs.Adding.{tick, times_cons, tick_same, still_used, used_case}
 use Rattle.book_state.specs.State.{Row, is_gone, symbols_of}
-use Rattle.book_state.specs.Step.{change_at}
 use Rattle.book_state.proofs.Lists.{not_some, some_same, map_some, get_map}
-use Rattle.book_state.proofs.Members.{Among, among_front, among_back, among_either, among_flat, flat_among, change_some}
+use Rattle.book_state.proofs.Members.{Among, among_either}
 use Rattle.stat_book.specs.Symbols.{AreUses}
 
 pub times_append : (n : ℕ) (xs ys : List ℕ) → times n (xs ++ ys) ≡ times n xs + times n ys

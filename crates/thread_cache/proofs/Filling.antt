@@ -16,7 +16,7 @@ use Rattle.thread_cache.specs.Scopes.{is_live}
 use Rattle.thread_cache.specs.Held.{held_of, held_with, shown, is_at, slot_under}
 use Rattle.stat_defs.proofs.KeyLemmas.{same_key-is}
 use Rattle.thread_cache.specs.KeyLaws.{eq, finds_as}
-use Rattle.thread_cache.proofs.Rooms.{same_key_of}
+use Rattle.thread_cache.proofs.KeyLemmas.{same_key_of}
 use Rattle.thread_cache.proofs.Finding.{found, held_at, one_key}
 
 module _ (key : CacheKey) (slot : Slot) where

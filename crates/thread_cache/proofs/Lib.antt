@@ -3,7 +3,7 @@ pub mod ScopeLemmas
 pub mod Shown
 pub mod Finding
 pub mod Opening
-pub mod Rooms
+pub mod KeyLemmas
 pub mod Filling
 pub mod Dropping
 pub mod Counting

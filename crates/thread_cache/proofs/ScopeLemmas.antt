@@ -1,10 +1,11 @@
 -- Scopes without those that were dropped.
-use Rattle.std.proofs.Common.{◌≡◌, ◌==◌, Bool, true, false, not, is_some, Option, Some, None, List, [], ◌∷◌, cond, refl, ap, ◌∙◌, rules}
+use Rattle.std.proofs.Common.{◌≡◌, ◌==◌, Bool, true, false, not, is_some, Option, Some, None, List, [], ◌∷◌, cond, refl, sym, ap, ◌∙◌, rules}
 use Rattle.std.specs.Cmp.{IsEquivalence}
 use Rattle.std.specs.List.{filter, IsDistinct}
 use Rattle.std.specs.Map.{keys_of, lookup, set_value}
 use Rattle.std.specs.Option.{option_map_or}
 use Rattle.std.proofs.lemmas.Cmp.{nat_eq_equiv}
+use Rattle.std.proofs.lemmas.Option.{same_Some}
 use Rattle.std.proofs.lemmas.Map.Entries.{option_filter, lookup-filter-values}
 use Rattle.stat_defs.specs.declared.ids.ScopeId.{ScopeId}
 use Rattle.thread_cache.specs.declared.scopes.ScopeEntries.{ScopeEntries}
@@ -55,3 +56,23 @@ is_listed-written test w s (e ∷ es) = by (test e.0) (s.0 == e.0.0) (is_listed-
         head : (t : Bool) → is_some (cond t (Some e.1) (entries_at (set_value test es w) s)) ≡ is_some (cond t (Some e.1) (entries_at es s))
         head true = refl
         head false = rest
+
+-- a value that is written, dropped where the one before was, leaves the same scopes live
+pub is_live-written : (test : ScopeId → Bool) (w was : ScopeEntries) (s : ScopeId) (scopes : List (ScopeId × ScopeEntries))
+    → lookup test scopes ≡ Some was → w.dropped ≡ was.dropped → is_live (set_value test scopes w) s ≡ is_live scopes s
+is_live-written test w was s [] found same = refl
+is_live-written test w was s (e ∷ es) found same = by (test e.0) found (is_live-written test w was s es)
+  where
+    by : (b : Bool) → cond b (Some e.1) (lookup test es) ≡ Some was
+        → (lookup test es ≡ Some was → w.dropped ≡ was.dropped → is_live (set_value test es w) s ≡ is_live es s)
+        → option_map_or stays (lookup (λ x. s.0 == x.0) (cond b ((e.0, w) ∷ es) (e ∷ set_value test es w))) false ≡ option_map_or stays (cond (s.0 == e.0.0) (Some e.1) (entries_at es s)) false
+    by true here rest = head (s.0 == e.0.0)
+      where
+        head : (t : Bool) → option_map_or stays (cond t (Some w) (entries_at es s)) false ≡ option_map_or stays (cond t (Some e.1) (entries_at es s)) false
+        head true = ap not (same ∙ sym (ap (λ (x : ScopeEntries). x.dropped) (same_Some e.1 was here)))
+        head false = refl
+    by false there rest = head (s.0 == e.0.0)
+      where
+        head : (t : Bool) → option_map_or stays (cond t (Some e.1) (entries_at (set_value test es w) s)) false ≡ option_map_or stays (cond t (Some e.1) (entries_at es s)) false
+        head true = refl
+        head false = rest there same

@@ -1,10 +1,8 @@
 -- What callers see of a cache (Envoy's design note on statistics: a thread's own cache of what it found).
-use Rattle.std.specs.Prelude.{Bool, Option, Some, None, List, [], ◌∷◌, ◌++◌, if◌then◌else◌, filter, map}
+use Rattle.std.specs.Prelude.{Bool, Option, Some, None, List, if◌then◌else◌, filter, map}
 use Rattle.stat_defs.specs.declared.events.Key.{Key}
 use Rattle.stat_defs.specs.declared.ids.ScopeId.{ScopeId}
-use Rattle.std.specs.List.{list_any}
 use Rattle.std.specs.Map.{lookup}
-use Rattle.indexmap.specs.IndexSet.{remove_key}
 use Rattle.stat_defs.specs.Keys.{Held, held_under, same_key, is_through}
 use Rattle.thread_cache.specs.declared.key.CacheKey.{CacheKey}
 use Rattle.thread_cache.specs.declared.scopes.ScopeEntries.{ScopeEntries}
@@ -12,10 +10,10 @@ use Rattle.thread_cache.specs.declared.table.Slot.{Slot}
 use Rattle.thread_cache.specs.Keys.{key_of}
 use Rattle.thread_cache.specs.Scopes.{is_live}
 
--- the entries that are held, and the keys that have room for an entry
+-- the entries that are held, and the key that has room for an entry
 pub record CacheState : Type 0 where
   pub entries : List Held
-  pub rooms : List Key
+  pub room : Option Key
 
 abbrev pub held_of : CacheKey × Slot → Held
 held_of e = record { key = key_of e.0; scope = e.1.scope.0; verdict = e.1.verdict }
@@ -30,16 +28,6 @@ is_at key at = same_key (key_of at) key
 
 abbrev pub slot_under : Key → List (CacheKey × Slot) → Option Slot
 slot_under key table = lookup (is_at key) table
-
--- the key has room; the keys that have, with one more where it is not among them, and without one
-abbrev pub has_room : Key → List Key → Bool
-has_room key rooms = list_any (λ k. same_key k key) rooms
-
-abbrev pub with_room : Key → List Key → List Key
-with_room key rooms = if has_room key rooms then rooms else rooms ++ key ∷ []
-
-abbrev pub without_room : Key → List Key → List Key
-without_room key rooms = remove_key (λ k. same_key k key) rooms
 
 -- what is held under each key once this is held
 abbrev pub held_with : Held → List Held → Key → Option Held

@@ -1,35 +1,33 @@
 //! The entries that a seat holds.
-ghost use Rattle.std.specs.Prelude.{◌≡◌, ◌≤◌, ◌+◌, None, Some, true, false, not, filter, length, option_map, cond, All, []};
-ghost use Rattle.std.specs.Prelude.{map};
-ghost use Rattle.std.specs.Prelude.{IsTrue, IfSome, OnOk, OnErr};
+ghost use Rattle.std.specs.Prelude.{◌≡◌, ◌≤◌, ◌+◌, None, Some, true, not, filter, length, option_map, cond, All, []};
+ghost use Rattle.std.specs.Prelude.{IfSome, OnOk, OnErr};
 ghost use Rattle.std.specs.List.{list_any};
+ghost use Rattle.std.specs.Option.{IsSomeAnd};
 ghost use Rattle.indexmap.specs.IndexMap.{spare};
-ghost use Rattle.indexmap.specs.IndexSet.{index_set_len};
 ghost use Rattle.stat_defs.specs.declared.events.Key.{Key as TheKey};
-ghost use Rattle.stat_defs.specs.Keys.{held_under, same_key, is_through, HoldsOnce};
-ghost use Rattle.thread_cache.specs.Keys.{asked, key_of};
-ghost use Rattle.thread_cache.specs.Scopes.{is_live, is_dropped, is_listed};
-ghost use Rattle.thread_cache.specs.Held.{shown, has_room, with_room, without_room, held_with, held_without};
+ghost use Rattle.stat_defs.specs.Keys.{held_under, is_through, HoldsOnce};
+ghost use Rattle.thread_cache.specs.Keys.{asked};
+ghost use Rattle.thread_cache.specs.Scopes.{is_live};
+ghost use Rattle.thread_cache.specs.Held.{shown, held_with, held_without};
 
 use crate::key::{CacheKey, copy_of};
 use crate::query::Query;
 use crate::scopes::{Scopes, drop_scopes, is_live};
 use crate::table::{Slot, Table, count_live, open_scope, put, slot_of, tidy};
-use indexmap::{IndexMap, IndexSet};
+use indexmap::IndexMap;
 use name_map::{HashKey, name_map};
 use stat_defs::{Key, NoMemory, ScopeId, Verdict};
 use std::alloc::Global;
 use std::marker::Model;
 
-type Rooms = IndexSet<CacheKey, HashKey>;
-
-/// What a worker's seat holds. Contracts see the entries, one for each key, and the keys that have room; the order of
-/// either has no meaning.
+/// What a worker's seat holds. Contracts see the entries, one for each key, in no order that means anything, and the
+/// key that has room for an entry.
 #[derive(Drop)]
 pub struct Cache {
     pub(crate) table: Table,
     pub(crate) scopes: Scopes,
-    pub(crate) rooms: Rooms,
+    // The key that has room, as the table will keep it.
+    pub(crate) room: Option<CacheKey>,
     // About how many entries of the table have a dropped scope: 0 only where none has.
     pub(crate) stale: u64,
 }
@@ -75,32 +73,22 @@ fn look_up(table: &Table, scopes: &Scopes, stale: u64, query: &Query<'_>) -> Opt
     }
 }
 
-// Takes the key that is asked for out of those that have room, as it is kept.
-fn take_room(rooms: &mut Rooms, query: &Query<'_>) -> Option<CacheKey>
-    ensures rooms { map key_of rooms.new.keys ≡ without_room (asked query.now) (map key_of rooms.old.keys) }
-    ensures taken { IfSome result (λ taken. (key_of taken ≡ asked query.now)
-        × (length rooms.new.keys + 1 ≡ length rooms.old.keys)) }
-    ensures none { result ≡ None → has_room (asked query.now) (map key_of rooms.old.keys) ≡ false }
-{
-    rooms.shift_take(query)
-}
-
 impl Cache {
     /// A cache that holds nothing and has no room, and whose table is hashed under this key.
     pub fn with_key(alloc: Global, key: HashKey) -> Cache
-        ensures { result ≡ record { entries = []; rooms = [] } }
+        ensures { result ≡ record { entries = []; room = None } }
     {
         Cache {
             table: name_map(alloc, key),
             scopes: IndexMap::new(alloc),
-            rooms: IndexSet::with_hasher(alloc, key),
+            room: None,
             stale: 0,
         }
     }
 
     /// The same under the fixed key.
     pub fn new(alloc: Global) -> Cache
-        ensures { result ≡ record { entries = []; rooms = [] } }
+        ensures { result ≡ record { entries = []; room = None } }
     {
         Cache::with_key(alloc, HashKey::fixed())
     }
@@ -115,31 +103,28 @@ impl Cache {
         look_up(&self.table, &self.scopes, self.stale, query)
     }
 
-    /// Makes room for an entry of the key, whose texts it shares. Room is no entry, and it stays until the key is
-    /// filled. After want of memory the cache is as it was.
+    /// Makes room for an entry of the key, whose texts it shares. Room is no entry; it stays until the key is filled or
+    /// another has it. After want of memory the cache is as it was.
     pub fn reserve(&mut self, key: &Key) -> Result<(), NoMemory>
-        ensures reserved { OnOk result (self.new ≡ record self.old { rooms = with_room key.now self.old.rooms }) }
-        ensures room { OnOk result (IsTrue (has_room key.now self.new.rooms)) }
+        ensures reserved { OnOk result (self.new ≡ record self.old { room = Some key.now }) }
         ensures kept { OnErr result (self.new ≡ self.old) }
     {
         let copy = copy_of(key)?;
-        let more = self.rooms.len() + 1;
-        self.table.reserve(more)?;
-        self.scopes.reserve(more)?;
-        self.rooms.insert(copy)?;
+        self.table.reserve(1)?;
+        self.scopes.reserve(1)?;
+        self.room = Some(copy);
         Ok(())
     }
 
-    /// Holds the verdict under the query's key, found through this scope. It takes no memory.
-    pub fn fill(&mut self, query: &Query<'_>, scope: ScopeId, verdict: Verdict)
-        requires room { IsTrue (has_room (asked query.now) self.old.rooms) }
-        requires free { held_under (asked query.now) self.old.entries ≡ None }
-        ensures held { (key : TheKey) → held_under key self.new.entries
-            ≡ held_with (record { key = asked query.now; scope = scope.0; verdict = verdict }) self.old.entries key }
+    /// Holds the verdict under the key that has room, found through this scope. It takes no memory.
+    pub fn fill(&mut self, scope: ScopeId, verdict: Verdict)
+        requires room { IsSomeAnd self.old.room (λ key. held_under key self.old.entries ≡ None) }
+        ensures held { IfSome self.old.room (λ room. (key : TheKey) → held_under key self.new.entries
+            ≡ held_with (record { key = room; scope = scope.0; verdict = verdict }) self.old.entries key) }
         ensures one_more { length self.new.entries ≡ length self.old.entries + 1 }
-        ensures rooms { self.new.rooms ≡ without_room (asked query.now) self.old.rooms }
+        ensures room { self.new.room ≡ None }
     {
-        let Some(key) = take_room(&mut self.rooms, query) else {
+        let Some(key) = self.room.take() else {
             return;
         };
         self.stale = open_scope(&mut self.table, &mut self.scopes, self.stale, scope);
@@ -151,7 +136,7 @@ impl Cache {
         ensures entries { self.new.entries ≡ filter (λ held. not (is_through released.now held)) self.old.entries }
         ensures held { (key : TheKey) → held_under key self.new.entries
             ≡ held_without released.now (held_under key self.old.entries) }
-        ensures rooms { self.new.rooms ≡ self.old.rooms }
+        ensures room { self.new.room ≡ self.old.room }
     {
         let _all_different = self.table.len();
         self.stale = drop_scopes(&mut self.scopes, released, self.stale);

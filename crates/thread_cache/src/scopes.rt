@@ -2,7 +2,7 @@
 ghost use Rattle.std.specs.Prelude.{◌≡◌, ◌<◌, ◌≤◌, ◌+◌, ◌||◌, ◌&&◌, ◌==◌, not, true, false, Bool, if◌then◌else◌};
 ghost use Rattle.std.specs.List.{list_any};
 ghost use Rattle.indexmap.specs.IndexMap.{spare};
-ghost use Rattle.thread_cache.specs.Scopes.{is_live, is_listed, is_dropped};
+ghost use Rattle.thread_cache.specs.Scopes.{is_live, is_listed, IsStanding};
 
 use indexmap::IndexMap;
 use stat_defs::ScopeId;
@@ -27,49 +27,44 @@ pub(crate) fn is_live(scopes: &Scopes, scope: ScopeId) -> bool
     }
 }
 
-// Whether the scope is listed and was dropped.
-pub(crate) fn is_dropped(scopes: &Scopes, scope: ScopeId) -> bool
-    ensures { result ≡ is_dropped scopes.now.entries scope }
+/// How a scope stands before an entry of it is counted.
+pub(crate) enum Standing {
+    Live,
+    Dropped,
+    Unlisted,
+}
+
+// Counts one entry more of a scope that is live.
+pub(crate) fn count_entry(scopes: &mut Scopes, scope: ScopeId) -> Standing
+    ensures standing { IsStanding scopes.old.entries scope result }
+    ensures live { (s : ScopeId) → is_live scopes.new.entries s ≡ is_live scopes.old.entries s }
+    ensures listed { (s : ScopeId) → is_listed scopes.new.entries s ≡ is_listed scopes.old.entries s }
+    ensures spare { spare scopes.new ≡ spare scopes.old }
 {
-    match scopes.get(&scope) {
-        Some(entries) => entries.dropped,
-        None => false,
+    match scopes.get_mut(&scope) {
+        None => Standing::Unlisted,
+        Some(entries) => {
+            if entries.dropped {
+                return Standing::Dropped;
+            }
+            entries.count = entries.count.saturating_add(1);
+            Standing::Live
+        }
     }
 }
 
-// Puts what is known of a scope that is listed, or for which there is room.
-fn put_scope(scopes: &mut Scopes, scope: ScopeId, entries: ScopeEntries)
-    requires { is_listed scopes.old.entries scope ≡ false → 0 < spare scopes.old }
-    ensures live { (s : ScopeId) → is_live scopes.new.entries s
-        ≡ (if scope.0 == s.0 then not entries.dropped else is_live scopes.old.entries s) }
-    ensures listed { (s : ScopeId) → is_listed scopes.new.entries s
-        ≡ (scope.0 == s.0 || is_listed scopes.old.entries s) }
-    ensures spare { spare scopes.old ≤ spare scopes.new + 1 }
-{
-    let _ = scopes.insert(scope, entries);
-}
-
-// Counts one entry more of a scope that was not dropped.
-pub(crate) fn count_entry(scopes: &mut Scopes, scope: ScopeId)
+// Lists a scope that is not listed, with one entry.
+pub(crate) fn list_scope(scopes: &mut Scopes, scope: ScopeId)
     requires room { 0 < spare scopes.old }
-    requires kept { is_dropped scopes.old.entries scope ≡ false }
     ensures live { (s : ScopeId) → is_live scopes.new.entries s ≡ (scope.0 == s.0 || is_live scopes.old.entries s) }
     ensures listed { (s : ScopeId) → is_listed scopes.new.entries s
         ≡ (scope.0 == s.0 || is_listed scopes.old.entries s) }
-    ensures spare { spare scopes.old ≤ spare scopes.new + 1 }
 {
-    let count = match scopes.get(&scope) {
-        Some(entries) => entries.count,
-        None => 0,
+    let entries = ScopeEntries {
+        dropped: false,
+        count: 1,
     };
-    put_scope(
-        scopes,
-        scope,
-        ScopeEntries {
-            dropped: false,
-            count: count.saturating_add(1),
-        },
-    );
+    let _ = scopes.insert(scope, entries);
 }
 
 // Drops the scope, and answers about how many entries have it: 0 only where it was not live.
@@ -80,12 +75,12 @@ pub(crate) fn drop_scope(scopes: &mut Scopes, scope: ScopeId) -> u64
     ensures idle { result ≡ 0 → (s : ScopeId) → is_live scopes.new.entries s ≡ is_live scopes.old.entries s }
     ensures spare { spare scopes.old ≤ spare scopes.new }
 {
-    if !is_live(scopes, scope) {
-        return 0;
-    }
     let Some(entries) = scopes.get_mut(&scope) else {
         return 0;
     };
+    if entries.dropped {
+        return 0;
+    }
     entries.dropped = true;
     entries.count.max(1)
 }

@@ -9,7 +9,7 @@ ghost use Rattle.thread_cache.specs.declared.table.Slot.{Slot};
 
 use crate::key::CacheKey;
 use crate::query::Query;
-use crate::scopes::{Scopes, count_entry, forget_dropped, is_dropped, is_live};
+use crate::scopes::{Scopes, Standing, count_entry, forget_dropped, is_live, list_scope};
 use name_map::NameMap;
 use stat_defs::{ScopeId, Verdict};
 
@@ -81,15 +81,19 @@ pub(crate) fn open_scope(table: &mut Table, scopes: &mut Scopes, stale: u64, sco
     ensures listed { All (λ e. is_listed scopes.new.entries e.1.scope ≡ true) table.new.entries }
     ensures live { result ≡ 0 → All (λ e. is_live scopes.new.entries e.1.scope ≡ true) table.new.entries }
     ensures table_room { spare table.old ≤ spare table.new }
-    ensures scopes_room { spare scopes.old ≤ spare scopes.new + 1 }
 {
-    if is_dropped(scopes, scope) {
-        purge(table, scopes);
-        count_entry(scopes, scope);
-        return 0;
+    match count_entry(scopes, scope) {
+        Standing::Live => stale,
+        Standing::Unlisted => {
+            list_scope(scopes, scope);
+            stale
+        }
+        Standing::Dropped => {
+            purge(table, scopes);
+            list_scope(scopes, scope);
+            0
+        }
     }
-    count_entry(scopes, scope);
-    stale
 }
 
 // Takes the entries of dropped scopes out where they are about as many as the others, and answers how stale the table

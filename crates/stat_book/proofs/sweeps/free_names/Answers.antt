@@ -1,4 +1,4 @@
-use Rattle.std.proofs.Common.{◌≡◌, ℕ, ◌+◌, ◌≤◌, ◌++◌, List, take, get_or, ap, sym, ◌∙◌, arith}
+use Rattle.std.proofs.Common.{◌≡◌, ℕ, ◌+◌, ◌++◌, List, take, get_or, ap, sym, ◌∙◌, arith}
 use Rattle.stat_defs.specs.declared.ids.MetricId.{MetricId}
 use Rattle.symbol_table.specs.Table.{Table, times, uncounted_all}
 use Rattle.stat_book.specs.Sweeps.{numbers_at, numbers_of_all}

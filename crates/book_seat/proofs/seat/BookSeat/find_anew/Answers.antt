@@ -1,5 +1,5 @@
-use Rattle.std.proofs.Common.{List, unwrap_or, option_map, ap, sym, ◌∙◌, subst}
-use Rattle.stat_defs.specs.Keys.{Held}
+use Rattle.std.proofs.Common.{◌≡◌, List, Option, Some, IfSome, unwrap_or, option_map, ap, sym, ◌∙◌, subst}
+use Rattle.stat_defs.specs.Keys.{Held, held_under}
 use Rattle.stat_defs.specs.declared.events.Key.{Key}
 use Rattle.stat_book.specs.Finds.{scope_number}
 use Rattle.thread_cache.specs.Keys.{asked}
@@ -51,9 +51,12 @@ invariant_of-self-2 g c =
     let key = asked c.args.query.now in let answer = c.in_ok-answer.answer in let q = K c.find.new.self in
     let told = subst (λ (k : Key). Calls (FindsKey k answer) p q) c.in_ok-key.ensures c.in_ok-answer.ensures.step in
     let entries_are = ap (λ (s : CacheState). s.entries) c.in_ok-reserve.ensures.reserved in
+    let room_is = ap (λ (s : CacheState). s.room) c.in_ok-reserve.ensures.reserved ∙ ap Some c.in_ok-key.ensures in
     let free = sits.seated.held key ∙ s.none_mapped (λ (h : Held). h.verdict) _ (ap (λ (x : LogKnown). held_in_log x key) is ∙ c.requires.free) in
     let all = find_told p q es c.hold.new.cache.entries old.tag sits key answer told free
-    (λ held k. c.hold.ensures.held held k ∙ (λ i. held_with (record { key = key; scope = unwrap_or (option_map scope_number answer.scope) 0; verdict = answer.verdict }) (entries_are i) k))
+    (λ held k. subst (λ (r : Option Key). IfSome r (λ room. (k : Key) → held_under k c.hold.new.cache.entries
+    ≡ held_with (record { key = room; scope = unwrap_or (option_map scope_number answer.scope) 0; verdict = answer.verdict }) c.reserve.new.self.entries k)) room_is (c.hold.ensures.held held) k
+    ∙ (λ i. held_with (record { key = key; scope = unwrap_or (option_map scope_number answer.scope) 0; verdict = answer.verdict }) (entries_are i) k))
     (λ passed. ap (λ (s : CacheState). s.entries) (c.hold.ensures.passed passed) ∙ entries_are) in
     kept_of q c.hold.new.cache.entries old.tag all.sits
 
@@ -64,9 +67,12 @@ returns-clause-judged g c =
     let key = asked c.args.query.now in let answer = c.in_ok-answer.answer in let q = K c.find.new.self in
     let told = subst (λ (k : Key). Calls (FindsKey k answer) p q) c.in_ok-key.ensures c.in_ok-answer.ensures.step in
     let entries_are = ap (λ (s : CacheState). s.entries) c.in_ok-reserve.ensures.reserved in
+    let room_is = ap (λ (s : CacheState). s.room) c.in_ok-reserve.ensures.reserved ∙ ap Some c.in_ok-key.ensures in
     let free = sits.seated.held key ∙ s.none_mapped (λ (h : Held). h.verdict) _ (ap (λ (x : LogKnown). held_in_log x key) is ∙ c.requires.free) in
     let all = find_told p q es c.hold.new.cache.entries old.tag sits key answer told free
-    (λ held k. c.hold.ensures.held held k ∙ (λ i. held_with (record { key = key; scope = unwrap_or (option_map scope_number answer.scope) 0; verdict = answer.verdict }) (entries_are i) k))
+    (λ held k. subst (λ (r : Option Key). IfSome r (λ room. (k : Key) → held_under k c.hold.new.cache.entries
+    ≡ held_with (record { key = room; scope = unwrap_or (option_map scope_number answer.scope) 0; verdict = answer.verdict }) c.reserve.new.self.entries k)) room_is (c.hold.ensures.held held) k
+    ∙ (λ i. held_with (record { key = key; scope = unwrap_or (option_map scope_number answer.scope) 0; verdict = answer.verdict }) (entries_are i) k))
     (λ passed. ap (λ (s : CacheState). s.entries) (c.hold.ensures.passed passed) ∙ entries_are) in
     subst (λ (x : LogKnown). JudgesKey key answer.verdict x q) is
     (record { judges = all.judged; held = all.held; stays = stays_of 0 p q c.hold.new.cache.entries old.tag all.keeps all.sits })

@@ -15,8 +15,8 @@ pub lose_bearers-requires : goal.lose_bearers-requires
 lose_bearers-requires c =
     let b = c.self.inside in let v = shown b in let e = c.args.entry.now in
     let next = subst (λ (w : StateView). IsNext w e) (sym c.self.view_is) c.requires.next in
-    subst (λ ids. All (There b.metrics) ids) (sym c.as_slice.ensures.keys)
-    (borne_there v (stored_in b) c.self.invariant e next c.args.label.now c.in-Released.id c.requires.call c.in-Released.is c.close-borne.result.keys c.close-borne.ensures.borne)
+    subst (λ ids. All (There b.metrics) ids) (sym c.as_slice.ensures)
+    (borne_there v (stored_in b) c.self.invariant e next c.args.label.now c.in-Released.id c.requires.call c.in-Released.is c.close-borne.result c.close-borne.ensures.borne)
 
 pub invariant_of-self-2 : goal.invariant_of-self-2
 invariant_of-self-2 c =
@@ -25,9 +25,9 @@ invariant_of-self-2 c =
     kept_with b.rules (length b.seats.items) (length b.seats.items) b.past.items c.and-self-inside.result.items e refl c.and-self-inside.ensures _
     (let released = c.push_reserved.ensures.items ∙ ap (λ (ids : List ScopeId). ids ++ c.in-Released.id ∷ []) c.in_ok-reserve.ensures.items in
     let tag : c.len-tag.result ≡ length c.push_reserved.new.self.items = search rules in
-    release_stored v (stored_in b) c.self.invariant e next c.args.label.now c.in-Released.id c.requires.call c.in-Released.is c.close-borne.result.keys c.close-borne.ensures.borne c.len-tag.result
+    release_stored v (stored_in b) c.self.invariant e next c.args.label.now c.in-Released.id c.requires.call c.in-Released.is c.close-borne.result c.close-borne.ensures.borne c.len-tag.result
     (record { scopes = c.close-borne.new.self; metrics = c.lose_bearers.new.self; released = c.push_reserved.new.self.items; seats = (stored_in b).seats })
-    c.close-borne.ensures.closed released tag (c.lose_bearers.ensures ∙ ap (λ (ids : List ℕ). change_all (lose c.len-tag.result) ids b.metrics) c.as_slice.ensures.keys) refl)
+    c.close-borne.ensures.closed released tag (c.lose_bearers.ensures ∙ ap (λ (ids : List ℕ). change_all (lose c.len-tag.result) ids b.metrics) c.as_slice.ensures) refl)
 
 pub returns-clause-ok : goal.returns-clause-ok
 returns-clause-ok c =

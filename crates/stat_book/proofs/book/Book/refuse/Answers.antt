@@ -1,7 +1,7 @@
 use Rattle.std.proofs.Common.{◌≡◌, ◌<◌, true, false, sym, subst, refl}
 use Rattle.stat_defs.specs.declared.history.Call.{Call}
 use Rattle.book_state.specs.declared.limits.TheConstants.{MAX_OPENINGS}
-use Rattle.book_state.specs.Step.{Allowed, Works}
+use Rattle.book_state.specs.Step.{Allowed}
 use Rattle.book_state.specs.Log.{is_sweep}
 use Rattle.book_state.specs.Stored.{IsLawfulCall}
 use Rattle.stat_defs.specs.Keys.{held_under}
