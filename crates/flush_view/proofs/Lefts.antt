@@ -1,6 +1,5 @@
 -- What is known of metrics, carried on by the changes and the calls of a log.
 use Rattle.std.proofs.Common.{◌≡◌, ℕ, zero, suc, ◌+◌, ◌≤◌, Bool, true, false, cond, Option, Some, None, option_map, List, [], ◌∷◌, ◌++◌, map, fold, take, drop, length, slice_get, refl, ap, sym, ◌∙◌, subst, arith, length-append, append_assoc}
-use Rattle.std.specs.Prelude.{count_by}
 use Rattle.std.proofs.lemmas.List.{length-map, map-append}
 use Rattle.stat_defs.specs.declared.events.Key.{Key}
 use Rattle.stat_defs.specs.declared.ids.MetricId.{MetricId}
@@ -20,12 +19,14 @@ use Rattle.book_state.specs.Finding.{Outcome, outcome, scope_of, name_of, is_ful
 use Rattle.book_state.specs.Step.{effect, Allowed, Tells, change_at, on_seat, on_metric, found, made, left_to, released, overdue, overdue_in, swept}
 use Rattle.book_state.specs.Log.{replay_from, Run}
 use Rattle.book_state.specs.RunState.{IsRunState}
-use Rattle.book_state.proofs.Lists.{not_some, some_same, count_cons}
+use Rattle.book_state.proofs.Lists.{not_some, some_same}
 use Rattle.book_state.proofs.Releasing.{others}
 use Rattle.book_state.proofs.Finds.{known_at, tells_found}
 use Rattle.book_state.proofs.Safety.{step_kept}
 use Rattle.name_changes.specs.Changes.{changes_by}
 use Rattle.name_changes.proofs.Marks.{map-same, map-change}
+use Rattle.stat_book.proofs.NamesStay.{seat_metrics}
+use Rattle.stat_book.proofs.SweptNames.{gone_count}
 use Rattle.flush_view.specs.Before.{Before, left_of, before_of}
 use Rattle.flush_view.specs.Walk.{changed_left, left_after, changes_told}
 
@@ -46,10 +47,6 @@ released_left scope tag row false there = refl
 found_left : (scope : ℕ) (mode : Mode) (row : Row) → is_gone row.metric.life ≡ false
     → of_row (found scope mode row) ≡ of_row row
 found_left scope mode row there = λ i. cond (sym there i) None (Some row.metric.text)
-
-seat_metrics : (f : Seat → Seat) (by : ℕ) (s : State) → (on_seat f by s).metrics ≡ s.metrics
-seat_metrics f zero s = refl
-seat_metrics f (suc at) s = refl
 
 abbrev with_text : List ℕ → Row → Row
 with_text text row = record row { metric = record row.metric { text = text } }
@@ -145,20 +142,6 @@ step_left rules by call.End reply.Ended s at is may =
     sym (ap (λ (rows : List Row). map of_row rows) (seat_metrics _ by s))
 step_left rules by _ _ s at is may = refl
 
--- as many metrics of a kind as are counted have a number
-ids_many : (p : Metric → Bool) (id : ℕ) (rows : List Row)
-    → length (ids_from p id (map (λ (row : Row). row.metric) rows)) ≡ count_by (λ (row : Row). p row.metric) rows
-ids_many p id [] = refl
-ids_many p id (row ∷ rows) =
-    by_case (p row.metric) (ids_many p (id + 1) rows) ∙ sym (count_cons (λ (r : Row). p r.metric) row rows) where
-      by_case : (b : Bool)
-          → length (ids_from p (id + 1) (map (λ (r : Row). r.metric) rows)) ≡ count_by (λ (r : Row). p r.metric) rows
-          → length (cond b (record { 0 = id } ∷ ids_from p (id + 1) (map (λ (r : Row). r.metric) rows))
-          (ids_from p (id + 1) (map (λ (r : Row). r.metric) rows)))
-          ≡ cond b 1 0 + count_by (λ (r : Row). p r.metric) rows
-      by_case true rest = omega (arith, rest)
-      by_case false rest = omega (arith, rest)
-
 -- no find comes to a sweep
 no_sweep : (s : State) (key : Key) (o : Outcome) (n : ℕ) → Tells s key o (reply.Swept n) → ⊥
 no_sweep s key finding.NoScope n tells = tells
@@ -173,7 +156,7 @@ pub changes_many : (rules : NameRules) (by : ℕ) (c : Call) (r : Reply) (s : St
     → length (changes_by s at c r) ≡ changes_told r
 changes_many rules by (call.Find key) (reply.Made id numbers) s at may = refl
 changes_many rules by call.Sweep (reply.Swept n) s at may =
-    length-map (overdue_in s) (λ (id : MetricId). op.Gone at id) ∙ ids_many (λ (metric : Metric). overdue s.seats metric.life) 0 s.metrics ∙ sym may.1
+    length-map (overdue_in s) (λ (id : MetricId). op.Gone at id) ∙ gone_count s ∙ sym may.1
 changes_many rules by (call.Find key) (reply.Swept n) s at may = absurd (no_sweep s key (outcome rules s key) n may.1)
 changes_many rules by _ (reply.Made id numbers) s at may = absurd may
 changes_many rules by _ (reply.Swept n) s at may = absurd may

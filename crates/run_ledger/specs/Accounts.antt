@@ -82,7 +82,7 @@ pub record FlushAccounts (rules : NameRules) (workers : ℕ) (log : List Entry) 
 
 -- A reading, where this is the whole log.
 pub record ReadAccounts (rules : NameRules) (workers : ℕ) (log : List Entry) (told : ReadTold) : Type 0 where
-  -- it is of the log that the reader found
+  -- it is of the log whose names the reader found published
   pub behind : List Entry
   pub whole : log ≡ told.found ++ behind
   pub at : told.shown.at ≡ length told.found

@@ -35,7 +35,7 @@ pub record FlushTold : Type 0 where
   pub sweep : Entry
   pub halves : List (List (List Recording))
 
--- A reading, and the log that it found.
+-- A reading, and the log whose names it found published.
 pub record ReadTold : Type 0 where
   pub shown : ReadRecord
   pub found : List Entry
