@@ -1,18 +1,28 @@
 -- The worked report is a ledger, and the broken ones are none.
-use Rattle.std.proofs.Common.{[], List, refl, arith}
+use Rattle.std.proofs.Common.{◌≡◌, ◌≢◌, ◌<◌, ℕ, zero, suc, Bool, cond, [], ◌∷◌, List, map, refl, sym, ap, arith, inl, true≢false}
+use Rattle.std.specs.Prelude.{slice_index_or}
+use Rattle.std.proofs.lemmas.Cmp.{nat_eq_equiv}
+use Rattle.std.proofs.lemmas.List.Elements.{All-from_recursion}
+use Rattle.std.proofs.lemmas.Map.Views.{list_any-from_Contains}
 use Rattle.std.specs.Fmt.{digits}
 use Rattle.stat_defs.specs.declared.events.GaugeOp.TheVariants.{Set}
 use Rattle.stat_defs.specs.declared.reports.FileEnd.TheVariants as file
 use Rattle.stat_defs.specs.declared.reports.FlushRecord.{FlushRecord}
 use Rattle.stat_defs.specs.declared.reports.ReadRecord.{ReadRecord}
+use Rattle.stat_defs.specs.declared.reports.Part.{Part}
+use Rattle.loglinear_bins.specs.Counts.{bins_of}
+use Rattle.merge_round.specs.Halves.{bins_by}
+use Rattle.merge_round.specs.Rounds.{ArePartsOf, HasPart, IsBefore}
 use Rattle.event_script.specs.FileEvents.{AreEventsOf}
 use Rattle.ledger.specs.Ledger.{AreRead, HasHistory, Account, AreShown}
+use Rattle.ledger.specs.Segments.{bins_by_worker}
+use Rattle.ledger.specs.Work.{Recording}
 use Rattle.ledger.specs.Worked.{file_of}
-use Rattle.ledger.proofs.Lists.{nil_cons}
-use Rattle.ledger.proofs.WorkedParts.{read_whole, rec_7, inc_a, moves_g}
+use Rattle.ledger.proofs.Lists.{nil_cons, number_apart}
+use Rattle.ledger.proofs.WorkedParts.{bins_of_7, read_whole, rec_7, inc_a, moves_g}
 use Rattle.run_ledger.proofs.Accounts.{run_accounts}
-use Rattle.worked_runs.specs.Run.{plan_of_run, events_of_run, files_of_run, first_events, second_events, flushes_of_run, reads_of_run, report_with, report_of_run, told_of_run, early_read, IsLedgerOfRun}
-use Rattle.worked_runs.specs.Broken.{ThirdAloneBroken, FourthAloneBroken, FifthAloneBroken, flushes_exchanged, plan_of_more, counted_twice, part_moved, value_lost, value_fallen, place_fallen, reading_left_out, works_in}
+use Rattle.worked_runs.specs.Run.{plan_of_run, events_of_run, files_of_run, first_events, second_events, flushes_of_run, reads_of_run, report_with, report_of_run, told_of_run, early_read, part_of, IsLedgerOfRun}
+use Rattle.worked_runs.specs.Broken.{ThirdAloneBroken, FourthAloneBroken, FifthAloneBroken, flushes_exchanged, plan_of_more, counted_twice, part_moved, value_lost, value_fallen, place_fallen, reading_left_out, flushes_joined, plan_of_fewer, gauge_too_early, word_unset, units_made_up, works_in}
 use Rattle.worked_runs.proofs.Accounted.{two_account, three_rise}
 
 first_read : AreEventsOf (file_of first_events) file.Whole 0 first_events
@@ -60,6 +70,56 @@ fewer_flushes = let h = ledger.history in let a = ledger.account in let s = ledg
   shown = record { number = s.number; never_falls = s.never_falls; each = s.each; rising = s.rising };
 }
 
+-- what the joined flush took of both workers, a value of each
+abbrev taken_of_both : List (List Recording)
+taken_of_both = ((0, 7) ∷ []) ∷ ((0, 7) ∷ []) ∷ []
+
+abbrev IsHeldPart : Part → Type 0
+IsHeldPart part = (part.bins ≡ bins_by_worker taken_of_both part.worker part.id.0) × (part.bins ≢ [])
+
+no_other : (id : ℕ) → bins_by ((0, 7) ∷ []) (suc id) ≡ []
+no_other id = ap (λ (t : Bool). bins_of (map (λ (p : ℕ × ℕ). p.1) (cond t ((0, 7) ∷ []) []))) (number_apart 0 (suc id) (λ e. omega (arith, e)))
+
+both_have_7 : (w id : ℕ) → bins_by_worker taken_of_both w id ≢ [] → HasPart (part_of 1 ∷ part_of 2 ∷ []) w id
+both_have_7 zero id some = absurd (some refl)
+both_have_7 (suc zero) zero some = (0, part_of 1, omega arith, refl, (refl, refl))
+both_have_7 (suc zero) (suc id) some = absurd (some (no_other id))
+both_have_7 (suc (suc zero)) zero some = (1, part_of 2, omega arith, refl, (refl, refl))
+both_have_7 (suc (suc zero)) (suc id) some = absurd (some (no_other id))
+both_have_7 (suc (suc (suc w))) id some = absurd (some refl)
+
+both_parts : ArePartsOf (bins_by_worker taken_of_both) (part_of 1 ∷ part_of 2 ∷ [])
+both_parts = record {
+  held = All-from_recursion IsHeldPart (part_of 1 ∷ part_of 2 ∷ [])
+      ((sym bins_of_7, λ e. nil_cons _ [] (sym e)), ((sym bins_of_7, λ e. nil_cons _ [] (sym e)), tt));
+  whole = both_have_7;
+  order = λ i j d low below. by_place i j d low below;
+} where
+  parts : List Part
+  parts = part_of 1 ∷ part_of 2 ∷ []
+
+  by_place : (i j : ℕ) (d : Part) → i < j → j < 2
+      → IsBefore (slice_index_or parts i d).worker (slice_index_or parts i d).id.0 (slice_index_or parts j d).worker (slice_index_or parts j d).id.0
+  by_place zero (suc zero) d low below = inl (omega arith)
+  by_place zero zero d low below = absurd (omega (arith, low))
+  by_place (suc i) zero d low below = absurd (omega (arith, low))
+  by_place (suc i) (suc zero) d low below = absurd (omega (arith, low))
+  by_place i (suc (suc j)) d low below = absurd (omega (arith, below))
+
+pub joined : ThirdAloneBroken plan_of_fewer flushes_joined
+joined = let h = ledger.history in let a = ledger.account in let s = ledger.shown in record {
+  read = is_read _ _;
+  history = record { legal = h.legal; follows = h.follows };
+  not_swept = λ swept. let sweeps = swept.sweeps in absurd (omega (arith, sweeps));
+  account = record {
+    flushes = (record { sweep = refl; deltas = refl; gauges = refl; parts = both_parts }, (a.flushes.1.1.0, tt));
+    units = (omega arith, tt);
+    values = (refl, (refl, tt));
+    words = a.words;
+  };
+  shown = record { number = s.number; never_falls = s.never_falls; each = s.each; rising = s.rising };
+}
+
 pub twice : FourthAloneBroken counted_twice
 twice = record {
   read = is_read _ _;
@@ -85,6 +145,33 @@ lost = record {
   swept = record { number = refl; sweeps = refl; rising = three_rise; ended = refl };
   no_account = λ account. nil_cons _ [] account.values.0;
   shown = same_shown _;
+}
+
+pub early_gauge : FourthAloneBroken gauge_too_early
+early_gauge = record {
+  read = is_read _ _;
+  history = same_history _ _;
+  swept = record { number = refl; sweeps = refl; rising = three_rise; ended = refl };
+  no_account = λ account. nil_cons _ [] (sym account.flushes.0.gauges);
+  shown = same_shown _;
+}
+
+pub unset : FourthAloneBroken word_unset
+unset = record {
+  read = is_read _ _;
+  history = same_history _ _;
+  swept = record { number = refl; sweeps = refl; rising = three_rise; ended = refl };
+  no_account = λ account. true≢false (sym (list_any-from_Contains nat_eq_equiv 4 (5 ∷ 9 ∷ []) (account.words.0.last_sets (omega arith) refl)));
+  shown = same_shown _;
+}
+
+pub made_up : FifthAloneBroken units_made_up
+made_up = record {
+  read = is_read _ _;
+  history = same_history _ _;
+  swept = record { number = refl; sweeps = refl; rising = three_rise; ended = refl };
+  account = same_account _;
+  not_shown = λ shown. let low = shown.each.1.0.at_most.0 in absurd (omega (arith, low));
 }
 
 pub fallen : FifthAloneBroken value_fallen

@@ -4,6 +4,7 @@ use Rattle.std.specs.Prelude.{List, [], ◌∷◌}
 use Rattle.stat_defs.specs.declared.reports.Report.{Report}
 use Rattle.ledger.specs.Work.{Work, apart}
 use Rattle.ledger.specs.Ledger.{RunPlan, AreRead, HasHistory, AreSwept, Account, AreShown}
+use Rattle.ledger.specs.Worked.{delta, reading}
 use Rattle.worked_runs.specs.Run.{plan_of_run, events_of_run, files_of_run, part_of, first_flush, second_flush}
 use Rattle.worked_runs.specs.Run.{last_flush, flushes_with, flushes_of_run, early_read, late_read, reads_of_run}
 use Rattle.worked_runs.specs.Run.{report_with}
@@ -15,6 +16,15 @@ flushes_exchanged = report_with (second_flush ∷ first_flush (part_of 1) ∷ la
 -- one flush more was asked for than the worked report has
 abbrev pub plan_of_more : RunPlan
 plan_of_more = record plan_of_run { flushes = 3 }
+
+-- the first flush is left out, and its units and its value stand in the second one; one flush less was asked for
+abbrev pub flushes_joined : Report
+flushes_joined = report_with
+    (record second_flush { deltas = delta 1 7 ∷ []; parts = part_of 1 ∷ part_of 2 ∷ [] } ∷ last_flush 2 ∷ [])
+    reads_of_run
+
+abbrev pub plan_of_fewer : RunPlan
+plan_of_fewer = record plan_of_run { flushes = 1 }
 
 -- the last flush has the 4 units of the second one too
 abbrev pub counted_twice : Report
@@ -28,6 +38,20 @@ part_moved = report_with (flushes_with (part_of 2) 2) reads_of_run
 abbrev pub value_lost : Report
 value_lost = report_with
     (record (first_flush (part_of 1)) { parts = [] } ∷ second_flush ∷ last_flush 2 ∷ []) reads_of_run
+
+-- the first flush has the gauge, which was made behind its sweep
+abbrev pub gauge_too_early : Report
+gauge_too_early = report_with
+    (record (first_flush (part_of 1)) { gauges = reading 2 9 ∷ [] } ∷ second_flush ∷ last_flush 2 ∷ []) reads_of_run
+
+-- the last flush has a word of the gauge that no worker set
+abbrev pub word_unset : Report
+word_unset = report_with
+    (first_flush (part_of 1) ∷ second_flush ∷ record (last_flush 2) { gauges = reading 2 4 ∷ [] } ∷ []) reads_of_run
+
+-- the late reading shows 10 units of 9
+abbrev pub units_made_up : Report
+units_made_up = report_with flushes_of_run (early_read 3 ∷ late_read 10 ∷ [])
 
 -- the counter is at 7 and then at 3
 abbrev pub value_fallen : Report

@@ -3,7 +3,8 @@
 ghost use Rattle.worked_runs.specs.Run.{TwoAccount, IsLedgerOfRun, plan_of_run, report_of_run};
 ghost use Rattle.worked_runs.specs.Broken.{ThirdAloneBroken, FourthAloneBroken, FifthAloneBroken, flushes_exchanged};
 ghost use Rattle.worked_runs.specs.Broken.{plan_of_more, counted_twice, part_moved, value_lost, value_fallen};
-ghost use Rattle.worked_runs.specs.Broken.{place_fallen, reading_left_out};
+ghost use Rattle.worked_runs.specs.Broken.{place_fallen, reading_left_out, flushes_joined, plan_of_fewer};
+ghost use Rattle.worked_runs.specs.Broken.{gauge_too_early, word_unset, units_made_up};
 
 /// A worked run: its workers, flushes and readings account for what they did.
 ///
@@ -30,6 +31,12 @@ pub fn a_flush_too_few()
     ensures { ThirdAloneBroken plan_of_more report_of_run }
 {}
 
+/// A broken report: the first flush is left out, and its units and its value stand in the second one. Though one flush
+/// before the last one was asked for, that is no ledger by its third part alone: the log has three sweeps.
+pub fn a_flush_left_out()
+    ensures { ThirdAloneBroken plan_of_fewer flushes_joined }
+{}
+
 /// A broken report: the last flush has 4 units that the second one has too. That is no ledger by its fourth part
 /// alone.
 pub fn units_counted_twice()
@@ -44,6 +51,22 @@ pub fn a_part_of_another_worker()
 /// A broken report: the value of worker 1 stands in no part. That is no ledger by its fourth part alone.
 pub fn a_value_in_no_part()
     ensures { FourthAloneBroken value_lost }
+{}
+
+/// A broken report: the first flush has a word of the gauge, which was made behind its sweep. That is no ledger by its
+/// fourth part alone.
+pub fn a_gauge_before_it_was_made()
+    ensures { FourthAloneBroken gauge_too_early }
+{}
+
+/// A broken report: the last word of the gauge is 4, which no worker set. That is no ledger by its fourth part alone.
+pub fn a_word_that_no_worker_set()
+    ensures { FourthAloneBroken word_unset }
+{}
+
+/// A broken report: the second reading shows 10 units, and 9 were accepted. That is no ledger by its fifth part alone.
+pub fn a_reading_above_the_units()
+    ensures { FifthAloneBroken units_made_up }
 {}
 
 /// A broken report: the first reading shows 7 units, and the second one 3. That is no ledger by its fifth part
