@@ -159,6 +159,25 @@ fn take<R: Wait>(desk: &Desk<'_, R>, flusher: &mut Flusher) -> Result<FlushRecor
     }
 }
 
+// The worker gives its half, and the round that was begun becomes a flush.
+fn finish<R: Wait>(
+    desk: &Desk<'_, R>,
+    recorder: &mut Recorder,
+    flusher: &mut Flusher,
+    more: u32,
+) -> Result<FlushRecord, Fail>
+    requires worker { MayBeGiven desk.now.store.now more recorder.old }
+    requires flusher { IsFlusherOf desk.now.store.now flusher.old × IsSome flusher.old.round }
+    ensures worker { IfOk result (λ _. MayBeGiven desk.now.store.now more recorder.new) }
+    ensures flusher { IfOk result (λ _. IsIdle desk.now.store.now flusher.new) }
+{
+    poll(desk, recorder, more)?;
+    match pass(desk, flusher)? {
+        Pass::Done => Ok(take(desk, flusher)?),
+        Pass::Late(..) => Err("the half was not given")?,
+    }
+}
+
 /// A flush, for which the worker gives its half.
 pub(crate) fn flush<R: Wait>(
     desk: &Desk<'_, R>,
@@ -172,11 +191,7 @@ pub(crate) fn flush<R: Wait>(
     ensures flusher { IfOk result (λ _. IsIdle desk.now.store.now flusher.new) }
 {
     begin(desk, flusher)?;
-    poll(desk, recorder, more)?;
-    match pass(desk, flusher)? {
-        Pass::Done => Ok(take(desk, flusher)?),
-        Pass::Late(..) => Err("the half was not given")?,
-    }
+    finish(desk, recorder, flusher, more)
 }
 
 /// A flush whose first pass does not find the worker's half.
@@ -195,9 +210,5 @@ pub(crate) fn late_flush<R: Wait>(
     if pass(desk, flusher)? != Pass::Late(1, 1) {
         return Err("the half was not waited for")?;
     }
-    poll(desk, recorder, more)?;
-    match pass(desk, flusher)? {
-        Pass::Done => Ok(take(desk, flusher)?),
-        Pass::Late(..) => Err("the half was not given")?,
-    }
+    finish(desk, recorder, flusher, more)
 }

@@ -5,14 +5,13 @@ ghost use Rattle.recorder.specs.Tied.{IsWorkerOf};
 ghost use Rattle.refusal_tests.specs.Standing.{MayBeGiven};
 
 use crate::again::{Desk, work_once};
-use crate::closing::{closed, finds_in, sums_in};
-use crate::opening::{NO_TAGS, first_of, opened};
-use crate::parties::Parties;
-use boot_file::read as read_boot;
+use crate::closing::{finds_in, sums_in};
+use crate::row::{Row, course};
+use admin_side::Admin;
+use flusher::Flusher;
 use recorder::Recorder;
 use std::sync::Wait;
 use std::test::Fail;
-use store_opening::Opened;
 
 // Gives the worker four events, each once, and tells which were not refused.
 fn calls<R: Wait>(desk: &Desk<'_, R>, recorder: &mut Recorder) -> Result<[bool; 4], Fail>
@@ -35,42 +34,24 @@ fn sums_of(given: [bool; 4]) -> (u64, u64) {
     )
 }
 
+struct WithoutRefused;
+
+impl Row for WithoutRefused {
+    type Told = [bool; 4];
+
+    fn calls<R: Wait>(
+        desk: &Desk<'_, R>,
+        recorder: &mut Recorder,
+        _flusher: &mut Flusher,
+        _admin: &mut Admin,
+    ) -> Result<[bool; 4], Fail> {
+        calls(desk, recorder)
+    }
+}
+
 #[test]
 fn goes_on_without_a_refused_event(rt: HostRuntime) -> Result<(), Fail> {
-    let alloc = rt.alloc();
-    let config = read_boot(alloc, NO_TAGS)?;
-    let parties = opened(alloc, &config);
-    drop(config);
-    let Opened {
-        store,
-        recorders,
-        flusher,
-        admin,
-    } = parties?;
-    let Some(mut recorder) = first_of(&store, recorders) else {
-        return Err("no worker")?;
-    };
-    let desk = Desk {
-        rt: &rt,
-        alloc,
-        store: &store,
-        again: true,
-    };
-    let given = calls(&desk, &mut recorder);
-    let parties = Parties {
-        store,
-        recorder,
-        flusher,
-        admin,
-    };
-    let given = match given {
-        Ok(given) => given,
-        Err(fail) => {
-            drop(parties);
-            return Err(fail);
-        }
-    };
-    let end = closed(&rt, alloc, parties)?;
+    let (given, end) = course::<WithoutRefused, HostRuntime>(&rt, rt.alloc(), true)?;
     assert!(rt; sums_in(&end.last) == sums_of(given));
     // The opening of `root`, the finds, the worker's end and the sweep. The find of a refused event may stand there.
     let finds = finds_in(end.log.items());

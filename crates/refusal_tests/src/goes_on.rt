@@ -1,22 +1,14 @@
 //! Two scopes that share a counter, a histogram and a text.
-ghost use Rattle.std.specs.Prelude.{IfOk};
-ghost use Rattle.admin_side.specs.Reader.{IsReaderOf};
-ghost use Rattle.recorder.specs.declared.limits.TheConstants.{MAX_GIVEN};
-ghost use Rattle.recorder.specs.Tied.{IsWorkerOf};
-ghost use Rattle.refusal_tests.specs.Standing.{MayBeGiven, IsIdle};
 
 use crate::again::{Desk, flush, read, work};
-use crate::closing::{closed, finds_in, sums_in};
-use crate::opening::{NO_TAGS, first_of, opened};
-use crate::parties::Parties;
+use crate::closing::{finds_in, sums_in};
+use crate::row::{Row, course};
 use admin_side::Admin;
-use boot_file::read as read_boot;
 use flusher::Flusher;
 use recorder::Recorder;
 use stat_defs::{FlushRecord, MetricId, ReadRecord, ScopeId, Verdict};
 use std::sync::Wait;
 use std::test::Fail;
-use store_opening::Opened;
 
 // What came of it all.
 #[derive(Drop)]
@@ -26,41 +18,38 @@ struct Told {
     flush: FlushRecord,
 }
 
-// Eight events, a reading, a flush and two events more.
-fn calls<R: Wait>(
-    desk: &Desk<'_, R>,
-    recorder: &mut Recorder,
-    flusher: &mut Flusher,
-    admin: &mut Admin,
-) -> Result<Told, Fail>
-    requires worker { MayBeGiven desk.now.store.now MAX_GIVEN recorder.old }
-    requires flusher { IsIdle desk.now.store.now flusher.old }
-    requires reader { IsReaderOf desk.now.store.now.book desk.now.store.now.counters desk.now.store.now.gauges
-        admin.old }
-    ensures worker { IfOk result (λ _. IsWorkerOf desk.now.store.now 1 recorder.new) }
-    ensures flusher { IfOk result (λ _. IsIdle desk.now.store.now flusher.new) }
-    ensures reader { IfOk result (λ _.
-        IsReaderOf desk.now.store.now.book desk.now.store.now.counters desk.now.store.now.gauges admin.new) }
-{
-    let first = work(desk, recorder, "open p cluster.c", 131_070)?;
-    let second = work(desk, recorder, "open q cluster.c.", 131_068)?;
-    let third = work(desk, recorder, "inc p n 1", 131_066)?;
-    let fourth = work(desk, recorder, "inc q n 2", 131_064)?;
-    let fifth = work(desk, recorder, "release p", 131_062)?;
-    let sixth = work(desk, recorder, "inc q n 4", 131_060)?;
-    let seventh = work(desk, recorder, "rec q h 7", 131_058)?;
-    let eighth = work(desk, recorder, "text q t x", 131_056)?;
-    let reading = read(desk, admin)?;
-    let flush = flush(desk, recorder, flusher, 131_056)?;
-    let ninth = work(desk, recorder, "inc q n 8", 131_054)?;
-    let tenth = work(desk, recorder, "rec q h 9", 131_052)?;
-    Ok(Told {
-        verdicts: [
-            first, second, third, fourth, fifth, sixth, seventh, eighth, ninth, tenth,
-        ],
-        reading,
-        flush,
-    })
+struct SharedMetrics;
+
+impl Row for SharedMetrics {
+    type Told = Told;
+
+    // Eight events, a reading, a flush and two events more.
+    fn calls<R: Wait>(
+        desk: &Desk<'_, R>,
+        recorder: &mut Recorder,
+        flusher: &mut Flusher,
+        admin: &mut Admin,
+    ) -> Result<Told, Fail> {
+        let first = work(desk, recorder, "open p cluster.c", 131_070)?;
+        let second = work(desk, recorder, "open q cluster.c.", 131_068)?;
+        let third = work(desk, recorder, "inc p n 1", 131_066)?;
+        let fourth = work(desk, recorder, "inc q n 2", 131_064)?;
+        let fifth = work(desk, recorder, "release p", 131_062)?;
+        let sixth = work(desk, recorder, "inc q n 4", 131_060)?;
+        let seventh = work(desk, recorder, "rec q h 7", 131_058)?;
+        let eighth = work(desk, recorder, "text q t x", 131_056)?;
+        let reading = read(desk, admin)?;
+        let flush = flush(desk, recorder, flusher, 131_056)?;
+        let ninth = work(desk, recorder, "inc q n 8", 131_054)?;
+        let tenth = work(desk, recorder, "rec q h 9", 131_052)?;
+        Ok(Told {
+            verdicts: [
+                first, second, third, fourth, fifth, sixth, seventh, eighth, ninth, tenth,
+            ],
+            reading,
+            flush,
+        })
+    }
 }
 
 const VERDICTS: [Verdict; 10] = [
@@ -95,40 +84,7 @@ fn word_in(reading: &ReadRecord) -> u64 {
 
 #[test]
 fn goes_on_after_a_refusal(rt: HostRuntime) -> Result<(), Fail> {
-    let alloc = rt.alloc();
-    let config = read_boot(alloc, NO_TAGS)?;
-    let parties = opened(alloc, &config);
-    drop(config);
-    let Opened {
-        store,
-        recorders,
-        mut flusher,
-        mut admin,
-    } = parties?;
-    let Some(mut recorder) = first_of(&store, recorders) else {
-        return Err("no worker")?;
-    };
-    let desk = Desk {
-        rt: &rt,
-        alloc,
-        store: &store,
-        again: true,
-    };
-    let told = calls(&desk, &mut recorder, &mut flusher, &mut admin);
-    let parties = Parties {
-        store,
-        recorder,
-        flusher,
-        admin,
-    };
-    let told = match told {
-        Ok(told) => told,
-        Err(fail) => {
-            drop(parties);
-            return Err(fail);
-        }
-    };
-    let end = closed(&rt, alloc, parties)?;
+    let (told, end) = course::<SharedMetrics, HostRuntime>(&rt, rt.alloc(), true)?;
     assert!(rt; told.verdicts == VERDICTS);
     assert!(rt; told.reading.at == NEWEST_NAME && word_in(&told.reading) == 7);
     assert!(rt; told.flush.at == ENTRIES && sums_in(&told.flush) == (7, 1));

@@ -5,10 +5,9 @@ ghost use Rattle.recorder.specs.Tied.{IsWorkerOf};
 ghost use Rattle.refusal_tests.specs.Standing.{MayBeGiven, IsIdle};
 
 use crate::again::{Desk, late_flush, work};
-use crate::closing::{closed, sums_in};
-use crate::opening::{NO_TAGS, first_of, opened};
-use crate::parties::Parties;
-use boot_file::read as read_boot;
+use crate::closing::sums_in;
+use crate::row::{Row, course};
+use admin_side::Admin;
 use flusher::Flusher;
 use recorder::Recorder;
 use stat_defs::{Bin, BinCount, FlushRecord, Kind, LastFlush, Life, MetricId, ScopeId, Verdict};
@@ -16,7 +15,6 @@ use std::alloc::Global;
 use std::process::Abort;
 use std::sync::Wait;
 use std::test::Fail;
-use store_opening::Opened;
 
 // Three values, a flush that waits for the worker's half, and a value more.
 fn late_calls<R: Wait>(
@@ -66,40 +64,23 @@ const fn bin_of(val: u8, exp: i8, count: u64) -> BinCount {
     }
 }
 
+struct LateHalf;
+
+impl Row for LateHalf {
+    type Told = FlushRecord;
+
+    fn calls<R: Wait>(
+        desk: &Desk<'_, R>,
+        recorder: &mut Recorder,
+        flusher: &mut Flusher,
+        _admin: &mut Admin,
+    ) -> Result<FlushRecord, Fail> {
+        late_calls(desk, recorder, flusher)
+    }
+}
+
 fn turn_and_late<R: Wait + Abort>(rt: &R, alloc: Global, again: bool) -> Result<(), Fail> {
-    let config = read_boot(alloc, NO_TAGS)?;
-    let parties = opened(alloc, &config);
-    drop(config);
-    let Opened {
-        store,
-        recorders,
-        mut flusher,
-        admin,
-    } = parties?;
-    let Some(mut recorder) = first_of(&store, recorders) else {
-        return Err("no worker")?;
-    };
-    let desk = Desk {
-        rt,
-        alloc,
-        store: &store,
-        again,
-    };
-    let shown = late_calls(&desk, &mut recorder, &mut flusher);
-    let parties = Parties {
-        store,
-        recorder,
-        flusher,
-        admin,
-    };
-    let shown = match shown {
-        Ok(shown) => shown,
-        Err(fail) => {
-            drop(parties);
-            return Err(fail);
-        }
-    };
-    let end = closed(rt, alloc, parties)?;
+    let (shown, end) = course::<LateHalf, R>(rt, alloc, again)?;
     assert!(rt; has_bins(&shown, &[bin_of(70, 0, 2), bin_of(10, 2, 1)]));
     assert!(rt; has_bins(&end.last, &[bin_of(50, 0, 1)]));
     Ok(())
@@ -137,40 +118,23 @@ fn has_symbols(end: &LastFlush) -> bool {
     }
 }
 
+struct SharedSymbols;
+
+impl Row for SharedSymbols {
+    type Told = [Verdict; 6];
+
+    fn calls<R: Wait>(
+        desk: &Desk<'_, R>,
+        recorder: &mut Recorder,
+        _flusher: &mut Flusher,
+        _admin: &mut Admin,
+    ) -> Result<[Verdict; 6], Fail> {
+        shared_calls(desk, recorder)
+    }
+}
+
 fn symbols_shared<R: Wait + Abort>(rt: &R, alloc: Global, again: bool) -> Result<(), Fail> {
-    let config = read_boot(alloc, NO_TAGS)?;
-    let parties = opened(alloc, &config);
-    drop(config);
-    let Opened {
-        store,
-        recorders,
-        flusher,
-        admin,
-    } = parties?;
-    let Some(mut recorder) = first_of(&store, recorders) else {
-        return Err("no worker")?;
-    };
-    let desk = Desk {
-        rt,
-        alloc,
-        store: &store,
-        again,
-    };
-    let verdicts = shared_calls(&desk, &mut recorder);
-    let parties = Parties {
-        store,
-        recorder,
-        flusher,
-        admin,
-    };
-    let verdicts = match verdicts {
-        Ok(verdicts) => verdicts,
-        Err(fail) => {
-            drop(parties);
-            return Err(fail);
-        }
-    };
-    let end = closed(rt, alloc, parties)?;
+    let (verdicts, end) = course::<SharedSymbols, R>(rt, alloc, again)?;
     assert!(rt; verdicts == VERDICTS);
     assert!(rt; sums_in(&end.last) == (7, 0) && has_symbols(&end));
     Ok(())
