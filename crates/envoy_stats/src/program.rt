@@ -52,12 +52,15 @@ pub fn envoy_stats_with<R: Threads + Wait + Sync, K: PatternMaker, F: Shelf, O: 
 ///
 /// - At every moment of every interleaving: the rules `Counted`, `Gauged`, `Locked` and `Turned`, which each atomic step
 ///   keeps.
-/// - Latched deltas and the pending word: `Counted.pending`; of the report `Account.units`, by which the deltas of all
-///   flushes are the accepted units.
+/// - Latched deltas and the pending word: `Counted.pending`, and `DidItsWork.adds` of each worker; of the report
+///   `Account.units`, by which the deltas of all flushes are the accepted units.
 /// - Merged bins, each value in one merge: `FlusherAccounts.halves`; of the report `FitAll` and `Account.values`.
-/// - Symbol numbers: `Legal`, by `LegalIsSafe`.
+/// - Symbol numbers: `Legal`, by `LegalIsSafe`; a cache gives what its seat holds by the log, `SameHeld`.
 /// - Nothing pending after the last flush: `Closes.emptied`; of the report `Account.units` again.
 /// - The bytes written: `Runs`, by `IsReported.written`.
+///
+/// The contract speaks of the end, of the report and its text; what holds at every moment stands in those rules. Tests
+/// alone show that threads ran side by side, and that flushes and readings come from the running store.
 pub fn envoy_stats<R: Threads + Wait + Sync, K: PatternMaker, F: Shelf, O: Sink, E: Sink>(
     rt: &R,
     alloc: Global,
