@@ -102,11 +102,14 @@ def by_kind(folder, programs):
 
 
 def of_many(folder, programs):
-    """Instructions of 1, 4 and 32 files of 16,384 events, and memory where 64 histograms are warm in each worker."""
-    files = [write(folder, "few%d" % w, mixed(w, FULL // 8, "")) for w in range(1, 33)]
-    for count in (1, 4, 32):
-        counts = [instructions([p, "run", "-"] + files[:count]) for p in programs]
-        print("instructions, %d files:" % count, " to ".join("%.1f million" % (c / 1e6) for c in counts), flush=True)
+    """Instructions of 1, 4 and 32 files of 16,384 events and of full ones, and memory where 64 histograms are warm in
+    each worker."""
+    for events in (FULL // 8, FULL):
+        files = [write(folder, "of%d" % w, mixed(w, events, "")) for w in range(1, 33)]
+        for count in (1, 4, 32):
+            counts = [instructions([p, "run", "-"] + files[:count]) for p in programs]
+            said = " to ".join("%.1f million" % (c / 1e6) for c in counts)
+            print("instructions, %d files of %d events: %s" % (count, events, said), flush=True)
     warm = [write(folder, "warm%d" % w, mixed(w, FULL, "", 64)) for w in range(1, 33)]
     print("32 files, 64 histograms:", "; ".join(map(told, least([[p, "run", "-"] + warm for p in programs]))), flush=True)
 

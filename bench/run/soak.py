@@ -3,7 +3,8 @@
 
 usage: soak.py PROGRAM [RUNS [SEED]]       200 runs where none are said; each of 8 files with 20 flushes and 20 readings
 
-Each run has a bootstrap and files of its own, a format and, every other time, the symbols. Each is replayed too. What
+Each run has a bootstrap and files of its own, a format and, every other time, the symbols. A file is a plain one or a
+pipe, whose text comes in pieces of random lengths, cut anywhere in its lines. Each run is replayed too. What
 the events come to is told by `model.py`, which knows no threads; `checks.py` compares. A line says of each fault what
 was wrong, and where its files are; the last line is what was done. The status is the number of runs with a fault, at
 most 100.
@@ -16,6 +17,7 @@ import re
 import subprocess
 import sys
 import tempfile
+import threading
 import time
 
 from checks import Output, check
@@ -32,6 +34,36 @@ def write(place, name, text):
         file.write(text)
 
 
+def pour(rng, path, text):
+    """Writes a text into a pipe, a piece at a time, until its reader goes away."""
+    try:
+        pipe = os.open(path, os.O_WRONLY)
+        while text:
+            size = rng.choice([1, 7, rng.randrange(1, 100), rng.randrange(1, 9000)])
+            text = text[os.write(pipe, text[:size]):]
+        os.close(pipe)
+    except OSError:
+        pass
+
+
+def open_pipes(rng, place, piped):
+    """Makes the pipes of these files, each with a thread that pours the file's text into it."""
+    for name in piped:
+        path = os.path.join(place, name + ".pipe")
+        os.mkfifo(path)
+        with open(os.path.join(place, name), "rb") as file:
+            text = file.read()
+        threading.Thread(target=pour, args=(random.Random(rng.random()), path, text), daemon=True).start()
+
+
+def close_pipes(place, piped):
+    """Lets a thread go whose pipe was not opened, and takes the pipes away."""
+    for name in piped:
+        path = os.path.join(place, name + ".pipe")
+        os.close(os.open(path, os.O_RDONLY | os.O_NONBLOCK))
+        os.remove(path)
+
+
 def prepare(rng, place):
     """Writes a bootstrap and its files, and gives what they come to."""
     goes, quarrels = rng.random() < 0.6, rng.random() < 0.4
@@ -44,19 +76,24 @@ def prepare(rng, place):
     return Model(boot, scripts)
 
 
-def call(program, place, words):
-    names = ["boot"] + ["f%d" % worker for worker in range(1, FILES + 1)]
+def call(rng, program, place, words):
+    files = ["f%d" % worker for worker in range(1, FILES + 1)]
+    piped = [name for name in files if rng.random() < 0.3]
+    names = ["boot"] + [name + ".pipe" if name in piped else name for name in files]
+    open_pipes(rng, place, piped)
     try:
         done = subprocess.run([program] + words + names, cwd=place, capture_output=True, timeout=LONGEST)
     except subprocess.TimeoutExpired:
         return -1, "", "not done after %d s" % LONGEST
+    finally:
+        close_pipes(place, piped)
     return done.returncode, done.stdout.decode("ascii", "replace"), done.stderr.decode("ascii", "replace")
 
 
-def faults_of(program, place, model, command, fmt, symbols, tally):
+def faults_of(rng, program, place, model, command, fmt, symbols, tally):
     """What is wrong with one call."""
     words = [command] + (["--symbols"] if symbols else []) + ["--format", fmt]
-    status, out, err = call(program, place, words)
+    status, out, err = call(rng, program, place, words)
     wrong = ["status %d, %r" % (status, err)] if status or err else []
     runs = command == "run"
     asked = {"format": fmt, "symbols": symbols, "prefix": "soak",
@@ -89,7 +126,7 @@ def main():
         fmt, symbols = FORMATS[run % len(FORMATS)], run % 2 == 0
         wrong = []
         for command in ("run", "replay"):
-            faults = faults_of(program, place, model, command, fmt, symbols, tally)
+            faults = faults_of(rng, program, place, model, command, fmt, symbols, tally)
             wrong += ["%s: %s" % (command, what) for what in faults]
         tally[fmt] += 1
         tally["events"] += sum(events for _, _, events in model.workers)
