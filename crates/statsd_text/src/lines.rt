@@ -16,8 +16,9 @@ fn plain(b: u8) -> u8
 fn put_plain(text: &mut Vec<u8>, bytes: &[u8]) -> Result<(), AllocError>
     ensures { OnOk result (text.new.items ≡ text.old.items ++ map plain_byte bytes.now) }
 {
+    text.reserve(bytes.len())?;
     for b in bytes {
-        text.push(plain(*b))?;
+        text.push_reserved(plain(*b));
     }
     Ok(())
 }
