@@ -49,7 +49,8 @@ pub record AreRead (contents : List (Option (List ℕ))) (events : List (List Ev
       contents (zip report.ends events)
   pub counted : AllByRecursion (λ end. TakenAtFault end.end end.taken) report.ends
 
--- 2. The log is legal, and each worker's entries follow its events.
+-- 2. The log is legal, so no symbol number is drawn again while a live name or a worker's cache has it, and each worker's
+-- entries follow its events.
 pub record HasHistory (plan : RunPlan) (workers : List Work) (report : Report) : Type 0 where
   pub legal : Legal plan.rules plan.scopes (length workers) report.log
   pub follows : EachNumbered (λ seat work.
@@ -64,7 +65,9 @@ pub record AreSwept (plan : RunPlan) (report : Report) : Type 0 where
   pub ended : OfLast (λ last. list_all (λ (e : Entry). not (is_end e.call)) (drop last.at report.log) ≡ true)
       report.flushes
 
--- 4. The flushes account for all that was accepted, each unit and each value once.
+-- 4. The flushes account for all that was accepted, each unit and each value once: what a counter's flushes have latched
+-- so far and what is pending, which later flushes latch, are together its accepted units, and the last one leaves nothing
+-- pending. Each value stands in one segment of its worker, and so is merged once, by the flush that took it.
 pub record Account (plan : RunPlan) (workers : List Work) (report : Report) : Type 0 where
   pub flushes : FitAll plan.rules report.log workers report.flushes
   pub units : AllByRecursion (λ id. flushed id.0 report.flushes ≡ units_of id.0 workers)
