@@ -11,7 +11,8 @@ use Rattle.output_options.specs.declared.Format.TheVariants.{Statsd, Prom, Admin
 use Rattle.output_options.specs.declared.OutputOptions.{OutputOptions}
 use Rattle.command_words.specs.Sorted.{Sorted, sorted}
 use Rattle.load_scripts.specs.declared.limits.TheConstants.{MAX_SCRIPTS, MAX_SCRIPT_EVENTS}
-use Rattle.command_words.specs.declared.limits.TheConstants.{MAX_FILES, MAX_VALUES}
+use Rattle.file_reading.specs.declared.limits.TheConstants.{MAX_FILES}
+use Rattle.command_words.specs.declared.limits.TheConstants.{MAX_VALUES}
 
 -- a command, with what its words name
 pub data Command : Type 0 where

@@ -1,6 +1,6 @@
 //! A command, with what its words name.
 ghost use Rattle.std.specs.Prelude.{◌≤◌, vec_len};
-ghost use Rattle.command_words.specs.declared.limits.TheConstants as limits;
+ghost use Rattle.file_reading.specs.declared.limits.TheConstants as limits;
 ghost use Rattle.load_scripts.specs.declared.limits.TheConstants as load_limits;
 
 use output_options::OutputOptions;

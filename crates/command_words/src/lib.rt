@@ -11,7 +11,7 @@ mod sorting;
 
 pub use command::{Command, Load, Reporting};
 pub use commands::command_of;
-pub use limits::{MAX_FILES, MAX_VALUES};
+pub use limits::MAX_VALUES;
 
 #[cfg(test)]
 mod tests;

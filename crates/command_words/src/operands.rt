@@ -3,11 +3,12 @@ ghost use Rattle.std.specs.Prelude.{◌≡◌, ◌≤◌, IfOk, is_some, length,
 ghost use Rattle.std.specs.List.{filter_map, list_all};
 ghost use Rattle.command_words.specs.Command.{are_files, are_values, format_asked, format_in, over_files, value_in};
 ghost use Rattle.command_words.specs.Views.{reporting_as};
-ghost use Rattle.command_words.specs.declared.limits.TheConstants as limits;
+ghost use Rattle.file_reading.specs.declared.limits.TheConstants as limits;
 
 use crate::command::Reporting;
-use crate::limits::{MAX_FILES, MAX_VALUES};
+use crate::limits::MAX_VALUES;
 use crate::numbers::value_in;
+use file_reading::MAX_FILES;
 use output_options::{Format, OutputOptions};
 use stat_defs::NoMemory;
 use std::alloc::Global;

@@ -8,7 +8,7 @@ use Rattle.book_state.specs.declared.limits.TheConstants.{MAX_WORKERS}
 use Rattle.ledger.specs.Ledger.{HasNames, plan_of}
 use Rattle.flush_view.proofs.LedgerNames.{names_of_ledgers}
 use Rattle.flush_view.proofs.Showable.{ledgers_show}
-use Rattle.replay_report.specs.declared.replaying.TheConstants.{MAX_FILES}
+use Rattle.file_reading.specs.declared.limits.TheConstants.{MAX_FILES}
 use Rattle.file_reading.specs.FileRead.{FileRead}
 use Rattle.run_report.specs.RunReport.{IsRunOf}
 use Rattle.run_report.proofs.HeldAlike.{run_alike}

@@ -18,9 +18,10 @@ module _ {K F S O E : Type 0} (see : Sight K F S O E) (before after : World K F 
   Runs options boot names outcome = Reports see before after (IsRunOf see.shelf see.source (see.holds before.shelf))
       options boot names outcome.status outcome.report outcome.boot_faults
 
-  -- What a call of the program does: that of `quiet_stats`, and two cases more. A run comes to its report by a worker a
-  -- file, a flusher and a reader side by side, and a load side by side by a worker a script; every other command starts no
-  -- thread.
+  -- What a call of the program does: that of `quiet_stats`, and two cases more. The report of a run is one that a worker a
+  -- file, a flusher and a reader may come to, in some interleaving of their steps, and that of a load side by side one of a
+  -- worker a script. That they go on side by side, that flushes and readings come from the running store, and that every
+  -- other command starts no thread, is in no contract: tests show the first two, and the other commands take no handle.
   pub record IsProgramCall (words : List (List ℕ)) (outcome : Outcome) : Type 0 where
     pub call : IsCall see before after (command words) outcome
     pub ran : (options : OutputOptions) (boot : List ℕ) (names : List (List ℕ))

@@ -50,14 +50,16 @@ pub fn envoy_stats_with<R: Threads + Wait + Sync, K: PatternMaker, F: Shelf, O: 
 /// merge; no symbol number is given again while a live name or cache holds it; once recorders have returned, the last
 /// flush leaves nothing pending, and the bytes written are that ledger's defined text.
 ///
-/// - At every moment of every interleaving: the rules `Counted`, `Gauged`, `Locked` and `Turned`, which each atomic step
-///   keeps.
-/// - Latched deltas and the pending word: `Counted.pending`, and `DidItsWork.adds` of each worker; of the report
-///   `Account.units`, by which the deltas of all flushes are the accepted units.
-/// - Merged bins, each value in one merge: `FlusherAccounts.halves`; of the report `FitAll` and `Account.values`.
-/// - Symbol numbers: `Legal`, by `LegalIsSafe`; a cache gives what its seat holds by the log, `SameHeld`.
-/// - Nothing pending after the last flush: `Closes.emptied`; of the report `Account.units` again.
-/// - The bytes written: `Runs`, by `IsReported.written`.
+/// - At every moment of every interleaving: the rules `Counted` and `Gauged` (`metric_words`), `Locked` (`book_lock`) and
+///   `Turned` (`turn_cell`), which each atomic step keeps.
+/// - Latched deltas and the pending word: `Counted.pending`, and `DidItsWork.adds` of each worker (`run_ledger`); of the
+///   report `Account.units` (`ledger`), by which the deltas of all flushes are the accepted units.
+/// - Merged bins, each value in one merge: `FlusherAccounts.halves` (`flusher`); of the report `FitAll` and
+///   `Account.values` (`ledger`).
+/// - Symbol numbers: `Legal`, by `LegalIsSafe` (`book_state`); a cache gives what its seat holds by the log, `SameHeld`
+///   (`thread_cache`).
+/// - Nothing pending after the last flush: `Closes.emptied` (`store_closing`); of the report `Account.units` again.
+/// - The bytes written: `Runs` (this crate), by `IsReported.written` (`stats_commands`).
 ///
 /// The contract speaks of the end, of the report and its text; what holds at every moment stands in those rules. Tests
 /// alone show that threads ran side by side, and that flushes and readings come from the running store.

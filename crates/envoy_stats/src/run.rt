@@ -1,6 +1,6 @@
 //! `run [--symbols] [--format F] BOOT FILE..`.
 ghost use Rattle.std.specs.Prelude.{◌≤◌, IfOk, length, map, string_bytes};
-ghost use Rattle.replay_report.specs.declared.replaying.TheConstants as limits;
+ghost use Rattle.file_reading.specs.declared.limits.TheConstants as limits;
 ghost use Rattle.run_report.specs.RunReport.{IsRunOf};
 ghost use Rattle.stats_commands.specs.World.{world, sight};
 ghost use Rattle.stats_commands.specs.Replay.{IsBuilt, Records};
@@ -9,6 +9,7 @@ ghost use Rattle.envoy_stats.specs.Running.{Runs};
 use boot_load::{Boot, LoadFault, load};
 use command_words::Reporting;
 use name_map::HashKey;
+use run_files::Setup;
 use run_report::run_names;
 use stat_defs::{NoMemory, Reported};
 use stats_commands::{Outcome, Recorded, give_up, refuse_boot, tell};
@@ -40,9 +41,13 @@ fn record<R: Threads + Wait + Sync, F: Shelf>(
         buckets,
         view_rules: _,
     } = boot;
-    let Reported { report, names } = run_names(
-        rt, alloc, key, &config, rules, matcher, files, shelf,
-    )?;
+    let setup = Setup {
+        key,
+        config: &config,
+        rules,
+        matcher,
+    };
+    let Reported { report, names } = run_names(rt, alloc, setup, files, shelf)?;
     Ok(Recorded {
         report,
         names,

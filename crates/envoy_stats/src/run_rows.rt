@@ -12,7 +12,7 @@ use std::sync::Wait;
 use std::test::Fail;
 use std::thread::Threads;
 use tag_rules::RegexMaker;
-use test_support::{EDGE_JSON, Played, Wanted, file_of, shelf_of, shelf_with, words_of};
+use test_support::{EDGE_JSON, Played, Wanted, file_of, shelf_of, words_of};
 
 // What a call of the program over that shelf comes to, with that output sink.
 fn run_into<R: Threads + Wait + Sync>(
@@ -49,12 +49,12 @@ fn run_over<R: Threads + Wait + Sync>(
     run_into(rt, alloc, words, shelf, out)
 }
 
-// A call with the files `f1` and `f2`, the number of the pull that fails of each file, and what it comes to.
+// A call with the files `f1` and `f2`, for each file the number of the pull that fails, and what the call comes to.
 #[derive(Clone, Copy)]
 struct Row {
     words: &'static str,
     files: [&'static str; 2],
-    failing_pull: u64,
+    failing_pulls: [u64; 2],
     status: u8,
     out: &'static str,
     err: &'static str,
@@ -64,7 +64,7 @@ const ROWS: [Row; 6] = [
     Row {
         words: "run - f1 f2",
         files: ["inc root a 1\ninc root a 2\n", "inc root a 4\n"],
-        failing_pull: 99,
+        failing_pulls: [99, 99],
         status: 0,
         out: "# last\nenvoy.a:7|c\n# worker 1: 2 accepted, 0 dropped\n# worker 2: 1 accepted, 0 dropped\n",
         err: "",
@@ -75,31 +75,31 @@ const ROWS: [Row; 6] = [
             "text root t x y\nadd root g acc 5\nsub root g acc 7\ninc web n 1\n",
             "",
         ],
-        failing_pull: 99,
+        failing_pulls: [99, 99],
         status: 0,
         out: "# last\nt: \"x y\"\ng: -2\n# worker 1: 3 accepted, 1 dropped\n",
         err: "",
     },
     Row {
-        words: "run - f1 f9 f2",
+        words: "run - f1 f9",
         files: ["inc root a 1\n", "inc root a 4\n"],
-        failing_pull: 99,
+        failing_pulls: [99, 99],
         status: 4,
-        out: "# last\nenvoy.a:5|c\n# worker 1: 1 accepted, 0 dropped\n# worker 2: 0 accepted, 0 dropped\n# worker 3: 1 accepted, 0 dropped\n",
+        out: "# last\nenvoy.a:1|c\n# worker 1: 1 accepted, 0 dropped\n# worker 2: 0 accepted, 0 dropped\n",
         err: "file 2: not opened\n",
     },
     Row {
         words: "run - f1 f2",
         files: ["inc root a 1\ninc root b 2\n", "inc root c 4\n"],
-        failing_pull: 1,
+        failing_pulls: [1, 99],
         status: 4,
         out: "# last\nenvoy.a:1|c\nenvoy.c:4|c\n# worker 1: 1 accepted, 0 dropped\n# worker 2: 1 accepted, 0 dropped\n",
-        err: "file 1: read failed\nfile 2: read failed\n",
+        err: "file 1: read failed\n",
     },
     Row {
         words: "run - f1 f2",
         files: ["inc root a 1\nbogus\n", "inc root c 4\n"],
-        failing_pull: 99,
+        failing_pulls: [99, 99],
         status: 3,
         out: "# last\nenvoy.a:1|c\nenvoy.c:4|c\n# worker 1: 1 accepted, 0 dropped\n# worker 2: 1 accepted, 0 dropped\n",
         err: "file 1 line 2: no event\n",
@@ -107,7 +107,7 @@ const ROWS: [Row; 6] = [
     Row {
         words: "run f1 f2",
         files: ["[", "inc root c 4\n"],
-        failing_pull: 99,
+        failing_pulls: [99, 99],
         status: 2,
         out: "",
         err: "boot: not json\n",
@@ -117,15 +117,13 @@ const ROWS: [Row; 6] = [
 #[test]
 fn workers_side_by_side(rt: HostRuntime) -> Result<(), Fail> {
     for row in ROWS {
+        let alloc = rt.alloc();
         let [first, second] = row.files;
-        let shelf = shelf_with(
-            rt.alloc(),
-            first.as_bytes(),
-            second.as_bytes(),
-            b"",
-            row.failing_pull,
-        )?;
-        let played = run_over(&rt, rt.alloc(), row.words, shelf, 9_999)?;
+        let [of_first, of_second] = row.failing_pulls;
+        let first = file_of(alloc, "f1", first.as_bytes(), of_first)?;
+        let second = file_of(alloc, "f2", second.as_bytes(), of_second)?;
+        let shelf = MemShelf::new(vec![in alloc; first, second]?, Vec::new(alloc));
+        let played = run_over(&rt, alloc, row.words, shelf, 9_999)?;
         let wanted = Wanted {
             status: row.status,
             reports: row.status != 2,

@@ -1,4 +1,4 @@
--- Files that are read one after another. This project's own.
+-- What was read of files, each by itself, by one reader or by readers side by side. This project's own.
 use Rattle.std.specs.Prelude.{◌≡◌, ℕ, Bool, true, false, Option, List, [], ◌∷◌, count_by}
 use Rattle.std.specs.List.{flat_map}
 use Rattle.stat_defs.specs.declared.events.Event.{Event}
@@ -15,7 +15,7 @@ pub record FileRead : Type 0 where
   pub events : List Event
   pub end : WorkerEnd
 
--- the events of all files, one file after another
+-- the events of all files, in the order of the files
 abbrev pub all_events : List FileRead → List Event
 all_events files = flat_map (λ file. file.events) files
 
@@ -25,7 +25,7 @@ module _ {F S : Type 0} (shelf : F → ShelfState) (source : S → SourceState) 
     pub run : AreEventsOf (holds name) file.end.end file.end.taken file.events
     pub cause : HasCause source (holds name) name (shelf before) (shelf after) file.end file.end.end
 
-  -- the files of these names were read in order, each between two states of the shelf
+  -- the files of these names were taken from the shelf in order, each between two states of it, and read
   abbrev pub AreFiles : List (List ℕ) → F → F → List FileRead → Type 0
   AreFiles [] before after [] = after ≡ before
   AreFiles [] before after (file ∷ files) = ⊥

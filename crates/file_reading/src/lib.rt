@@ -4,9 +4,11 @@
 #![tactic(auto)]
 
 mod laws;
+mod limits;
 mod opening;
 mod reading;
 
 pub use laws::each_unopened_file_has_its_fault;
+pub use limits::MAX_FILES;
 pub use opening::open_file;
 pub use reading::{FileRun, end_of, event_or_end, not_opened};

@@ -2,7 +2,7 @@
 //! behind a failure before it drops the source has the same contract.
 ghost use Rattle.std.specs.Prelude.{◌≤◌, IfOk, length};
 ghost use Rattle.stat_defs.specs.Configs.{IsConfig};
-ghost use Rattle.replay_report.specs.declared.replaying.TheConstants as limits;
+ghost use Rattle.file_reading.specs.declared.limits.TheConstants as limits;
 
 use crate::metered::{Meter, MeteredShelf};
 use boot_file::usual;

@@ -4,4 +4,4 @@
 mod reading;
 mod replaying;
 
-pub use replaying::{MAX_FILES, replay_files, report_of};
+pub use replaying::{replay_files, report_of};

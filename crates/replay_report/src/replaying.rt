@@ -2,7 +2,7 @@
 ghost use Rattle.std.specs.Prelude.{◌≡◌, ◌≤◌, length, map, string_bytes, IfOk};
 ghost use Rattle.stat_defs.specs.Configs.{IsConfig};
 ghost use Rattle.ledger.specs.Ledger.{HasNames, plan_of};
-ghost use Rattle.replay_report.specs.declared.replaying.TheConstants as limits;
+ghost use Rattle.file_reading.specs.declared.limits.TheConstants as limits;
 ghost use Rattle.replay_report.specs.FileRun.{reported_with};
 ghost use Rattle.replay_report.specs.ReplayReport.{IsReplayOf};
 
@@ -13,12 +13,6 @@ use stat_defs::{Config, LastFlush, List, NoMemory, Report, Reported, Verdict, Wo
 use stats_io::Shelf;
 use std::alloc::Global;
 use tag_rules::{Matcher, TagRules};
-
-/// Maximum number of files of one replay.
-pub const MAX_FILES: usize = 32;
-
-// The value that operators are told: contracts have it by name.
-const _: () = prove!(MAX_FILES == 32);
 
 /// The report of events with these verdicts, a list each of files or of scripts that ended so, whose store gave this last
 /// flush: it has no other flush, and no readings. It comes with the names in its log.

@@ -17,7 +17,8 @@ use std::thread::Threads;
 use worker_run::Given;
 
 /// Runs the files side by side, each with a worker of its own, beside a flusher and a reader that make as many flushes
-/// and readings as the configuration asks for, and gives the report with the names in its log. Each event, flush and reading waits for the gate.
+/// and readings as the configuration asks for, and gives the report with the names in its log. Each event, flush and
+/// reading waits for the gate.
 ///
 /// All threads have ended when it returns. Where a worker is out of memory, the flusher and the reader make no further
 /// round, and whatever comes the gate is told once of each worker that is done.

@@ -10,7 +10,7 @@ use Rattle.boot_load.specs.declared.fault.LoadFault.{LoadFault}
 use Rattle.boot_load.specs.BootLine.{boot_line}
 use Rattle.flush_view.specs.Showing.{IsShowable}
 use Rattle.flush_view.specs.Views.{names_shown, view_rules}
-use Rattle.replay_report.specs.declared.replaying.TheConstants.{MAX_FILES}
+use Rattle.file_reading.specs.declared.limits.TheConstants.{MAX_FILES}
 use Rattle.text_parts.specs.declared.fault.TextFault.{TextFault}
 use Rattle.text_parts.specs.declared.fault.TextFault.TheVariants.{WriteFault, NoMemory}
 use Rattle.stats_commands.specs.declared.status.TheConstants.{UNWRITTEN, NO_MEMORY}

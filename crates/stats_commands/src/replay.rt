@@ -1,6 +1,6 @@
 //! `replay [--symbols] [--format F] BOOT FILE..`.
 ghost use Rattle.std.specs.Prelude.{◌≡◌, ◌≤◌, IfOk, length, map, string_bytes};
-ghost use Rattle.replay_report.specs.declared.replaying.TheConstants as limits;
+ghost use Rattle.file_reading.specs.declared.limits.TheConstants as limits;
 ghost use Rattle.replay_report.specs.ReplayReport.{IsReplayOf};
 ghost use Rattle.report_text.specs.ReportText.{report_text};
 ghost use Rattle.stats_commands.specs.FaultLines.{fault_lines};

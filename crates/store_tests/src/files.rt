@@ -1,7 +1,7 @@
 //! Reports of files in memory under the usual configuration.
 ghost use Rattle.std.specs.Prelude.{◌≤◌, IfOk, length};
 ghost use Rattle.stat_defs.specs.Configs.{IsConfig};
-ghost use Rattle.replay_report.specs.declared.replaying.TheConstants as limits;
+ghost use Rattle.file_reading.specs.declared.limits.TheConstants as limits;
 
 use boot_file::usual;
 use name_map::HashKey;

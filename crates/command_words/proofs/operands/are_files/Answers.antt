@@ -1,6 +1,6 @@
 use Rattle.std.proofs.Common.{rules, arith}
 use Rattle.command_words.specs.Command.{is_name}
-use Rattle.command_words.specs.declared.limits.TheConstants.{MAX_FILES}
+use Rattle.file_reading.specs.declared.limits.TheConstants.{MAX_FILES}
 use Rattle.command_words.proofs.OperandLists.{are_some_of}
 use Rattle.command_words.proofs.operands.are_files.Goals as goal
 

@@ -1,7 +1,7 @@
 use Rattle.std.proofs.Common.{◌≡◌, ◌≤◌, ℕ, length, map, sym, subst, string_bytes, arith}
 use Rattle.std.proofs.lemmas.List.{length-map}
 use Rattle.ledger.specs.Ledger.{HasNames, plan_of}
-use Rattle.replay_report.specs.declared.replaying.TheConstants.{MAX_FILES}
+use Rattle.file_reading.specs.declared.limits.TheConstants.{MAX_FILES}
 use Rattle.envoy_stats.proofs.RunShown.{run_records}
 use Rattle.envoy_stats.proofs.run.record.Goals as goal
 

@@ -19,7 +19,7 @@ run_files-requires-clause-files g c _ _ =
 
 pub returns-clause-report : goal.returns-clause-report
 returns-clause-report g c =
-    reported g.F.Shelf.state g.F.S.Source.state (g.F.Shelf.holds c.args.shelf.now) c.args.config.now
+    reported g.F.Shelf.state g.F.S.Source.state (g.F.Shelf.holds c.args.shelf.now) c.args.setup.config.now
     (map string_bytes c.args.names.now) c.args.shelf.now c.open_files.new.shelf c.in_ok-files.field-0
     c.in_ok-files.ensures c.in_ok-made.made.report c.in_ok-made.ensures.report c.with_ends.result
     (rw c.deref.ensures.value at c.with_ends.ensures)
@@ -27,7 +27,7 @@ returns-clause-report g c =
 pub returns-clause-names : goal.returns-clause-names
 returns-clause-names g c =
     let names = c.args.names.now in
-    let rules = (plan_of c.args.config.now).rules in
+    let rules = (plan_of c.args.setup.config.now).rules in
     let workers : length c.in_ok-files.field-0.files.items ≡ length names =
     a_file_each g.F.Shelf.state g.F.S.Source.state (g.F.Shelf.holds c.args.shelf.now) (map string_bytes names)
     c.args.shelf.now c.open_files.new.shelf c.in_ok-files.field-0 c.in_ok-files.ensures

@@ -1,6 +1,6 @@
 use Rattle.std.proofs.Common.{◌≤◌, length, map, string_bytes, arith}
 use Rattle.std.proofs.lemmas.List.{length-map}
-use Rattle.replay_report.specs.declared.replaying.TheConstants.{MAX_FILES}
+use Rattle.file_reading.specs.declared.limits.TheConstants.{MAX_FILES}
 use Rattle.stats_commands.proofs.Shown.{records}
 use Rattle.stats_commands.proofs.replay.record.Goals as goal
 
