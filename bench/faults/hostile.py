@@ -205,9 +205,7 @@ def rules_of(count, names):
     scopes = [{"label": "s", "prefix": "a" * 255}]
     boot = put_boot("b%d" % count, {"stats_config": config, "stats_run": {"scopes": scopes}})
     lines = ["inc s %s%03d 1" % ("a" * 252, at) for at in range(names)]
-    return Case([put("f%d" % count, lines)], boot=boot, ends=lambda told: told == [(names, 0)],
-                slow="the 96 patterns are compiled before a name is read, and check takes as long; the bootstrap is the "
-                     "operator's own")
+    return Case([put("f%d" % count, lines)], boot=boot, ends=lambda told: told == [(names, 0)])
 
 
 def rules():

@@ -101,9 +101,14 @@ def by_kind(folder, programs):
             print("user time, %d files, %s:" % (count, kind), " to ".join("%.0f ms" % u for u in users), flush=True)
 
 
+def paced(folder, name, **run):
+    """A bootstrap with flushes and readings of the run."""
+    return write(folder, name, [json.dumps({"stats_run": run})])
+
+
 def of_many(folder, programs):
     """Instructions of 1, 4 and 32 files of 16,384 events and of full ones, and memory where 64 histograms are warm in
-    each worker."""
+    each worker: in the half that it fills alone, where there is no flush, and in both, where there are four."""
     for events in (FULL // 8, FULL):
         files = [write(folder, "of%d" % w, mixed(w, events, "")) for w in range(1, 33)]
         for count in (1, 4, 32):
@@ -111,11 +116,27 @@ def of_many(folder, programs):
             said = " to ".join("%.1f million" % (c / 1e6) for c in counts)
             print("instructions, %d files of %d events: %s" % (count, events, said), flush=True)
     warm = [write(folder, "warm%d" % w, mixed(w, FULL, "", 64)) for w in range(1, 33)]
-    print("32 files, 64 histograms:", "; ".join(map(told, least([[p, "run", "-"] + warm for p in programs]))), flush=True)
+    turned = paced(folder, "turned", flushes=4, flush_every=32 * FULL // 5)
+    rows = least([[p, "run", "-"] + warm for p in programs] + [[programs[0], "run", turned] + warm])
+    print("32 files, 64 histograms:", "; ".join(map(told, rows[:-1])), "; with four flushes", told(rows[-1]), flush=True)
+
+
+def of_processes(program, files):
+    """Wall time in ms of a process for each file, all at once: the least of the rounds."""
+    times = []
+    for _ in range(ROUNDS):
+        start = time.perf_counter()
+        children = [subprocess.Popen([program, "run", "-", file], stdout=subprocess.DEVNULL) for file in files]
+        if any([child.wait() for child in children]):
+            sys.exit("a process failed")
+        times.append((time.perf_counter() - start) * 1e3)
+    return min(times)
 
 
 def told(figures):
-    return "wall %.0f ms, user %.0f ms, system %.0f ms, %.1f MB" % tuple(figures)
+    """The figures, with the processors that the run got."""
+    wall, user, system, _ = figures
+    return "wall %.0f ms, user %.0f ms, system %.0f ms, %.1f MB, %.1f processors" % (*figures, (user + system) / wall)
 
 
 def main():
@@ -138,12 +159,14 @@ def main():
             print("4 files of %s, run beside replay: %s; %s; wall %.2f" % (name, told(run), told(replay), run[0] / replay[0]))
         one, four = least([[programs[0], "run", "-"] + apart[:count] for count in (1, 4)])
         print("4 files beside 1 of them: wall %.2f, user %.2f" % (four[0] / one[0], four[1] / one[1]))
-        paced = write(folder, "paced", [json.dumps({"stats_run": {"flushes": 64, "flush_every": 4 * FULL // 64, "reads": 64}})])
+        alone, together = (of_processes(programs[0], apart[:count]) for count in (1, 4))
+        print("4 processes of a file each beside 1 of them: wall %.2f" % (together / alone))
+        rounds = paced(folder, "paced", flushes=64, flush_every=4 * FULL // 64, reads=64)
         for name, files in (("the same 512 names", same[:4]), ("differing names", apart)):
-            none, many = least([[programs[0], "run", boot] + files for boot in ("-", paced)])
+            none, many = least([[programs[0], "run", boot] + files for boot in ("-", rounds)])
             print("4 files of %s, 64 flushes and 64 readings: %s; beside none: wall %.2f, user %.2f"
                   % (name, told(many), many[0] / none[0], many[1] / none[1]), flush=True)
-            before = [min(first_byte([programs[0], "run", boot] + files) for _ in range(ROUNDS)) for boot in ("-", paced)]
+            before = [min(first_byte([programs[0], "run", boot] + files) for _ in range(ROUNDS)) for boot in ("-", rounds)]
             print("  until the first byte of the output: %.1f ms, %.1f ms, %.2f" % (*before, before[1] / before[0]), flush=True)
     print("load %.1f" % os.getloadavg()[0])
 

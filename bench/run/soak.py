@@ -3,11 +3,10 @@
 
 usage: soak.py PROGRAM [RUNS [SEED]]       200 runs where none are said; each of 8 files with 20 flushes and 20 readings
 
-Each run has a bootstrap and files of its own, a format and, every other time, the symbols. A file is a plain one or a
-pipe, whose text comes in pieces of random lengths, cut anywhere in its lines. Each run is replayed too. What
-the events come to is told by `model.py`, which knows no threads; `checks.py` compares. A line says of each fault what
-was wrong, and where its files are; the last line is what was done. The status is the number of runs with a fault, at
-most 100.
+Each run draws a bootstrap, files, a format, and whether symbols are asked for. A file is a plain one or a pipe, whose
+text comes in pieces of random lengths, cut anywhere in its lines. Each run is replayed too. What the events come to is
+told by `model.py`, which knows no threads; `checks.py` compares. A line says of each fault what was wrong, and where
+its files are; the last line is what was done. The status is the number of runs with a fault, at most 100.
 """
 import collections
 import json
@@ -123,7 +122,7 @@ def main():
         rng = random.Random(seed * 1_000_003 + run)
         place = tempfile.mkdtemp(prefix="soak")
         model = prepare(rng, place)
-        fmt, symbols = FORMATS[run % len(FORMATS)], run % 2 == 0
+        fmt, symbols = rng.choice(FORMATS), rng.random() < 0.5
         wrong = []
         for command in ("run", "replay"):
             faults = faults_of(rng, program, place, model, command, fmt, symbols, tally)
