@@ -12,6 +12,7 @@ ghost use Rattle.book_state.specs.ScopesKept.{row_shown};
 
 use crate::numbers::NumberSet;
 use crate::tables::LabelTable;
+use ghost_list::GhostList;
 use name_map::{HashKey, name_map};
 use stat_defs::{NoMemory, Txt};
 use std::alloc::Global;
@@ -21,7 +22,8 @@ use std::mem;
 /// A scope, with the numbers of the metrics that it bears.
 #[derive(Drop)]
 struct ScopeRow {
-    label: Txt,
+    /// Its label alone, which contracts see and no call asks for.
+    label: GhostList<Txt>,
     prefix: Txt,
     live: bool,
     bears: NumberSet,
@@ -91,7 +93,7 @@ impl ScopeTable {
     {
         let key = label.clone()?;
         let row = ScopeRow {
-            label: label.clone()?,
+            label: GhostList::new().and(label),
             prefix: prefix.clone()?,
             live: true,
             bears: NumberSet::new(),

@@ -121,10 +121,13 @@ fn hold_and_drop(alloc: Global, cache: &mut Cache, scope: u32) -> Result<u64, No
     Ok(cache.table_len())
 }
 
+/// As many entries of dropped scopes stay in a small table.
+const FEW_STALE: u64 = 8;
+
 fn drop_each(rt: &impl Abort, alloc: Global, cache: &mut Cache) -> Result<(), NoMemory> {
     hold(alloc, cache, &ask(Kind::Counter, b"stays"), 0, 0)?;
     for scope in 1..10_001_u32 {
-        assert!(rt; hold_and_drop(alloc, cache, scope)? <= 3);
+        assert!(rt; hold_and_drop(alloc, cache, scope)? <= 1 + FEW_STALE);
     }
     assert_eq!(rt; cache.entries(), 1);
     Ok(())

@@ -14,7 +14,7 @@ use Rattle.symbol_table.specs.declared.slots.Slot.{Slot}
 use Rattle.symbol_table.specs.declared.table.SymbolTable.TheInside.{Inside}
 use Rattle.symbol_table.specs.Drawing.{Draws, InUse}
 use Rattle.symbol_table.specs.Table.{Table, Holds, uses_at, token_in, counted}
-use Rattle.symbol_table.specs.Slots.{Changed}
+use Rattle.symbol_table.specs.Slots.{Changed, IsListed}
 use Rattle.symbol_table.specs.Kept.{Indexed, AllUsed, entries_from, shown}
 
 pub get_here : (xs : List Slot) (i : ℕ) (x : Slot) → i < length xs → x ≡ get_or xs i x → slice_get xs i ≡ Some x
@@ -482,3 +482,9 @@ view_positive slots zero token uses e = absurd (none_some (token, uses) (sym (vi
 view_positive slots (suc i) token uses e =
     let g : seen (slice_get slots i) ≡ Some (token, uses) = sym (view_at slots i) ∙ rw (add-one i) e in
     seen_positive (slice_get slots i) token uses g
+
+-- a number whose slot has the token is the one that the index lists
+pub listed_hit : (b : Inside) → Indexed b → (token : List ℕ) (n : ℕ) → IsListed b.slots.items n token → get (pointwise nat_eq) b.index token ≡ Some n
+listed_hit b kept token n l =
+    let (i, slot, is, at, same, some) = l in
+    subst (λ (t : List ℕ). get (pointwise nat_eq) b.index t ≡ Some n) same (kept.listed i slot at some ∙ ap Some (sym is))

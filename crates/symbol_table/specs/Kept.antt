@@ -6,6 +6,7 @@ use Rattle.std.specs.FinMap as map
 use Rattle.symbol_table.specs.declared.table.SymbolTable.TheInside.{Inside}
 use Rattle.symbol_table.specs.declared.table.TheConstants.{MAX_USES}
 use Rattle.symbol_table.specs.declared.slots.Slot.{Slot}
+use Rattle.symbol_table.specs.Slots.{IsListed}
 use Rattle.symbol_table.specs.Table.{Table, total}
 
 -- the entries of the slots with a use, where the first slot has this number
@@ -25,8 +26,7 @@ AllUsed slots n = (i : ℕ) → i < n → (slot : Slot) × (slice_get slots i �
 -- `free_from`
 pub record Indexed (b : Inside) : Type 0 where
   pub found : (token : List ℕ) (n : ℕ) → get (pointwise nat_eq) b.index token ≡ Some n
-      → (i : ℕ) × (slot : Slot) × (n ≡ i + 1) × (slice_get b.slots.items i ≡ Some slot) × (slot.token ≡ token)
-      × (0 < slot.uses)
+      → IsListed b.slots.items n token
   pub listed : (i : ℕ) (slot : Slot) → slice_get b.slots.items i ≡ Some slot → 0 < slot.uses
       → get (pointwise nat_eq) b.index slot.token ≡ Some (i + 1)
   pub used : AllUsed b.slots.items b.free_from

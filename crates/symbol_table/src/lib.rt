@@ -2,6 +2,7 @@
 #![tactic(auto)]
 
 mod laws;
+mod recent;
 mod slots;
 mod table;
 

@@ -1,11 +1,11 @@
 //! The slots of a table, and the index of its tokens.
 ghost use Rattle.std.specs.Prelude.{◌≡◌, ℕ, ◌+◌, ◌-◌, ◌<◌, ◌≤◌, ◌^◌, ◌==◌, ◌++◌, ◌∷◌, [], OnOk, OnErr, Some, None};
-ghost use Rattle.std.specs.Prelude.{length, slice_get, nat_eq, vec_len};
+ghost use Rattle.std.specs.Prelude.{length, slice_get, nat_eq, vec_len, IsTrue};
 ghost use Rattle.std.specs.Vec.{vec_capacity};
 ghost use Rattle.indexmap.specs.IndexMap.{get, Updates, IsUnchanged};
 ghost use Rattle.std.specs.Cmp.Lexicographic.{pointwise};
 ghost use Rattle.symbol_table.specs.declared.slots.Slot.{Slot as TheSlot};
-ghost use Rattle.symbol_table.specs.Slots.{Changed};
+ghost use Rattle.symbol_table.specs.Slots.{Changed, IsListed};
 
 use name_map::NameMap;
 use stat_defs::{NoMemory, Txt};
@@ -109,6 +109,19 @@ pub fn drop_use(slots: &mut Vec<Slot>, at: usize) -> bool
     let slot = &mut slots[at];
     slot.uses -= 1;
     slot.uses == 0
+}
+
+/// Whether a number is in use and has this token.
+pub fn has_token(slots: &[Slot], n: u32, token: &[u8]) -> bool
+    ensures { IsTrue result → IsListed slots.now n token.now }
+{
+    if n == 0 {
+        return false;
+    }
+    match slots.get(n as usize - 1) {
+        Some(slot) => slot.uses > 0 && slot.token.bytes() == token,
+        None => false,
+    }
 }
 
 /// The token of a slot.

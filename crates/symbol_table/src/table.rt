@@ -8,9 +8,10 @@ ghost use Rattle.symbol_table.specs.Table.{Holds, uses_at, times, InUseAll, toke
 ghost use Rattle.symbol_table.specs.Table.{counted_all, counted_again, counted_again_all, uncounted, uncounted_all};
 ghost use Rattle.symbol_table.specs.Table.{IsTable, Interned};
 
+use crate::recent::Recent;
 use crate::slots::{
-    Slot, add_use, drop_use, list_token, next_free, number_of, put_last, token_at, unlist_token,
-    write_slot,
+    Slot, add_use, drop_use, has_token, list_token, next_free, number_of, put_last, token_at,
+    unlist_token, write_slot,
 };
 use name_map::{HashKey, NameMap, name_map};
 use stat_defs::{NoMemory, Numbers, Txt};
@@ -32,6 +33,7 @@ pub struct SymbolTable {
     /// All slots below this place are in use.
     free_from: usize,
     in_use: u32,
+    recent: Recent,
 }
 
 impl Model for SymbolTable {
@@ -71,6 +73,7 @@ impl SymbolTable {
             index: name_map(alloc, key),
             free_from: 0,
             in_use: 0,
+            recent: Recent::new(),
         }
     }
 
@@ -191,8 +194,28 @@ impl SymbolTable {
         }
     }
 
-    /// One use more of a token.
+    /// One use more of a token, whose number is looked up only where it was not counted lately.
     fn count_token(&mut self, alloc: Global, token: &[u8]) -> Result<u32, NoMemory>
+        requires { total self.old + 1 < MAX_USES }
+        ensures drawn { IfOk result (λ n. Draws (Holds self.old) token.now n) }
+        ensures from_one { IfOk result (λ n. 0 < n) }
+        ensures counted { IfOk result (λ n. self.new ≡ counted self.old token.now n) }
+        ensures total { OnOk result (total self.new ≡ total self.old + 1) }
+        ensures table { OnOk result (IsTable self.old) }
+        ensures err { OnErr result (self.new ≡ self.old) }
+    {
+        let last = self.recent.number_of(token);
+        if has_token(&self.slots, last, token) {
+            self.count_again(last);
+            return Ok(last);
+        }
+        let n = self.count_listed(alloc, token)?;
+        self.recent.note(token, n);
+        Ok(n)
+    }
+
+    /// One use more of a token, whose number is looked up.
+    fn count_listed(&mut self, alloc: Global, token: &[u8]) -> Result<u32, NoMemory>
         requires { total self.old + 1 < MAX_USES }
         ensures drawn { IfOk result (λ n. Draws (Holds self.old) token.now n) }
         ensures from_one { IfOk result (λ n. 0 < n) }

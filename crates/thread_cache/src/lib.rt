@@ -3,7 +3,8 @@
 //!
 //! A look-up is one hash and one comparison, and takes no memory: its key borrows its texts. An entry goes with its
 //! scope. Dropping a scope marks it, and the entries of marked scopes are taken out of the table together once they are
-//! as many as the others, so that a drop costs time in the entries that it drops. No contract speaks of these costs.
+//! as many as the others and more than a few, so that a drop costs time in the entries that it drops. No contract speaks
+//! of these costs.
 #![tactic(auto)]
 
 mod cache;

@@ -13,6 +13,12 @@ use crate::scopes::{Scopes, Standing, count_entry, forget_dropped, is_live, list
 use name_map::NameMap;
 use stat_defs::{ScopeId, Verdict};
 
+/// So many entries of dropped scopes may stay in a small table: to go through it at each release would cost more than
+/// they do.
+const FEW_STALE: u64 = 8;
+
+const _: () = prove!(FEW_STALE == 8);
+
 /// What is held under a key: the scope that it was found through, and the verdict.
 #[derive(Clone, Copy)]
 pub(crate) struct Slot {
@@ -96,8 +102,8 @@ pub(crate) fn open_scope(table: &mut Table, scopes: &mut Scopes, stale: u64, sco
     }
 }
 
-// Takes the entries of dropped scopes out where they are about as many as the others, and answers how stale the table
-// is then.
+// Takes the entries of dropped scopes out where they are about as many as the others and more than a few, and answers
+// how stale the table is then.
 pub(crate) fn tidy(table: &mut Table, scopes: &mut Scopes, stale: u64) -> u64
     requires listed { All (λ e. is_listed scopes.old.entries e.1.scope ≡ true) table.old.entries }
     requires live { stale ≡ 0 → All (λ e. is_live scopes.old.entries e.1.scope ≡ true) table.old.entries }
@@ -107,7 +113,7 @@ pub(crate) fn tidy(table: &mut Table, scopes: &mut Scopes, stale: u64) -> u64
     ensures table_room { spare table.old ≤ spare table.new }
     ensures scopes_room { spare scopes.old ≤ spare scopes.new }
 {
-    if stale <= table.len() as u64 / 2 {
+    if stale <= FEW_STALE.max(table.len() as u64 / 2) {
         return stale;
     }
     purge(table, scopes);

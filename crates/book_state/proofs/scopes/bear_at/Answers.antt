@@ -1,4 +1,4 @@
-use Rattle.std.proofs.Common.{◌≡◌, map, refl, ◌∙◌}
+use Rattle.std.proofs.Common.{◌≡◌, [], get_or, map, refl, ◌∙◌}
 use Rattle.book_state.specs.Scopes.{ScopeView, bearing}
 use Rattle.book_state.specs.ScopesKept.{row_shown}
 use Rattle.book_state.proofs.Lists.{map-set_read, change_same, on_err, get_map, get_read}
@@ -13,7 +13,7 @@ returns-in_err-new-clause-err c =
 pub returns-clause-bears : goal.returns-clause-bears
 returns-clause-bears c =
     let was = c.index_mut-row.result.now in
-    let shown : ◌≡◌ {A = ScopeView} (record { label = was.label; prefix = was.prefix; live = was.live; bears = c.insert.new.self }) (bearing c.args.metric (row_shown was))
+    let shown : ◌≡◌ {A = ScopeView} (record { label = get_or was.label.items 0 []; prefix = was.prefix; live = was.live; bears = c.insert.new.self }) (bearing c.args.metric (row_shown was))
     = rw c.in_ok-new.ensures.set refl in
     map-set_read row_shown (bearing c.args.metric) c.args.rows.now.items c.args.at was _ c.requires c.index_mut-row.ensures.value shown
 

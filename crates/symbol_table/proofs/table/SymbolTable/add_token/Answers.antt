@@ -64,10 +64,10 @@ returns-clause-drawn c = let d = (goal.at.returns-clause-drawn c).After-write_sl
 
 pub returns-clause-counted : goal.returns-clause-counted
 returns-clause-counted c = let d = (goal.at.returns-clause-counted c).After-write_slot in
-    new_shown c.self.inside (record { slots = c.write_slot.new.slots; index = c.list_token.new.index; free_from = c.next_free-at.result + 1; in_use = c.self.inside.in_use + 1 }) c.self.invariant c.next_free-at.result (record { token = c.args.token; uses = 1 }) (miss_of d) refl c.next_free-at.ensures.from (used_of d) (free_of d) (index_of d) refl (changed_of d)
+    new_shown c.self.inside (record { slots = c.write_slot.new.slots; index = c.list_token.new.index; free_from = c.next_free-at.result + 1; in_use = c.self.inside.in_use + 1; recent = c.self.inside.recent }) c.self.invariant c.next_free-at.result (record { token = c.args.token; uses = 1 }) (miss_of d) refl c.next_free-at.ensures.from (used_of d) (free_of d) (index_of d) refl (changed_of d)
     ∙ ap (λ (t : Table). counted t c.args.token (c.next_free-at.result + 1)) c.self.view_is
 
 pub returns-clause-total : goal.returns-clause-total
 returns-clause-total c = let d = (goal.at.returns-clause-total c).After-write_slot in
-    new_total c.self.inside (record { slots = c.write_slot.new.slots; index = c.list_token.new.index; free_from = c.next_free-at.result + 1; in_use = c.self.inside.in_use + 1 }) c.self.invariant c.next_free-at.result (record { token = c.args.token; uses = 1 }) (miss_of d) refl c.next_free-at.ensures.from (used_of d) (free_of d) (index_of d) refl (changed_of d)
+    new_total c.self.inside (record { slots = c.write_slot.new.slots; index = c.list_token.new.index; free_from = c.next_free-at.result + 1; in_use = c.self.inside.in_use + 1; recent = c.self.inside.recent }) c.self.invariant c.next_free-at.result (record { token = c.args.token; uses = 1 }) (miss_of d) refl c.next_free-at.ensures.from (used_of d) (free_of d) (index_of d) refl (changed_of d)
     ∙ ap (λ (t : Table). total t + 1) c.self.view_is

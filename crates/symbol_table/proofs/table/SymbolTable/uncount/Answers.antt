@@ -29,12 +29,12 @@ invariant_of-self-else-drop_use c = left_kept c.self.inside c.self.invariant.ind
 
 pub returns-then-drop_use-clause-uncounted : goal.returns-then-drop_use-clause-uncounted
 returns-then-drop_use-clause-uncounted c =
-    gone_shown c.self.inside c.self.invariant.indexed c.args.n (subst (λ (t : Table). 0 < uses_at t c.args.n) (sym c.self.view_is) c.requires) (record { slots = c.drop_use.new.slots; index = c.unlist_token.new.index; free_from = c.min-self-inside.result; in_use = c.self.inside.in_use - 1 }) c.drop_use.result c.drop_use.ensures.changed c.drop_use.ensures.last c.if-drop_use.true
+    gone_shown c.self.inside c.self.invariant.indexed c.args.n (subst (λ (t : Table). 0 < uses_at t c.args.n) (sym c.self.view_is) c.requires) (record { slots = c.drop_use.new.slots; index = c.unlist_token.new.index; free_from = c.min-self-inside.result; in_use = c.self.inside.in_use - 1; recent = c.self.inside.recent }) c.drop_use.result c.drop_use.ensures.changed c.drop_use.ensures.last c.if-drop_use.true
     ∙ ap (λ (t : Table). uncounted t c.args.n) c.self.view_is
 
 pub returns-then-drop_use-clause-total : goal.returns-then-drop_use-clause-total
 returns-then-drop_use-clause-total c =
-    less_total c.self.inside c.self.invariant.indexed c.args.n (subst (λ (t : Table). 0 < uses_at t c.args.n) (sym c.self.view_is) c.requires) (record { slots = c.drop_use.new.slots; index = c.unlist_token.new.index; free_from = c.min-self-inside.result; in_use = c.self.inside.in_use - 1 }) c.drop_use.result c.drop_use.ensures.changed c.drop_use.ensures.last
+    less_total c.self.inside c.self.invariant.indexed c.args.n (subst (λ (t : Table). 0 < uses_at t c.args.n) (sym c.self.view_is) c.requires) (record { slots = c.drop_use.new.slots; index = c.unlist_token.new.index; free_from = c.min-self-inside.result; in_use = c.self.inside.in_use - 1; recent = c.self.inside.recent }) c.drop_use.result c.drop_use.ensures.changed c.drop_use.ensures.last
     ∙ ap total c.self.view_is
 
 pub returns-else-drop_use-clause-uncounted : goal.returns-else-drop_use-clause-uncounted

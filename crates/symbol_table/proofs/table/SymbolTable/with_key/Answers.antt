@@ -11,5 +11,5 @@ returns-clause-total c = total_empty c.new.result.items c.new.ensures.items
 
 pub returns-clause-table : goal.returns-clause-table
 returns-clause-table c =
-    let table : Inside = record { slots = c.new.result; index = c.name_map.result; free_from = 0; in_use = 0 } in
+    let table : Inside = record { slots = c.new.result; index = c.name_map.result; free_from = 0; in_use = 0; recent = c.new-2.result } in
     is_table table (empty_kept table c.new.ensures.items c.name_map.ensures.empty refl refl)
