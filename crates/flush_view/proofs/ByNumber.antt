@@ -10,7 +10,7 @@ use Rattle.stat_defs.specs.declared.reports.Delta.{Delta}
 use Rattle.stat_defs.specs.declared.reports.Part.{Part}
 use Rattle.stat_defs.specs.declared.reports.Reading.{Reading}
 use Rattle.loglinear_bins.specs.declared.place.TheConstants.{MAX_COUNT}
-use Rattle.loglinear_bins.specs.Counts.{AreLawful, IsBinList, merged, total}
+use Rattle.loglinear_bins.specs.Counts.{AreLawful, merged, total}
 use Rattle.loglinear_bins.proofs.Adding.{total-merged}
 use Rattle.merge_round.specs.Slots.{Slots, held, bins_at, is_warm_at}
 use Rattle.ledger.specs.Flushes.{delta_on}
@@ -18,7 +18,6 @@ use Rattle.ledger.specs.Readings.{word_on}
 use Rattle.ledger.proofs.Lists.{number_same}
 use Rattle.flush_view.specs.Views.{is_part_on}
 use Rattle.flush_view.specs.Sums.{with_deltas, with_readings, with_part, with_parts, HasRoomForAll}
-use Rattle.loglinear_bins.proofs.SameBins.{merged_rises}
 
 module _ {X : Type 0} (top : ℕ) (id_of n_of : X → ℕ) where
   abbrev adding : List ℕ → X → List ℕ
@@ -156,17 +155,13 @@ values_cons id part parts = by_case (part.id.0 == id) where
   by_case true = sum_by-cons (λ (p : Part). total p.bins) part (filter (is_part_on id) parts)
   by_case false = omega arith
 
--- each histogram is a lawful list of bins, and all values can be counted with those of the parts
+-- all values of each histogram can be counted with those of the parts
 pub record IsRoomy (slots : Slots) (parts : List Part) : Type 0 where
-  pub rising : (id : ℕ) → IsBinList (bins_at slots id)
   pub few : (id : ℕ) → total (bins_at slots id) + values_in id parts ≤ MAX_COUNT
 
-one_fewer : (slots : Slots) (part : Part) (parts : List Part) → AreLawful part.bins → IsRoomy slots (part ∷ parts)
+one_fewer : (slots : Slots) (part : Part) (parts : List Part) → IsRoomy slots (part ∷ parts)
     → IsRoomy (with_part slots part) parts
-one_fewer slots part parts lawful roomy = record {
-  rising = λ id. at id (λ (bins : List BinCount). IsBinList bins) (roomy.rising id) (λ same.
-      subst (λ (i : ℕ). IsBinList (merged (bins_at slots i) part.bins)) same
-      (merged_rises (bins_at slots part.id.0) part.bins (roomy.rising part.id.0) lawful));
+one_fewer slots part parts roomy = record {
   few = λ id.
       let whole = values_cons id part parts in
       let few = roomy.few id in
@@ -208,6 +203,6 @@ room_for_all slots (part ∷ parts) lawful roomy =
     let whole = values_cons part.id.0 part parts in
     let head : cond (part.id.0 == part.id.0) (total part.bins) 0
     ≡ total part.bins = ap (λ b. cond b (total part.bins) 0) (number_same part.id.0 part.id.0 refl) in (
-      record { lawful = lawful.0; rising = roomy.rising part.id.0; few = omega (arith, few, whole, head) },
-      room_for_all (with_part slots part) parts lawful.1 (one_fewer slots part parts lawful.0 roomy),
+      record { lawful = lawful.0; few = omega (arith, few, whole, head) },
+      room_for_all (with_part slots part) parts lawful.1 (one_fewer slots part parts roomy),
     )

@@ -1,5 +1,5 @@
 -- What is kept when one flush more is followed, and the view that it makes.
-use Rattle.std.proofs.Common.{◌≡◌, ℕ, zero, suc, ◌+◌, ◌-◌, ◌^◌, ◌<◌, ◌≤◌, ◌||◌, min, Bool, true, false, Option, Some, None, List, [], ◌∷◌, ◌++◌, filter, take, drop, length, get_or, replicate, slice_get, append-nil, append_assoc, zero-add, cond, ltb, lit≤, refl, ap, sym, ◌∙◌, subst, arith, inl, inr, ◌⊎◌, ℤ, pos, negsuc}
+use Rattle.std.proofs.Common.{◌≡◌, ℕ, zero, suc, ◌+◌, ◌-◌, ◌^◌, ◌<◌, ◌≤◌, ◌||◌, min, Bool, true, false, Option, Some, None, List, [], ◌∷◌, ◌++◌, take, drop, length, get_or, replicate, slice_get, append-nil, append_assoc, zero-add, ltb, lit≤, refl, ap, sym, ◌∙◌, subst, arith, inl, inr, ◌⊎◌, ℤ, pos, negsuc}
 use Rattle.std.specs.Prelude.{sum_by, is_some}
 use Rattle.std.specs.Int.{w64, cast_signed}
 use Rattle.std.specs.List.{flat_map, list_any, AllByRecursion}
@@ -13,7 +13,7 @@ use Rattle.stat_defs.specs.declared.reports.FlushRecord.{FlushRecord}
 use Rattle.stat_defs.specs.declared.reports.Part.{Part}
 use Rattle.stat_defs.specs.declared.reports.Report.{Report}
 use Rattle.loglinear_bins.specs.declared.place.TheConstants.{MAX_COUNT}
-use Rattle.loglinear_bins.specs.Counts.{AreLawful, IsBinList, merged, total}
+use Rattle.loglinear_bins.specs.Counts.{merged, total}
 use Rattle.loglinear_bins.proofs.Adding.{total-merged}
 use Rattle.merge_round.specs.Slots.{Slots, held, bins_at, is_warm_at}
 use Rattle.ledger.specs.Flushes.{flushed, flushed_in}
@@ -23,8 +23,6 @@ use Rattle.flush_view.specs.Showing.{IsShowable, HasLawfulParts, values_taken}
 use Rattle.flush_view.specs.Sums.{with_deltas, with_readings, with_parts, HasRoomForAll}
 use Rattle.flush_view.specs.Views.{parts_on, merged_parts, is_part_on}
 use Rattle.flush_view.proofs.ByNumber.{behind, values_in, IsRoomy, room_for_all, parts_at, warm_at, deltas_at, readings_at}
-use Rattle.loglinear_bins.proofs.MergedBins.{sums_rise}
-use Rattle.loglinear_bins.proofs.SameBins.{none_rise}
 
 -- the flushes up to the next one
 pub one_more : (flushes : List FlushRecord) (k : ℕ) (flush : FlushRecord) → slice_get flushes k ≡ Some flush
@@ -86,30 +84,7 @@ flat_map-push id (first ∷ flushes) flush =
     ap (λ (l : List Part). parts_on id first ++ l) (flat_map-push id flushes flush)
     ∙ sym (append_assoc (parts_on id first) (flat_map (parts_on id) flushes) (parts_on id flush))
 
--- lawful parts stay so where some are picked, and in all flushes together
-abbrev AreLawfulParts : List Part → Type 0
-AreLawfulParts parts = AllByRecursion (λ part. AreLawful part.bins) parts
-
-picked_lawful : (id : ℕ) (parts : List Part) → AreLawfulParts parts → AreLawfulParts (filter (is_part_on id) parts)
-picked_lawful id [] lawful = tt
-picked_lawful id (part ∷ parts) lawful = by_case (is_part_on id part) (picked_lawful id parts lawful.1) where
-  by_case : (b : Bool) → AreLawfulParts (filter (is_part_on id) parts)
-      → AreLawfulParts (cond b (part ∷ filter (is_part_on id) parts) (filter (is_part_on id) parts))
-  by_case true rest = (lawful.0, rest)
-  by_case false rest = rest
-
-both_lawful : (parts more : List Part) → AreLawfulParts parts → AreLawfulParts more → AreLawfulParts (parts ++ more)
-both_lawful [] more one other = other
-both_lawful (part ∷ parts) more one other = (one.0, both_lawful parts more one.1 other)
-
-all_lawful : (id k : ℕ) (flushes : List FlushRecord) → AllByRecursion HasLawfulParts flushes
-    → AreLawfulParts (flat_map (parts_on id) (take k flushes))
-all_lawful id zero flushes lawful = tt
-all_lawful id (suc k) [] lawful = tt
-all_lawful id (suc k) (flush ∷ flushes) lawful =
-    both_lawful (parts_on id flush) (flat_map (parts_on id) (take k flushes)) (picked_lawful id flush.parts lawful.0)
-    (all_lawful id k flushes lawful.1)
-
+-- the parts of a flush are lawful
 lawful_at : (flushes : List FlushRecord) (k : ℕ) (flush : FlushRecord) → slice_get flushes k ≡ Some flush
     → AllByRecursion HasLawfulParts flushes → HasLawfulParts flush
 lawful_at [] k flush at lawful = absurd (not_some flush at)
@@ -192,11 +167,6 @@ module _ (flushes : List FlushRecord) (can : AreCountable flushes) (k : ℕ) (fl
       (bins_at slots id ≡ merged_parts (flat_map (parts_on id) (take k flushes))))
       → IsRoomy slots flush.parts
   roomy slots are = record {
-    rising = λ id. elim (are id) [
-      | inl none ↦ subst IsBinList (sym none) none_rise
-      | inr some ↦ subst IsBinList (sym some)
-          (sums_rise (flat_map (parts_on id) (take k flushes)) (all_lawful id k flushes can.lawful))
-    ];
     few = λ id.
         let few = few_values id in
         elim (are id) [

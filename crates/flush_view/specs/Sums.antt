@@ -4,7 +4,7 @@ use Rattle.stat_defs.specs.declared.reports.Delta.{Delta}
 use Rattle.stat_defs.specs.declared.reports.Part.{Part}
 use Rattle.stat_defs.specs.declared.reports.Reading.{Reading}
 use Rattle.loglinear_bins.specs.declared.place.TheConstants.{MAX_COUNT}
-use Rattle.loglinear_bins.specs.Counts.{AreLawful, IsBinList, merged, total}
+use Rattle.loglinear_bins.specs.Counts.{AreLawful, merged, total}
 use Rattle.merge_round.specs.Slots.{Slots, bins_at}
 
 -- a number is added to the sum at this place, up to the greatest number of 64 bits
@@ -26,10 +26,9 @@ with_part slots part = slice_set slots part.id.0 (Some (merged (bins_at slots pa
 abbrev pub with_parts : Slots → List Part → Slots
 with_parts slots parts = fold with_part slots parts
 
--- there is room for a part: what it adds to is a lawful list of bins, and all its values can be counted
+-- there is room for a part: its bins are lawful, and all its values can be counted
 pub record HasRoomFor (slots : Slots) (part : Part) : Type 0 where
   pub lawful : AreLawful part.bins
-  pub rising : IsBinList (bins_at slots part.id.0)
   pub few : total (bins_at slots part.id.0) + total part.bins ≤ MAX_COUNT
 
 -- there is room for parts one after another

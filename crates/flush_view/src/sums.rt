@@ -1,7 +1,7 @@
 //! What flushes took, by the numbers of metrics.
 ghost use Rattle.std.specs.Prelude.{◌≡◌, ◌≤◌, ◌+◌, None, IfOk, OnOk, replicate, slice_index};
 ghost use Rattle.loglinear_bins.specs.declared.place.TheConstants.{MAX_COUNT};
-ghost use Rattle.loglinear_bins.specs.Counts.{AreLawful, IsBinList, merged, total};
+ghost use Rattle.loglinear_bins.specs.Counts.{AreLawful, merged, total};
 ghost use Rattle.merge_round.specs.Slots.{held, bins_at, is_warm_at};
 ghost use Rattle.flush_view.specs.Sums.{added_at, with_deltas, with_readings, with_part, with_parts, HasRoomFor};
 ghost use Rattle.flush_view.specs.Sums.{HasRoomForAll};
@@ -55,18 +55,24 @@ pub(crate) fn add_readings(sums: &mut [u64], readings: &[Reading])
     }
 }
 
+// The histogram of a slot, which has no value where there is none.
+fn held_or_new(alloc: Global, slot: Option<Bins>) -> Result<Bins, NoMemory>
+    ensures { IfOk result (λ bins. bins ≡ held slot) }
+{
+    match slot {
+        Some(bins) => Ok(bins),
+        None => Ok(Bins::new(alloc)?),
+    }
+}
+
 fn joined(alloc: Global, slot: Option<Bins>, more: &[BinCount]) -> Result<Bins, NoMemory>
     requires lawful { AreLawful more.now }
-    requires rising { IsBinList (held slot) }
     requires few { total (held slot) + total more.now ≤ MAX_COUNT }
     ensures { IfOk result (λ bins. bins ≡ merged (held slot) more.now) }
 {
-    let bins = Bins::of_pairs(alloc, more)?;
-    let Some(mut all) = slot else {
-        return Ok(bins);
-    };
-    all.merge(&bins);
-    Ok(all)
+    let mut bins = held_or_new(alloc, slot)?;
+    bins.merge_pairs(more);
+    Ok(bins)
 }
 
 fn add_part(alloc: Global, slots: &mut [Option<Bins>], part: &Part) -> Result<(), NoMemory>

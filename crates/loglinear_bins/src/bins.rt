@@ -59,9 +59,7 @@ impl Bins {
         ensures same { IsBinList pairs.now → IfOk result (λ bins. bins ≡ pairs.now) }
     {
         let mut bins = Bins::new(alloc)?;
-        for pair in pairs {
-            bins.add(pair.bin, pair.count);
-        }
+        bins.merge_pairs(pairs);
         Ok(bins)
     }
 
@@ -98,6 +96,17 @@ impl Bins {
         self.total += other.total;
         self.from = self.from.min(other.from);
         self.to = self.to.max(other.to);
+    }
+
+    /// Counts the values of a list of bins too. A bin may stand in it more than once. It takes time in the list.
+    pub fn merge_pairs(&mut self, pairs: &[BinCount])
+        requires lawful { AreLawful pairs.now }
+        requires room { total self.old + total pairs.now ≤ MAX_COUNT }
+        ensures { self.new ≡ merged self.old pairs.now }
+    {
+        for pair in pairs {
+            self.add(pair.bin, pair.count);
+        }
     }
 
     /// Forgets all values. The room for every bin stays.
