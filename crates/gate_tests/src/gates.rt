@@ -14,7 +14,8 @@ struct Shape {
     workers: u32,
     events: u64,
     every: u32,
-    rounds: u32,
+    flushes: u32,
+    reads: u32,
 }
 
 fn work<R: Wait>(rt: &R, gate: &PaceGate, done: &AtomicU64, worker: u32, events: u64) {
@@ -35,7 +36,7 @@ fn is_due(shape: Shape, done: &AtomicU64, round: u32) -> bool {
 // How many flushes began early.
 fn flush<R: Wait>(rt: &R, gate: &PaceGate, done: &AtomicU64, shape: Shape) -> u32 {
     let mut early = 0u32;
-    for round in 1..=shape.rounds {
+    for round in 1..=shape.flushes {
         gate.flusher_at(rt, round);
         if !is_due(shape, done, round) {
             early = early.saturating_add(1);
@@ -47,7 +48,7 @@ fn flush<R: Wait>(rt: &R, gate: &PaceGate, done: &AtomicU64, shape: Shape) -> u3
 // How many readings began early.
 fn read<R: Wait>(rt: &R, gate: &PaceGate, done: &AtomicU64, shape: Shape) -> u32 {
     let mut early = 0u32;
-    for round in 1..=shape.rounds {
+    for round in 1..=shape.reads {
         gate.reader_at(rt, round);
         if !is_due(shape, done, round) {
             early = early.saturating_add(1);
@@ -118,7 +119,8 @@ fn no_round_begins_early(rt: HostRuntime) -> Result<(), Fail> {
         workers: 8,
         events: 4_000,
         every: 800,
-        rounds: 40,
+        flushes: 40,
+        reads: 40,
     };
     let (early, returned) = run(&rt, rt.alloc(), shape)?;
     assert!(rt; early == (0, 0) && returned == 8);
@@ -132,10 +134,28 @@ fn workers_that_are_done_let_rounds_go(rt: HostRuntime) -> Result<(), Fail> {
         workers: 3,
         events: 10,
         every: 1_000,
-        rounds: 5,
+        flushes: 5,
+        reads: 5,
     };
     let (early, returned) = run(&rt, rt.alloc(), shape)?;
     assert!(rt; early == (0, 0) && returned == 3);
+    Ok(())
+}
+
+// A reader is woken by the flusher, which may make no rounds, or fewer than the reader, or others.
+#[test]
+fn a_reader_beside_few_flushes(rt: HostRuntime) -> Result<(), Fail> {
+    for (flushes, reads) in [(0, 40), (7, 40), (40, 7), (40, 0)] {
+        let shape = Shape {
+            workers: 3,
+            events: 4_000,
+            every: 300,
+            flushes,
+            reads,
+        };
+        let (early, returned) = run(&rt, rt.alloc(), shape)?;
+        assert!(rt; early == (0, 0) && returned == 3);
+    }
     Ok(())
 }
 
@@ -146,7 +166,8 @@ fn rounds_of_one_event(rt: HostRuntime) -> Result<(), Fail> {
         workers: 4,
         events: 50,
         every: 1,
-        rounds: 64,
+        flushes: 64,
+        reads: 64,
     };
     let (early, returned) = run(&rt, rt.alloc(), shape)?;
     assert!(rt; early == (0, 0) && returned == 4);

@@ -12,9 +12,9 @@ pub trait Gate {
     /// Called once by each worker, when it does no more events.
     fn worker_done<R: Wait>(&self, rt: &R, worker: u32);
 
-    /// Called by the flusher before its flush of this number.
+    /// Called by the flusher, which is one thread, before its flush of this number.
     fn flusher_at<R: Wait>(&self, rt: &R, round: u32);
 
-    /// Called by the reader before its reading of this number.
+    /// Called by the reader, which is one thread, before its reading of this number.
     fn reader_at<R: Wait>(&self, rt: &R, round: u32);
 }

@@ -8,24 +8,32 @@ use std::alloc::Global;
 use std::sync::atomic::{AtomicU64, Ordering};
 use std::sync::{Condvar, Mutex, Wait};
 
-/// What the workers tell the waiting rounds.
+/// What the workers tell the waiting flusher and reader, which are one thread each.
 ///
-/// No wake-up is lost. A round looks at both counts while it has the lock, and gives the lock up only as it falls
-/// asleep. A worker adds to a count first, and takes the lock before it wakes the sleepers. So where the worker takes
-/// the lock before the round, the round sees the addition; else the round sleeps by then, and is woken.
+/// A wake-up takes a worker as long as a hundred events. So it wakes one sleeper at most: the flusher where it sleeps,
+/// which then wakes the reader, and else the reader.
+///
+/// No wake-up is lost. Flusher and reader look at both counts while they have the lock, and give it up only as they
+/// fall asleep. A worker adds to a count first, and then takes the lock once. Who takes the lock behind it sees the
+/// addition. Who took it before sleeps by then: the flusher has said so, and is woken, and the reader is woken by the
+/// worker where the flusher is awake, and else by the flusher as soon as that has the lock again, which it takes behind
+/// the worker.
 #[derive(Drop)]
 struct Told {
     /// The events that were counted, and the workers that are done.
     events: AtomicU64,
     done: AtomicU64,
-    turn: Mutex<()>,
-    moved: Condvar,
+    /// Whether the flusher sleeps: true from its falling asleep until it has the lock again.
+    sleeps: Mutex<bool>,
+    flusher: Condvar,
+    reader: Condvar,
 }
 
 /// Flush `r` and reading `r` wait until `r` times `flush_every` events were done, or all workers are done.
 ///
 /// An event is done when its worker calls `worker_at` for the next one. A round may begin late, by fewer events than
-/// one round needs or than there are workers, and never early: see [`Pace`].
+/// one round needs or than there are workers, and never early: see [`Pace`]. The last events of a worker, which make no
+/// whole packet, are not counted.
 /// What each event reads lies apart from the words that workers write, so that a worker's next event finds it in its
 /// core's cache. The lock is taken where the count passes a multiple of `flush_every`, by the one worker whose addition
 /// passes it, and at a worker's end.
@@ -43,8 +51,9 @@ impl PaceGate {
         let told = Told {
             events: AtomicU64::new(0),
             done: AtomicU64::new(0),
-            turn: Mutex::new(()),
-            moved: Condvar::new(),
+            sleeps: Mutex::new(false),
+            flusher: Condvar::new(),
+            reader: Condvar::new(),
         };
         Ok(PaceGate {
             pace: Pace::new(workers, flush_every),
@@ -60,25 +69,23 @@ impl PaceGate {
         }
     }
 
-    fn wait_for<R: Wait>(&self, rt: &R, round: u32) {
-        self.told
-            .wait_until(rt, self.pace.need(round), u64::from(self.pace.workers));
+    fn is_due(&self, round: u32) -> bool {
+        self.told.events.load(Ordering::SeqCst) >= self.pace.need(round)
+            || self.told.done.load(Ordering::SeqCst) >= u64::from(self.pace.workers)
     }
 }
 
 impl Told {
+    // Wakes one sleeper, with the lock given back, since who is woken takes it first.
     fn wake<R: Wait>(&self, rt: &R) {
-        let turn = self.turn.lock(rt);
-        self.moved.notify_all();
-        drop(turn);
-    }
-
-    fn wait_until<R: Wait>(&self, rt: &R, events: u64, workers: u64) {
-        let turn = self.moved.wait_while(rt, self.turn.lock(rt), |_| {
-            self.events.load(Ordering::SeqCst) < events
-                && self.done.load(Ordering::SeqCst) < workers
-        });
-        drop(turn);
+        let sleeps = self.sleeps.lock(rt);
+        let flusher_sleeps = *sleeps;
+        drop(sleeps);
+        if flusher_sleeps {
+            self.flusher.notify_one();
+        } else {
+            self.reader.notify_one();
+        }
     }
 }
 
@@ -96,10 +103,25 @@ impl Gate for PaceGate {
     }
 
     fn flusher_at<R: Wait>(&self, rt: &R, round: u32) {
-        self.wait_for(rt, round);
+        let told = &self.told;
+        let mut sleeps = told.sleeps.lock(rt);
+        for _ in rt.forever() {
+            if self.is_due(round) {
+                break;
+            }
+            *sleeps = true;
+            sleeps = told.flusher.wait(rt, sleeps);
+            *sleeps = false;
+            told.reader.notify_one();
+        }
+        drop(sleeps);
     }
 
     fn reader_at<R: Wait>(&self, rt: &R, round: u32) {
-        self.wait_for(rt, round);
+        let told = &self.told;
+        let turn = told
+            .reader
+            .wait_while(rt, told.sleeps.lock(rt), |_| !self.is_due(round));
+        drop(turn);
     }
 }

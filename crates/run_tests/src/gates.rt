@@ -8,7 +8,11 @@ use std::thread::{Parker, yield_now};
 use std::time::Duration;
 
 /// The maximum number of turns that a gate waits for a thread.
-const TURNS: u32 = 1_000_000;
+const TURNS: u32 = 10_000;
+
+/// How many of these turns yield. Each turn behind them sleeps a millisecond, so that a gate gives up within seconds on
+/// a busy machine too.
+const YIELDS: u32 = 1_000;
 
 /// The event at which flush 1 may begin.
 const SIXTH: u64 = 6;
@@ -23,13 +27,22 @@ const EVENT_SLEEP: u64 = 4;
 /// Whether a gate has waited in vain. Then it holds no more, so that the run ends and its test says so.
 #[derive(Drop)]
 pub(crate) struct Patience {
+    turns: u32,
     lost: AtomicBool,
+    napping: Parker,
 }
 
 impl Patience {
     fn new() -> Patience {
+        Patience::of(TURNS)
+    }
+
+    // The patience of this number of turns.
+    fn of(turns: u32) -> Patience {
         Patience {
+            turns,
             lost: AtomicBool::new(false),
+            napping: Parker::new(),
         }
     }
 
@@ -37,24 +50,32 @@ impl Patience {
         self.lost.load(Ordering::SeqCst)
     }
 
+    fn rest<R: Wait>(&self, rt: &R, turn: u32) {
+        if turn < YIELDS {
+            yield_now();
+        } else {
+            self.napping.park_timeout(rt, Duration::from_millis(1));
+        }
+    }
+
     // Waits until the flag is set.
-    fn wait_for(&self, flag: &AtomicBool) {
-        for _ in 0..TURNS {
+    fn wait_for<R: Wait>(&self, rt: &R, flag: &AtomicBool) {
+        for turn in 0..self.turns {
             if flag.load(Ordering::SeqCst) || self.is_lost() {
                 return;
             }
-            yield_now();
+            self.rest(rt, turn);
         }
         self.lost.store(true, Ordering::SeqCst);
     }
 
     // Waits until the count stands there.
-    fn wait_for_turn(&self, count: &AtomicU64, turn: u64) {
-        for _ in 0..TURNS {
-            if count.load(Ordering::SeqCst) == turn || self.is_lost() {
+    fn wait_for_turn<R: Wait>(&self, rt: &R, count: &AtomicU64, place: u64) {
+        for turn in 0..self.turns {
+            if count.load(Ordering::SeqCst) == place || self.is_lost() {
                 return;
             }
-            yield_now();
+            self.rest(rt, turn);
         }
         self.lost.store(true, Ordering::SeqCst);
     }
@@ -76,12 +97,21 @@ impl OneFirst {
             first_done: AtomicBool::new(false),
         }
     }
+
+    /// The same, which gives up at once.
+    pub(crate) fn in_a_hurry(first: u32) -> OneFirst {
+        OneFirst {
+            patience: Patience::of(1),
+            first,
+            first_done: AtomicBool::new(false),
+        }
+    }
 }
 
 impl Gate for OneFirst {
-    fn worker_at<R: Wait>(&self, _rt: &R, worker: u32, _event: u64) {
+    fn worker_at<R: Wait>(&self, rt: &R, worker: u32, _event: u64) {
         if worker != self.first {
-            self.patience.wait_for(&self.first_done);
+            self.patience.wait_for(rt, &self.first_done);
         }
     }
 
@@ -119,7 +149,7 @@ impl InTurn {
 }
 
 impl Gate for InTurn {
-    fn worker_at<R: Wait>(&self, _rt: &R, worker: u32, event: u64) {
+    fn worker_at<R: Wait>(&self, rt: &R, worker: u32, event: u64) {
         let before = event.wrapping_sub(1);
         if before % STRETCH != 0 {
             return;
@@ -129,7 +159,7 @@ impl Gate for InTurn {
         }
         let round = (before / STRETCH).wrapping_mul(self.workers);
         let turn = round.wrapping_add(u64::from(worker)).wrapping_sub(1);
-        self.patience.wait_for_turn(&self.turns, turn);
+        self.patience.wait_for_turn(rt, &self.turns, turn);
     }
 
     fn worker_done<R: Wait>(&self, _rt: &R, _worker: u32) {
@@ -164,12 +194,12 @@ impl Gate for WorkerFirst {
         self.done.store(true, Ordering::SeqCst);
     }
 
-    fn flusher_at<R: Wait>(&self, _rt: &R, _round: u32) {
-        self.patience.wait_for(&self.done);
+    fn flusher_at<R: Wait>(&self, rt: &R, _round: u32) {
+        self.patience.wait_for(rt, &self.done);
     }
 
-    fn reader_at<R: Wait>(&self, _rt: &R, _round: u32) {
-        self.patience.wait_for(&self.done);
+    fn reader_at<R: Wait>(&self, rt: &R, _round: u32) {
+        self.patience.wait_for(rt, &self.done);
     }
 }
 
@@ -193,10 +223,10 @@ impl ReadingBetween {
 }
 
 impl Gate for ReadingBetween {
-    fn worker_at<R: Wait>(&self, _rt: &R, _worker: u32, event: u64) {
+    fn worker_at<R: Wait>(&self, rt: &R, _worker: u32, event: u64) {
         if event == 2 {
             self.second_event.store(true, Ordering::SeqCst);
-            self.patience.wait_for(&self.second_reading);
+            self.patience.wait_for(rt, &self.second_reading);
         }
     }
 
@@ -204,9 +234,9 @@ impl Gate for ReadingBetween {
 
     fn flusher_at<R: Wait>(&self, _rt: &R, _round: u32) {}
 
-    fn reader_at<R: Wait>(&self, _rt: &R, round: u32) {
+    fn reader_at<R: Wait>(&self, rt: &R, round: u32) {
         match round {
-            1 => self.patience.wait_for(&self.second_event),
+            1 => self.patience.wait_for(rt, &self.second_event),
             _ => self.second_reading.store(true, Ordering::SeqCst),
         }
     }
@@ -268,9 +298,9 @@ impl Gate for FlushAmong {
         self.among.store(self.is_flushed(), Ordering::SeqCst);
     }
 
-    fn flusher_at<R: Wait>(&self, _rt: &R, round: u32) {
+    fn flusher_at<R: Wait>(&self, rt: &R, round: u32) {
         match round {
-            1 => self.patience.wait_for(&self.sixth_event),
+            1 => self.patience.wait_for(rt, &self.sixth_event),
             _ => {
                 self.second_flush.store(true, Ordering::SeqCst);
                 self.waking.unpark();

@@ -261,20 +261,23 @@ fn each_worker_has_one_event(rt: HostRuntime) -> Result<(), Fail> {
 // The lines of 13 bytes that a pull of 4,096 bytes has whole.
 const WHOLE_LINES: usize = 315;
 
-// A worker whose second pull fails counts the whole lines of the first, and the worker beside it goes on to its end.
+// A worker whose second pull fails counts the whole lines of the first, and the workers beside it go on to their ends.
 #[test]
 fn a_fault_ends_one_file_alone(rt: HostRuntime) -> Result<(), Fail> {
     let alloc = rt.alloc();
-    let gate = PaceGate::new(alloc, 2, 3)?;
+    let gate = PaceGate::new(alloc, 3, 3)?;
     let lines = repeated(alloc, "inc root a 1\n", 1_000)?;
     let cut = file_with_faults(alloc, lines.as_str(), vec![in alloc; 1]?)?;
-    let files = vec![in alloc; cut, file_of(alloc, lines.as_str())?]?;
+    let mut files = vec![in alloc; cut]?;
+    files.push(file_of(alloc, lines.as_str())?)?;
+    files.push(file_of(alloc, lines.as_str())?)?;
     let report = run(&rt, alloc, &gate, TWO_FLUSHES_AND_A_READING, files)?;
     let (verdicts, ends) = (report.verdicts.items(), report.ends.items());
-    assert!(rt; ends.len() == 2 && verdicts.len() == 2);
-    assert!(rt; ends[0].end == FileEnd::ReadFault && ends[1].end == FileEnd::Whole);
-    assert!(rt; verdicts[0].items().len() == WHOLE_LINES && verdicts[1].items().len() == 1_000);
-    assert!(rt; units_of(report.flushes.items(), FIRST) == 1_315);
+    assert!(rt; ends.len() == 3 && verdicts.len() == 3);
+    assert!(rt; ends[0].end == FileEnd::ReadFault && verdicts[0].items().len() == WHOLE_LINES);
+    assert!(rt; ends[1].end == FileEnd::Whole && verdicts[1].items().len() == 1_000);
+    assert!(rt; ends[2].end == FileEnd::Whole && verdicts[2].items().len() == 1_000);
+    assert!(rt; units_of(report.flushes.items(), FIRST) == 2_315);
     drop(report);
     Ok(())
 }

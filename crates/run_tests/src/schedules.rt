@@ -1,7 +1,7 @@
 //! Four workers' events under a proxy's bootstrap, in whatever order the workers do them.
 
 use crate::gates::{InTurn, OneFirst};
-use crate::runs::{file_of, run, units_of};
+use crate::runs::{file_of, repeated, run, units_of};
 use run_gates::PaceGate;
 use stat_defs::{FileEnd, FlushRecord, MetricId, Part, Report, Verdict};
 use stats_io::MemSource;
@@ -182,6 +182,25 @@ fn one_worker_first(rt: HostRuntime) -> Result<(), Fail> {
     assert_alike(&rt, &report, &free);
     drop(report);
     drop(free);
+    Ok(())
+}
+
+// No file has the worker that the others wait for.
+#[test]
+fn a_gate_that_waits_in_vain_lets_go(rt: HostRuntime) -> Result<(), Fail> {
+    let alloc = rt.alloc();
+    let gate = OneFirst::in_a_hurry(3);
+    let lines = repeated(alloc, "inc root a 1\n", 10)?;
+    let files = vec![in alloc;
+        file_of(alloc, lines.as_str())?,
+        file_of(alloc, lines.as_str())?,
+    ]?;
+    let report = run(&rt, alloc, &gate, USUAL, files)?;
+    assert!(rt; gate.patience.is_lost());
+    for verdicts in report.verdicts.items() {
+        assert!(rt; verdicts.items().len() == 10);
+    }
+    drop(report);
     Ok(())
 }
 
