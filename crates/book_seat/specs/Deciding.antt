@@ -1,5 +1,6 @@
 -- What an event makes in a log that others may lengthen too (this project's own).
-use Rattle.std.specs.Prelude.{◌≡◌, ◌⊎◌, ℕ, Option, Some, None, IfSome, List, [], ◌∷◌}
+use Rattle.std.specs.Prelude.{◌≡◌, ◌⊎◌, ℕ, Option, Some, None, List, [], ◌∷◌}
+use Rattle.std.specs.Option.{IsSomeAnd}
 use Rattle.stat_defs.specs.declared.events.Event.{Event}
 use Rattle.stat_defs.specs.declared.events.Event.TheVariants as event
 use Rattle.stat_defs.specs.declared.events.Key.{Key}
@@ -80,9 +81,9 @@ pub record DecidesEvent (e : Event) (v : Verdict) (k k' : LogKnown) : Type 0 whe
   pub in_room : NamesInRoom e v
   pub stays : StaysAtWork 1 k k'
 
--- what want of memory may leave of an event: nothing, or the find of its key
+-- what want of memory may leave of an event: nothing, or the find of its key, of an event that has one
 abbrev pub IsCutOff : Event → List Own → Type 0
-IsCutOff e made = (made ≡ []) ⊎ ((o : Own) × (made ≡ o ∷ []) × IfSome (event_key e) (λ key. o.call ≡ call.Find key))
+IsCutOff e made = (made ≡ []) ⊎ ((o : Own) × (made ≡ o ∷ []) × IsSomeAnd (event_key e) (λ key. o.call ≡ call.Find key))
 
 -- an event was cut short by want of memory
 pub record CutsEvent (e : Event) (k k' : LogKnown) : Type 0 where
