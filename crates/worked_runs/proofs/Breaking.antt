@@ -1,8 +1,8 @@
 -- The worked report is a ledger, and the broken ones are none.
-use Rattle.std.proofs.Common.{◌≡◌, ◌≢◌, ◌<◌, ℕ, zero, suc, Bool, cond, [], ◌∷◌, List, map, refl, sym, ap, arith, inl, true≢false}
+use Rattle.std.proofs.Common.{◌≡◌, ◌≢◌, ◌<◌, ℕ, zero, suc, Bool, cond, [], ◌∷◌, List, map, refl, sym, ap, ◌∙◌, arith, inl, true≢false}
 use Rattle.std.specs.Prelude.{slice_index_or}
 use Rattle.std.proofs.lemmas.Cmp.{nat_eq_equiv}
-use Rattle.std.proofs.lemmas.List.Elements.{All-from_recursion}
+use Rattle.std.proofs.lemmas.List.Elements.{All-from_recursion, recursion_from_All}
 use Rattle.std.proofs.lemmas.Map.Views.{list_any-from_Contains}
 use Rattle.std.specs.Fmt.{digits}
 use Rattle.stat_defs.specs.declared.events.GaugeOp.TheVariants.{Set}
@@ -10,19 +10,20 @@ use Rattle.stat_defs.specs.declared.reports.FileEnd.TheVariants as file
 use Rattle.stat_defs.specs.declared.reports.FlushRecord.{FlushRecord}
 use Rattle.stat_defs.specs.declared.reports.ReadRecord.{ReadRecord}
 use Rattle.stat_defs.specs.declared.reports.Part.{Part}
+use Rattle.stat_defs.specs.declared.bins.BinCount.{BinCount}
 use Rattle.loglinear_bins.specs.Counts.{bins_of}
 use Rattle.merge_round.specs.Halves.{bins_by}
 use Rattle.merge_round.specs.Rounds.{ArePartsOf, HasPart, IsBefore}
 use Rattle.event_script.specs.FileEvents.{AreEventsOf}
 use Rattle.ledger.specs.Ledger.{AreRead, HasHistory, Account, AreShown}
-use Rattle.ledger.specs.Segments.{bins_by_worker}
+use Rattle.ledger.specs.Segments.{bins_by_worker, segments_at}
 use Rattle.ledger.specs.Work.{Recording}
 use Rattle.ledger.specs.Worked.{file_of}
 use Rattle.ledger.proofs.Lists.{nil_cons, number_apart}
 use Rattle.ledger.proofs.WorkedParts.{bins_of_7, read_whole, rec_7, inc_a, moves_g}
 use Rattle.run_ledger.proofs.Accounts.{run_accounts}
 use Rattle.worked_runs.specs.Run.{plan_of_run, events_of_run, files_of_run, first_events, second_events, flushes_of_run, reads_of_run, report_with, report_of_run, told_of_run, early_read, part_of, IsLedgerOfRun}
-use Rattle.worked_runs.specs.Broken.{ThirdAloneBroken, FourthAloneBroken, FifthAloneBroken, flushes_exchanged, plan_of_more, counted_twice, part_moved, value_lost, value_fallen, place_fallen, reading_left_out, flushes_joined, plan_of_fewer, gauge_too_early, word_unset, units_made_up, works_in}
+use Rattle.worked_runs.specs.Broken.{ThirdAloneBroken, FourthAloneBroken, FifthAloneBroken, flushes_exchanged, plan_of_more, counted_twice, part_moved, value_lost, value_fallen, place_fallen, reading_left_out, flushes_joined, plan_of_fewer, gauge_too_early, word_unset, units_made_up, delta_left_out, counter_left_out, gauge_read_too_early, place_behind_the_log, part_of_8, value_in_another_bin, works_in}
 use Rattle.worked_runs.proofs.Accounted.{two_account, three_rise}
 
 first_read : AreEventsOf (file_of first_events) file.Whole 0 first_events
@@ -199,4 +200,63 @@ fewer_reads = record {
   swept = record { number = refl; sweeps = refl; rising = three_rise; ended = refl };
   account = same_account _;
   not_shown = λ shown. let number = shown.number in absurd (omega (arith, number));
+}
+
+pub without_delta : FourthAloneBroken delta_left_out
+without_delta = record {
+  read = is_read _ _;
+  history = same_history _ _;
+  swept = record { number = refl; sweeps = refl; rising = three_rise; ended = refl };
+  no_account = λ account. nil_cons _ [] account.flushes.0.deltas;
+  shown = same_shown _;
+}
+
+pub without_counter : FifthAloneBroken counter_left_out
+without_counter = record {
+  read = is_read _ _;
+  history = same_history _ _;
+  swept = record { number = refl; sweeps = refl; rising = three_rise; ended = refl };
+  account = same_account _;
+  not_shown = λ shown. nil_cons _ [] shown.each.0.counters;
+}
+
+pub gauge_early : FifthAloneBroken gauge_read_too_early
+gauge_early = record {
+  read = is_read _ _;
+  history = same_history _ _;
+  swept = record { number = refl; sweeps = refl; rising = three_rise; ended = refl };
+  account = same_account _;
+  not_shown = λ shown. nil_cons _ [] (sym shown.each.0.gauges);
+}
+
+pub behind_the_log : FifthAloneBroken place_behind_the_log
+behind_the_log = record {
+  read = is_read _ _;
+  history = same_history _ _;
+  swept = record { number = refl; sweeps = refl; rising = three_rise; ended = refl };
+  account = same_account _;
+  not_shown = λ shown. let within = shown.each.1.0.within in absurd (omega (arith, within));
+}
+
+-- the first two digits of the first bin
+abbrev first_digits : List BinCount → ℕ
+first_digits [] = 0
+first_digits (c ∷ cs) = c.bin.val
+
+-- the part that a flush has alone has the bins of its worker's segment
+held_alone : (segs : List (List Recording)) (part : Part) → ArePartsOf (bins_by_worker segs) (part ∷ []) → part.bins ≡ bins_by_worker segs part.worker part.id.0
+held_alone segs part parts =
+    let held = recursion_from_All (λ (p : Part). (p.bins ≡ bins_by_worker segs p.worker p.id.0) × (p.bins ≢ [])) (part ∷ []) parts.held in
+    held.0.0
+
+pub another_bin : FourthAloneBroken value_in_another_bin
+another_bin = record {
+  read = is_read _ _;
+  history = same_history _ _;
+  swept = record { number = refl; sweeps = refl; rising = three_rise; ended = refl };
+  no_account = λ account.
+      let held = held_alone (segments_at 0 1 (works_in value_in_another_bin) value_in_another_bin.flushes) part_of_8 account.flushes.0.parts in
+      let digits_are : 80 ≡ 70 = ap first_digits (held ∙ bins_of_7) in
+      absurd (omega (arith, digits_are));
+  shown = same_shown _;
 }

@@ -1,6 +1,7 @@
 -- Reports that differ from that of the worked run, or from what was asked for, in one place, and are no ledgers. This
 -- project's own.
-use Rattle.std.specs.Prelude.{List, [], ◌∷◌}
+use Rattle.std.specs.Prelude.{pos, List, [], ◌∷◌}
+use Rattle.stat_defs.specs.declared.reports.Part.{Part}
 use Rattle.stat_defs.specs.declared.reports.Report.{Report}
 use Rattle.ledger.specs.Work.{Work, apart}
 use Rattle.ledger.specs.Ledger.{RunPlan, AreRead, HasHistory, AreSwept, Account, AreShown}
@@ -34,6 +35,13 @@ counted_twice = report_with (flushes_with (part_of 1) 6) reads_of_run
 abbrev pub part_moved : Report
 part_moved = report_with (flushes_with (part_of 2) 2) reads_of_run
 
+-- the first flush has the value in the bin of 8, and it was 7
+abbrev pub part_of_8 : Part
+part_of_8 = record (part_of 1) { bins = record { bin = record { val = 80; exp = pos 0 }; count = 1 } ∷ [] }
+
+abbrev pub value_in_another_bin : Report
+value_in_another_bin = report_with (flushes_with part_of_8 2) reads_of_run
+
 -- the first flush has no part, and no other has its value
 abbrev pub value_lost : Report
 value_lost = report_with
@@ -48,6 +56,25 @@ gauge_too_early = report_with
 abbrev pub word_unset : Report
 word_unset = report_with
     (first_flush (part_of 1) ∷ second_flush ∷ record (last_flush 2) { gauges = reading 2 4 ∷ [] } ∷ []) reads_of_run
+
+-- the first flush has no delta of the counter, which was made before its sweep, and the second one has its 3 units too
+abbrev pub delta_left_out : Report
+delta_left_out = report_with
+    (record (first_flush (part_of 1)) { deltas = [] } ∷ record second_flush { deltas = delta 1 7 ∷ [] } ∷ last_flush 2
+    ∷ []) reads_of_run
+
+-- the early reading has no counter, though it was made by then
+abbrev pub counter_left_out : Report
+counter_left_out = report_with flushes_of_run (record (early_read 3) { counters = [] } ∷ late_read 7 ∷ [])
+
+-- the early reading has the gauge, which was made behind its place
+abbrev pub gauge_read_too_early : Report
+gauge_read_too_early = report_with flushes_of_run
+    (record (early_read 3) { gauges = reading 2 9 ∷ [] } ∷ late_read 7 ∷ [])
+
+-- the late reading is of more log entries than there are
+abbrev pub place_behind_the_log : Report
+place_behind_the_log = report_with flushes_of_run (early_read 3 ∷ record (late_read 7) { at = 13 } ∷ [])
 
 -- the late reading shows 10 units of 9
 abbrev pub units_made_up : Report

@@ -4,7 +4,9 @@ ghost use Rattle.worked_runs.specs.Run.{TwoAccount, IsLedgerOfRun, plan_of_run, 
 ghost use Rattle.worked_runs.specs.Broken.{ThirdAloneBroken, FourthAloneBroken, FifthAloneBroken, flushes_exchanged};
 ghost use Rattle.worked_runs.specs.Broken.{plan_of_more, counted_twice, part_moved, value_lost, value_fallen};
 ghost use Rattle.worked_runs.specs.Broken.{place_fallen, reading_left_out, flushes_joined, plan_of_fewer};
-ghost use Rattle.worked_runs.specs.Broken.{gauge_too_early, word_unset, units_made_up};
+ghost use Rattle.worked_runs.specs.Broken.{gauge_too_early, word_unset, units_made_up, delta_left_out};
+ghost use Rattle.worked_runs.specs.Broken.{counter_left_out, gauge_read_too_early, place_behind_the_log};
+ghost use Rattle.worked_runs.specs.Broken.{value_in_another_bin};
 
 /// A worked run: its workers, flushes and readings account for what they did.
 ///
@@ -48,6 +50,11 @@ pub fn a_part_of_another_worker()
     ensures { FourthAloneBroken part_moved }
 {}
 
+/// A broken report: the value of worker 1, which is 7, stands in the bin of 8. That is no ledger by its fourth part alone.
+pub fn a_value_in_another_bin()
+    ensures { FourthAloneBroken value_in_another_bin }
+{}
+
 /// A broken report: the value of worker 1 stands in no part. That is no ledger by its fourth part alone.
 pub fn a_value_in_no_part()
     ensures { FourthAloneBroken value_lost }
@@ -62,6 +69,29 @@ pub fn a_gauge_before_it_was_made()
 /// A broken report: the last word of the gauge is 4, which no worker set. That is no ledger by its fourth part alone.
 pub fn a_word_that_no_worker_set()
     ensures { FourthAloneBroken word_unset }
+{}
+
+/// A broken report: the first flush has no delta of the counter, which was made by then, and the second one has its units
+/// too. That is no ledger by its fourth part alone.
+pub fn a_delta_left_out()
+    ensures { FourthAloneBroken delta_left_out }
+{}
+
+/// A broken report: the first reading has no value of the counter, which was made by then. That is no ledger by its fifth
+/// part alone.
+pub fn a_counter_left_out()
+    ensures { FifthAloneBroken counter_left_out }
+{}
+
+/// A broken report: the first reading has a word of the gauge, which was made behind it. That is no ledger by its fifth
+/// part alone.
+pub fn a_gauge_read_before_it_was_made()
+    ensures { FifthAloneBroken gauge_read_too_early }
+{}
+
+/// A broken report: the second reading is of more log entries than there are. That is no ledger by its fifth part alone.
+pub fn a_place_behind_the_log()
+    ensures { FifthAloneBroken place_behind_the_log }
 {}
 
 /// A broken report: the second reading shows 10 units, and 9 were accepted. That is no ledger by its fifth part alone.
