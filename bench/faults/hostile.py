@@ -3,10 +3,11 @@
 
 Makes the files of each case in a temporary folder and runs `replay` and `run` over them. It looks at the status, at
 standard error and at the end of the output, and prints the time and the peak of memory, beside those of ordinary files
-of the same sizes: half increments of 512 counters, a quarter values of 16 histograms, a quarter moves of a gauge, at
-most as many as a file may have. A case is wrong where the status or what was written is another one, where more than
-4 GB were in use, or where it took more than ten times as long as the ordinary files and no cause is known; times below
-a twentieth of a second count as that. Its own status is the number of cases that were wrong.
+of the same sizes: scripts of `load`, which are half increments of 512 counters, a quarter values of 16 histograms and a
+quarter moves of a gauge, at most as many events as a file may have. A case is wrong where the status or what was
+written is another one, where more than 4 GB were in use, or where it took more than ten times as long as the ordinary
+files and no cause is known; times below a twentieth of a second count as that. Its own status is the number of cases
+that were wrong.
 
 Words behind PROGRAM are the names of the cases to run; all where there is none. It needs GNU time, and Linux.
 """
@@ -52,19 +53,16 @@ def put_boot(name, boot):
     return put(name, json.dumps(boot).encode())
 
 
-def ordinary(size, seed):
-    """Lines of about so many bytes."""
-    rng, lines, held = random.Random(seed), [], 0
+def ordinary(size, script):
+    """Lines of about so many bytes: those of a script of `load`."""
+    lines, held, x = [], 0, script
     while held < size and len(lines) < EVENTS:
-        kind, n = rng.randrange(4), rng.randrange(1000)
-        if kind < 2:
-            line = "inc root upstream_rq_total.%06d %d" % (rng.randrange(512), n)
-        elif kind == 2:
-            line = "rec root upstream_rq_time_%06d %d" % (rng.randrange(16), n * 97)
-        else:
-            line = "add root upstream_rq_active%05d acc %d" % (seed, n)
-        lines.append(line)
-        held += len(line) + 1
+        x = 6364136223846793005 * x + 1442695040888963407 & (1 << 64) - 1
+        r = x >> 33
+        i, j = r >> 2, r >> 11
+        lines.append(("inc root c%d %d" % (i % 512, j % 1000), "inc root c%d %d" % (i % 512, j % 1000),
+                      "rec root h%d %d" % (i % 16, j % 100000), "add root g%d acc %d" % (script, j % 1000))[r & 3])
+        held += len(lines[-1]) + 1
     return lines
 
 
@@ -107,7 +105,7 @@ def beside(program, command, case):
         return best(program, [command, USUAL] + case.beside)[3]
     sizes = case.beside or tuple(os.path.getsize(f) if os.path.isfile(f) else BYTES for f in case.words)
     if (command, sizes) not in ORDINARY:
-        files = [put("ordinary%d" % at, ordinary(size, at)) for at, size in enumerate(sizes)]
+        files = [put("ordinary%d" % at, ordinary(size, at)) for at, size in enumerate(sizes, 1)]
         ORDINARY[command, sizes] = best(program, [command, USUAL] + files)[3]
     return ORDINARY[command, sizes]
 
@@ -144,7 +142,7 @@ def many_releases():
 def open_and_release():
     files = same_name(32, ["open s p", "inc s a 1", "release s"] * 10000)
     return Case(files, ends=lambda told: len(told) == 32 and all(a + d == 30000 for a, d in told),
-                slow="each event is one call of the book, under its lock, and each counter is made anew")
+                slow="each event is one call of the book, which the workers of a run make one behind the other")
 
 
 def dots():
@@ -158,8 +156,7 @@ def dots():
         lines.append("inc s %s 1" % ".".join(tokens))
     boot = put_boot("b", {"stats_run": {"scopes": [{"label": "s", "prefix": prefix}]}})
     assert len(prefix) == 255 and len(lines[0]) == 255 + 8 and len(set(lines)) == METRICS
-    return Case([put("f", lines)], boot=boot, ends=lambda told: told == [(METRICS, 0)],
-                slow="a name's 256 numbers are stored for each metric, and the output has all names")
+    return Case([put("f", lines)], boot=boot, ends=lambda told: told == [(METRICS, 0)])
 
 
 def only_dots():
@@ -179,7 +176,7 @@ def warm_histograms():
         lines = ["rec root h%d %d" % (at % 1024, rng.randrange(1 << rng.randrange(1, 64))) for at in range(EVENTS)]
         files.append(put("f%d" % worker, lines))
     return Case(files, boot=boot, ends=lambda told: told == [(EVENTS, 0)] * 32,
-                slow="the tables of 1,024 histograms are more than the caches hold; with 16 it takes a quarter of it")
+                slow="the tables of 1,024 histograms are more than the caches hold")
 
 
 def churn():
@@ -187,8 +184,7 @@ def churn():
     files = [put("f1", ["open s p", "release s"] * (EVENTS // 2))]
     for worker in range(2, 33):
         files.append(put("f%d" % worker, ("inc s n%d 1" % (at % 7) for at in range(EVENTS))))
-    return Case(files, ends=lambda told: told[0][0] + told[0][1] == EVENTS and len(told) == 32,
-                slow="each event is one call of the book, under its lock, and stands in its log")
+    return Case(files, ends=lambda told: told[0][0] + told[0][1] == EVENTS and len(told) == 32)
 
 
 def rules_of(count, names):
@@ -214,6 +210,19 @@ def rules():
 
 def twice_the_names():
     return rules_of(2, 16)
+
+
+def searched_rules():
+    """As many such patterns over names that have the parts of which each match has one, and no match."""
+    words = ["b%02d" % at for at in range(64)]
+    rules = [{"tag_name": "t" + w, "regex": "((a*)*%s%s)[cd]" % ("(?:a*)*" * 144, w)} for w in words]
+    patterns = [{"safe_regex": {"regex": ".*%s%s[cd].*" % ("(?:a*)*" * 144, w)}} for w in words[:32]]
+    config = {"use_all_default_tags": False, "stats_tags": rules,
+              "stats_matcher": {"exclusion_list": {"patterns": patterns}}}
+    boot = put_boot("b", {"stats_config": config, "stats_run": {"scopes": [{"label": "s", "prefix": "a" * 255}]}})
+    lines = ["inc s %s%s%03d 1" % ("a" * 60, "".join(words), at) for at in range(2)]
+    return Case([put("f", lines)], boot=boot, ends=lambda told: told == [(2, 0)],
+                slow="each of 96 patterns is run over each new name, through all its states at each byte")
 
 
 def folded(a, b):
@@ -370,10 +379,10 @@ def odd_bytes():
                 r"file 1 line 3: no event\nfile 2 line 1: no event\n", ends=lambda told: told == [(1, 0), (0, 0)])
 
 
-CASES = [many_releases, open_and_release, dots, only_dots, warm_histograms, churn, rules, twice_the_names, one_hash,
-         labels_of_one_hash, endless_pipe, endless_bootstrap, directory, bootstrap_directory, zeros, bootstrap_zeros, full_device,
-         most_events, an_event_too_many, most_bytes, a_byte_too_many, big_bootstrap, deep_bootstrap, longest_lines,
-         a_line_too_long, odd_bytes]
+CASES = [many_releases, open_and_release, dots, only_dots, warm_histograms, churn, rules, twice_the_names,
+         searched_rules, one_hash, labels_of_one_hash, endless_pipe, endless_bootstrap, directory, bootstrap_directory,
+         zeros, bootstrap_zeros, full_device, most_events, an_event_too_many, most_bytes, a_byte_too_many, big_bootstrap,
+         deep_bootstrap, longest_lines, a_line_too_long, odd_bytes]
 
 
 def try_case(program, make):
@@ -396,37 +405,41 @@ def try_case(program, make):
     return wrong
 
 
-def opened_by(process, path):
-    """Whether a process has the file open."""
-    folder = "/proc/%d/fd" % process.pid
+def opened_below(process, path):
+    """Whether the program that `time` started has the file open."""
     try:
-        return any(os.path.realpath(os.path.join(folder, fd)) == path for fd in os.listdir(folder))
+        children = Path("/proc/%d/task/%d/children" % (process.pid, process.pid)).read_text().split()
+        return any(os.path.realpath(link) == path for child in children for link in Path("/proc", child, "fd").iterdir())
     except OSError:
         return False
 
 
 def replaced(program, command):
     """A file is replaced by another one of its name while a second file, a pipe, holds the program up. What was opened
-    before is read to its end: a run opens its files first, and a replay one behind the other."""
+    before is read to its end. A run has opened the first file by then, and a replay has read it."""
     with tempfile.TemporaryDirectory() as place:
         os.chdir(place)
         put("f", ["inc root old 1"] * 3)
         put("new", ["inc root new 1"] * 5)
         os.mkfifo("p")
-        process = subprocess.Popen([program, command, USUAL, "f", "p"], stdout=subprocess.PIPE, stderr=subprocess.PIPE)
+        started, timed = time.perf_counter(), ["/usr/bin/time", "-q", "-f", "%M", "-o", "figures"]
+        process = subprocess.Popen(timed + [program, command, USUAL, "f", "p"], stdout=subprocess.PIPE,
+                                   stderr=subprocess.PIPE)
         patience = time.time() + 10
-        while command == "run" and not opened_by(process, os.path.join(place, "f")) and time.time() < patience:
+        while command == "run" and not opened_below(process, os.path.join(place, "f")) and time.time() < patience:
             time.sleep(0.01)
         time.sleep(0.3)
         os.rename("new", "f")
         with open("p", "w") as to:
             to.write("inc root p 1\n")
         out, err = process.communicate(timeout=LONGEST)
+        wall, memory = time.perf_counter() - started, int(Path("figures").read_text())
         os.chdir("/")
     whole = (b"# last\nenvoy.old:3|c\nenvoy.p:1|c\n"
              b"# worker 1: 3 accepted, 0 dropped\n# worker 2: 1 accepted, 0 dropped\n")
     right = process.returncode == 0 and err == b"" and out == whole
-    print("%-20s %-6s status %d%s" % ("replaced", command, process.returncode, "" if right else "; WRONG: %r" % out))
+    print("%-20s %-6s status %d, %7.3f s held up, %6.1f MB%s" % (
+        "replaced", command, process.returncode, wall, memory / 1024, "" if right else "; WRONG: %r" % out))
     return not right
 
 
@@ -450,8 +463,9 @@ def rewritten(program, command):
         os.chdir("/")
     said = re.compile(r"|file 1 line \d+: (no event|line too long)\n|file 1: too many events\n")
     right = all(status in (0, 3) and said.fullmatch(err) and accepted(out) for status, out, err, _, _ in runs)
-    print("%-20s %-6s statuses %s, at most %.3f s%s" % ("rewritten", command, sorted({run[0] for run in runs}),
-                                                       max(run[3] for run in runs), "" if right else "; WRONG"))
+    print("%-20s %-6s statuses %s, at most %.3f s, %6.1f MB%s" % (
+        "rewritten", command, sorted({run[0] for run in runs}), max(run[3] for run in runs),
+        max(run[4] for run in runs) / 1024, "" if right else "; WRONG"))
     return not right
 
 

@@ -8,14 +8,17 @@ run, until so many runs in a row had no refusal.
 
 A run ends as it would have without the refusal, or with want of memory: status 6 and a front of the output, or a test
 that gives this error. Whatever else comes is wrong, a run that does not end too. The tests whose names begin with
-`goes_on` give a refused event again or pass it over, so most of their runs go on to the end of the store. A line for each subject tells how many
-runs there were, in how many a request was refused, and in how many of these want of memory was told. The status is the
-number of wrong runs. It needs a C compiler, and Linux for LD_PRELOAD.
+`goes_on` give a refused event again or pass it over, so some of their runs go on to the end of the store; where none
+does, that is wrong. A line for each subject tells how many runs there were, in how many a request was refused, and in
+how many of these want of memory was told. The status is the number of wrong runs. It needs a C compiler, and Linux for
+LD_PRELOAD.
 
 The native build asks the C library for each block that the program asks for. `rt try --test --fail-alloc N` refuses the
 same requests of a build with checks, one number a build, which takes a minute or two.
 """
+import collections
 import os
+import re
 import subprocess
 import sys
 import tempfile
@@ -28,8 +31,11 @@ LONGEST = 30  # seconds that a run may take
 QUIET = 5  # runs in a row without a refusal, behind which there is none
 ROUNDS = b'{"stats_run":{"scopes":[{"label":"web","prefix":"http.web."}],"flushes":1,"flush_every":2,"reads":1}}'
 FILES = [b"inc web a 1\nrec web h 7\nopen s p\ninc s c 2\nrelease s\n", b"add web g acc 3\ntext web t x\nrec web h 9\n"]
-# What the last lines of the run are, whatever the flush and the reading before them came to.
-LAST = (b"# worker 1: 5 accepted, 0 dropped\n", b"# worker 2: 3 accepted, 0 dropped\n")
+# What the last lines of the run are, and the units of its counters over all flushes, whatever the flush and the reading
+# among the events came to.
+LAST = re.compile(rb"\nenvoy\.http\.web\.g:3\|g\n# read 1: [0-2] counters, [0-3] units\n"
+                  rb"# worker 1: 5 accepted, 0 dropped\n# worker 2: 3 accepted, 0 dropped\n\Z")
+UNITS = {b"envoy.http.web.a": 1, b"envoy.p.c": 2}
 
 
 def replay_ended(status, out, err):
@@ -38,10 +44,20 @@ def replay_ended(status, out, err):
     return "refused" if status == 6 and err == b"out of memory\n" and WHOLE.startswith(out) else "wrong"
 
 
+def units_in(out):
+    """The units of each counter in a text, over all its flushes."""
+    sums = collections.Counter()
+    for name, units in re.findall(rb"^([^#:\n]+):(\d+)\|c$", out, re.M):
+        sums[name] += int(units)
+    return sums
+
+
 def run_ended(status, out, err):
     if status == 0:
-        return "whole" if out.endswith(b"".join(LAST)) and out.startswith(b"# flush 1\n") and not err else "wrong"
-    front = out == b"" or out.startswith(b"# flush 1\n")
+        whole = out.startswith(b"# flush 1\n") and LAST.search(out) and units_in(out) == UNITS
+        return "whole" if whole and not err else "wrong"
+    few = all(units <= UNITS.get(name, -1) for name, units in units_in(out).items())
+    front = not out or out.startswith(b"# flush 1\n") and few
     return "refused" if status == 6 and err == b"out of memory\n" and front else "wrong"
 
 
@@ -77,6 +93,9 @@ def refuse_each(name, words, ended, place, shim):
         at += 1
     print("%s: %d runs, a request refused in %d: want of memory told in %d, went on to the end in %d, wrong %d"
           % (name, at, refusals, counts["refused"], went_on, counts["wrong"]), flush=True)
+    if "goes_on" in name and went_on == 0:
+        print("wrong: %s never went on" % name)
+        return counts["wrong"] + 1
     return counts["wrong"]
 
 

@@ -158,7 +158,8 @@ def main():
             run, replay = least([[programs[0], verb, "-"] + files for verb in ("run", "replay")])
             print("4 files of %s, run beside replay: %s; %s; wall %.2f" % (name, told(run), told(replay), run[0] / replay[0]))
         one, four = least([[programs[0], "run", "-"] + apart[:count] for count in (1, 4)])
-        print("4 files beside 1 of them: wall %.2f, user %.2f" % (four[0] / one[0], four[1] / one[1]))
+        print("4 files, %s; beside 1 of them, %s: wall %.2f, user %.2f"
+              % (told(four), told(one), four[0] / one[0], four[1] / one[1]))
         alone, together = (of_processes(programs[0], apart[:count]) for count in (1, 4))
         print("4 processes of a file each beside 1 of them: wall %.2f" % (together / alone))
         rounds = paced(folder, "paced", flushes=64, flush_every=4 * FULL // 64, reads=64)
