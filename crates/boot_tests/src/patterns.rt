@@ -345,13 +345,13 @@ fn by_regex(alloc: Global, pattern: &Regex, name: &str) -> Result<Vec<u8>, Fail>
 }
 
 // Asserts that a rule of this pattern makes of each name what `regex` does. The result is how many names get a tag.
-fn assert_as_regex(rt: &impl Abort, alloc: Global, text: &str) -> Result<u64, Fail> {
+fn assert_as_regex(rt: &impl Abort, alloc: Global, text: &str, names: &str) -> Result<u64, Fail> {
     let mut maker = RegexMaker::new(Vec::new(alloc));
     let spec = rule(alloc, Way::Regex, "t", text)?;
     let rules = TagRules::build(alloc, &mut maker, &[spec])?;
     let pattern = Regex::new(alloc, text)?;
     let mut tagged = 0u64;
-    for name in NAMES.split(' ') {
+    for name in names.split(' ') {
         let wanted = by_regex(alloc, &pattern, name)?;
         let made = shown(alloc, &rules, name)?;
         assert!(rt; made == wanted, "of {text} and {name}");
@@ -364,9 +364,33 @@ fn assert_as_regex(rt: &impl Abort, alloc: Global, text: &str) -> Result<u64, Fa
 fn beside_regex(rt: HostRuntime) -> Result<(), Fail> {
     let mut tagged = 0u64;
     for text in PATTERNS.split('\n') {
-        tagged = tagged.wrapping_add(assert_as_regex(&rt, rt.alloc(), text)?);
+        tagged = tagged.wrapping_add(assert_as_regex(&rt, rt.alloc(), text, NAMES)?);
     }
     assert_eq!(rt; tagged, 94);
+    Ok(())
+}
+
+// As many of these texts one behind the other.
+fn repeated(alloc: Global, text: &str, count: usize) -> Result<String, Fail> {
+    let mut all = String::new(alloc);
+    for _ in 0..count {
+        all.push_str(text)?;
+    }
+    Ok(all)
+}
+
+// A search in these names may take so long that the pattern's DFA is asked first. It is made for the first name, and has
+// its states for the others.
+#[test]
+fn long_names(rt: HostRuntime) -> Result<(), Fail> {
+    let alloc = rt.alloc();
+    let stars = repeated(alloc, "(?:a*)*", 100)?;
+    let many = repeated(alloc, "a", 500)?;
+    let text = format!(in alloc; "^({stars}[bé])d$")?;
+    let names = format!(in alloc; "{many}xbd {many}xéd {many}bd {many}bde {many}éd {many}xbd bd")?;
+    assert_eq!(rt; assert_as_regex(&rt, alloc, &text, &names)?, 3);
+    let anywhere = format!(in alloc; "({stars}[bé])d$")?;
+    assert_eq!(rt; assert_as_regex(&rt, alloc, &anywhere, &names)?, 6);
     Ok(())
 }
 

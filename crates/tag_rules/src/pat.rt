@@ -1,5 +1,5 @@
 //! Compiled regular expressions.
-ghost use Rattle.std.specs.Prelude.{◌≡◌, ◌≤◌, nat_lt, IfOk, IfErr, IfSome, OnOk, length, vec_len, option_map};
+ghost use Rattle.std.specs.Prelude.{◌≡◌, ◌≤◌, nat_lt, None, IfOk, IfErr, IfSome, IsTrue, OnOk, length, vec_len, option_map};
 ghost use Rattle.regex.specs.Failures.{IsRightKind};
 ghost use Rattle.regex.specs.Patterns.{default_config};
 ghost use Rattle.regex.specs.Sources.{IsRefusal};
@@ -8,6 +8,7 @@ ghost use Rattle.tag_rules.specs.declared.pat.TheConstants.{MAX_STATES};
 ghost use Rattle.tag_rules.specs.Machines.{places_in};
 ghost use Rattle.tag_rules.specs.Patterns.{leftmost, is_found, captured, IsPlaceIn};
 
+use crate::lazy_dfa::LazyDfa;
 use crate::machine::{self, place_of};
 use crate::starts::Starts;
 use regex::Error;
@@ -17,6 +18,7 @@ use regex_vm::Backtracker;
 use stat_defs::Txt;
 use std::alloc::{AllocError, Global};
 use std::marker::Model;
+use std::sync::Mutex;
 
 /// Maximum number of states of a pattern's program.
 pub const MAX_STATES: usize = 16_384;
@@ -30,13 +32,26 @@ const _: () = prove!(MAX_STATES == 16_384 && MAX_TABLE_BYTES == 1_048_576);
 /// The groups that a search asks for, group 0 included.
 const GROUPS: u32 = 3;
 
+/// A search may go through each state at each byte. From this many pairs of both on the DFA is asked first.
+const MANY_STEPS: usize = 16_384;
+
+// The DFA of a pattern, made where a name first needs it.
+#[derive(Drop)]
+enum Sieve {
+    Unmade,
+    Made(LazyDfa),
+    Refused,
+}
+
 /// A regular expression, ready to be searched for. Contracts see it as its text, and its matches are those that `regex`
-/// defines for that text.
+/// defines for that text. Since a contract knows nothing of what a lock has, the DFA in it carries its own text, which
+/// is compared with the pattern's before its answer is taken.
 #[derive(Drop)]
 pub struct Pat {
     text: Txt,
     nfa: Nfa,
     starts: Starts,
+    sieve: Mutex<Sieve>,
 }
 
 impl Model for Pat {
@@ -77,7 +92,12 @@ impl Pat {
         let Ok(text) = Txt::of(alloc, text.as_bytes()) else {
             return Err(Error::OutOfMemory);
         };
-        Ok(Pat { text, nfa, starts })
+        Ok(Pat {
+            text,
+            nfa,
+            starts,
+            sieve: Mutex::new(Sieve::Unmade),
+        })
     }
 
     /// Whether the pattern is found in the name.
@@ -123,7 +143,45 @@ impl Pat {
         ensures cells { OnOk result (IfSome (leftmost self.now name.now)
             (λ m. cells.new ≡ group_cells m (length cells.old))) }
     {
+        if self.takes_long(name) && self.is_ruled_out(alloc, name) {
+            return Ok(None);
+        }
         machine::leftmost(alloc, &self.nfa, &self.starts, tracker, name, cells)
+    }
+
+    // Whether the name may have a match, and the search for it may take many steps.
+    #[inline(always)]
+    fn takes_long(&self, name: &str) -> bool {
+        let steps = name.len().saturating_mul(self.nfa.states.len());
+        steps >= MANY_STEPS && self.starts.range(name.as_bytes(), 0).is_some()
+    }
+
+    // Whether the DFA finds that there is no match.
+    #[cold]
+    fn is_ruled_out(&self, alloc: Global, name: &str) -> bool
+        ensures { IsTrue result → leftmost self.now name.now ≡ None }
+    {
+        let Some(mut sieve) = self.sieve.try_lock() else {
+            return false;
+        };
+        if let Sieve::Unmade = &*sieve {
+            *sieve = made(alloc, &self.text);
+        }
+        match &mut *sieve {
+            Sieve::Made(dfa) => dfa.is_of(&self.text) && dfa.rules_out(name),
+            _ => false,
+        }
+    }
+}
+
+// The DFA of the text, if it can be made.
+fn made(alloc: Global, text: &Txt) -> Sieve {
+    let Ok(text) = std::str::from_utf8(text.bytes()) else {
+        return Sieve::Refused;
+    };
+    match LazyDfa::new(alloc, text) {
+        Some(dfa) => Sieve::Made(dfa),
+        None => Sieve::Refused,
     }
 }
 
