@@ -7,8 +7,8 @@ use Rattle.stat_defs.specs.declared.history.Verdict.{Verdict}
 use Rattle.stat_defs.specs.declared.reports.FlushRecord.{FlushRecord}
 use Rattle.stat_defs.specs.declared.reports.Report.{Report}
 use Rattle.event_script.specs.declared.limits.TheConstants as file
-use Rattle.lone_worker.specs.declared.worker.TheConstants as worker
-use Rattle.lone_worker.specs.Worker.{WorkerHistory}
+use Rattle.plain_store.specs.declared.worker.TheConstants as worker
+use Rattle.plain_store.specs.Worker.{WorkerHistory}
 use Rattle.flush_view.specs.Showing.{IsShowable}
 use Rattle.plain_store.specs.Store.{StoreHistory, Applied, new_store}
 use Rattle.library_examples.specs.StoreOf.{IsStoreOf, IsReportOfStore}

@@ -5,7 +5,7 @@ use Rattle.stat_defs.specs.declared.reports.FileEnd.{FileEnd}
 use Rattle.stat_defs.specs.declared.reports.FlushRecord.{FlushRecord}
 use Rattle.stats_io.specs.States.{SourceState}
 use Rattle.event_script.specs.declared.limits.TheConstants as file
-use Rattle.lone_worker.specs.declared.worker.TheConstants as worker
+use Rattle.plain_store.specs.declared.worker.TheConstants as worker
 use Rattle.plain_store.specs.Store.{StoreHistory}
 use Rattle.library_examples.specs.Counting.{AreLinesFlushed, AreFlushedInTurn, Stays}
 use Rattle.library_examples.proofs.LinesFlushed.{in_turn_push}

@@ -5,9 +5,9 @@ use Rattle.stat_defs.specs.declared.reports.FileEnd.{FileEnd}
 use Rattle.stat_defs.specs.declared.reports.FlushRecord.{FlushRecord}
 use Rattle.stats_io.specs.States.{SourceState}
 use Rattle.event_script.specs.declared.limits.TheConstants as file
-use Rattle.lone_worker.specs.declared.worker.TheConstants as worker
+use Rattle.plain_store.specs.declared.worker.TheConstants as worker
 use Rattle.plain_store.specs.Store.{StoreHistory, Flushes}
-use Rattle.replay_report.proofs.AppliedEvents.{more_events}
+use Rattle.replay_files.proofs.AppliedEvents.{more_events}
 use Rattle.library_examples.specs.Counting.{AreLinesApplied, AreLinesFlushed, AreFlushedInTurn, Stays}
 use Rattle.library_examples.proofs.StoreKept.{events, flushed}
 

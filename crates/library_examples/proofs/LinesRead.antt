@@ -16,7 +16,7 @@ use Rattle.event_script.proofs.Runs.{run_of}
 use Rattle.event_script.proofs.Moves.{moves_trans}
 use Rattle.flush_view.proofs.FileEvents.{files_few}
 use Rattle.plain_store.specs.Store.{StoreHistory}
-use Rattle.replay_report.proofs.SoFar.{SoFar}
+use Rattle.replay_files.proofs.SoFar.{SoFar}
 use Rattle.library_examples.specs.Counting.{AreLinesApplied}
 
 -- the events of a run are lawful

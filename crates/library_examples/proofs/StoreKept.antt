@@ -16,10 +16,10 @@ use Rattle.stat_defs.specs.declared.reports.FlushRecord.{FlushRecord}
 use Rattle.event_script.specs.Grammar.{IsLawful}
 use Rattle.ledger.specs.Work.{Work}
 use Rattle.ledger.proofs.WorkedParts.{none_falls}
-use Rattle.lone_worker.specs.declared.worker.TheConstants.{MAX_EVENTS}
+use Rattle.plain_store.specs.declared.worker.TheConstants.{MAX_EVENTS}
 use Rattle.plain_store.specs.Store.{StoreHistory, new_store, Applied, Flushes}
-use Rattle.replay_report.specs.Applying.{AreApplied}
-use Rattle.replay_report.proofs.AppliedEvents.{one_applied, zip_append}
+use Rattle.replay_files.specs.Applying.{AreApplied}
+use Rattle.replay_files.proofs.AppliedEvents.{one_applied, zip_append}
 use Rattle.library_examples.specs.StoreOf.{IsStoreOf}
 
 abbrev pub place : FlushRecord → ℕ

@@ -12,7 +12,7 @@ use Rattle.event_script.specs.Grammar.{IsLawful}
 use Rattle.event_script.specs.FileEvents.{AreEventsOf}
 use Rattle.event_script.specs.declared.limits.TheConstants as file
 use Rattle.plain_store.specs.Store.{StoreHistory, new_store, Applied, Flushes}
-use Rattle.replay_report.specs.Applying.{AreApplied}
+use Rattle.replay_files.specs.Applying.{AreApplied}
 use Rattle.library_examples.specs.StoreOf.{IsStoreOf, IsReportOfStore}
 
 -- an event was applied twice, and then came a flush, whose record this is

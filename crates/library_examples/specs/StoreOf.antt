@@ -10,10 +10,10 @@ use Rattle.stat_defs.specs.declared.reports.FlushRecord.{FlushRecord}
 use Rattle.stat_defs.specs.declared.reports.LastFlush.{LastFlush}
 use Rattle.stat_defs.specs.declared.reports.Report.{Report}
 use Rattle.event_script.specs.Grammar.{IsLawful}
-use Rattle.lone_worker.specs.declared.worker.TheConstants.{MAX_EVENTS}
+use Rattle.plain_store.specs.declared.worker.TheConstants.{MAX_EVENTS}
 use Rattle.flush_view.specs.Showing.{IsShowable}
 use Rattle.plain_store.specs.Store.{StoreHistory, new_store, Applied, Flushes, Finishes}
-use Rattle.replay_report.specs.Applying.{AreApplied}
+use Rattle.replay_files.specs.Applying.{AreApplied}
 
 -- A store of this configuration, none of whose calls was cut short by want of memory: each event that was decided was
 -- counted. Its events are lawful, and its flushes stand in the order of their sweeps.

@@ -3,8 +3,8 @@ ghost use Rattle.std.specs.Prelude.{◌≡◌, ◌≤◌, ◌<◌, ◌+◌, ◌*
 ghost use Rattle.stat_defs.specs.Events.{IsLawfulEvent};
 ghost use Rattle.event_script.specs.Answer.{TellsEnd};
 ghost use Rattle.event_script.specs.declared.limits.TheConstants as file;
-ghost use Rattle.lone_worker.specs.declared.worker.TheConstants as worker;
-ghost use Rattle.replay_report.specs.Applying.{IsToldBehind};
+ghost use Rattle.plain_store.specs.declared.worker.TheConstants as worker;
+ghost use Rattle.replay_files.specs.Applying.{IsToldBehind};
 ghost use Rattle.library_examples.specs.Counting.{AreLinesApplied, AreLinesFlushed, AreFlushedInTurn, Stays};
 
 use event_script::{Lines, Step};

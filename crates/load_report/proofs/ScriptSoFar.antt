@@ -5,11 +5,11 @@ use Rattle.stat_defs.specs.declared.history.Verdict.{Verdict}
 use Rattle.load_scripts.specs.Load.{next_state, state_behind, event_at, events_behind}
 use Rattle.load_scripts.proofs.Behind.{state_suc, events_suc}
 use Rattle.load_scripts.proofs.Files.{many_events}
-use Rattle.lone_worker.specs.declared.worker.TheConstants.{MAX_EVENTS}
+use Rattle.plain_store.specs.declared.worker.TheConstants.{MAX_EVENTS}
 use Rattle.plain_store.specs.Store.{StoreHistory}
-use Rattle.replay_report.specs.Applying.{AreApplied, IsToldBehind}
-use Rattle.replay_report.proofs.AppliedEvents.{none_applied, more_events}
-use Rattle.replay_report.proofs.SoFar.{applied_more}
+use Rattle.replay_files.specs.Applying.{AreApplied, IsToldBehind}
+use Rattle.replay_files.proofs.AppliedEvents.{none_applied, more_events}
+use Rattle.replay_files.proofs.SoFar.{applied_more}
 
 -- so many events were applied, and this is the state of the last of them
 pub record SoFar (script done state : ℕ) (earlier later : StoreHistory) (verdicts : List Verdict) : Type 0 where

@@ -16,14 +16,14 @@ use Rattle.event_script.specs.FileEvents.{AreEventsOf}
 use Rattle.load_scripts.specs.declared.limits.TheConstants.{MAX_SCRIPTS, MAX_SCRIPT_EVENTS}
 use Rattle.load_scripts.specs.Load.{script_events, script_text, scripts, script_texts}
 use Rattle.load_scripts.proofs.Files.{script_is_file}
-use Rattle.lone_worker.specs.declared.worker.TheConstants.{MAX_EVENTS}
+use Rattle.plain_store.specs.declared.worker.TheConstants.{MAX_EVENTS}
 use Rattle.ledger.specs.Work.{Work, events_in, verdicts_in, work_of, together}
 use Rattle.ledger.specs.Ledger.{TakenAtFault, AreRead, IsReportOf, HasNames, last_flush_alone, plan_of}
 use Rattle.ledger.proofs.WorkLists.{lengths, events_back, verdicts_back}
 use Rattle.plain_store.specs.Store.{StoreHistory, new_store, Finishes}
-use Rattle.replay_report.specs.Applying.{with_applied, AreApplied}
-use Rattle.replay_report.specs.FileRun.{all_verdicts, report_with, reported_with}
-use Rattle.replay_report.proofs.AppliedReport.{applied_report, applied_names}
+use Rattle.replay_files.specs.Applying.{with_applied, AreApplied}
+use Rattle.replay_files.specs.FileRun.{all_verdicts, report_with, reported_with}
+use Rattle.replay_files.proofs.AppliedReport.{applied_report, applied_names}
 use Rattle.load_report.specs.LoadRun.{all_script_events, AreScriptsApplied, whole_end, script_ends}
 use Rattle.load_report.specs.LoadReport.{IsLoadOf}
 

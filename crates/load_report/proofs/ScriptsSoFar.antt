@@ -9,11 +9,11 @@ use Rattle.stat_defs.specs.declared.events.Event.{Event}
 use Rattle.stat_defs.specs.declared.history.Verdict.{Verdict}
 use Rattle.load_scripts.specs.Load.{script_events, scripts}
 use Rattle.load_scripts.proofs.Files.{many_events}
-use Rattle.lone_worker.specs.declared.worker.TheConstants.{MAX_EVENTS}
+use Rattle.plain_store.specs.declared.worker.TheConstants.{MAX_EVENTS}
 use Rattle.plain_store.specs.Store.{StoreHistory}
-use Rattle.replay_report.specs.Applying.{AreApplied}
-use Rattle.replay_report.specs.FileRun.{all_verdicts}
-use Rattle.replay_report.proofs.AppliedEvents.{none_applied, both_applied, more_events}
+use Rattle.replay_files.specs.Applying.{AreApplied}
+use Rattle.replay_files.specs.FileRun.{all_verdicts}
+use Rattle.replay_files.proofs.AppliedEvents.{none_applied, both_applied, more_events}
 use Rattle.load_report.specs.LoadRun.{all_script_events, AreScriptsApplied}
 
 pub no_scripts : (n : ℕ) (earlier : StoreHistory) (verdicts : List (List Verdict)) → verdicts ≡ []

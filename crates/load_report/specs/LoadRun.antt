@@ -7,8 +7,8 @@ use Rattle.stat_defs.specs.declared.reports.FileEnd.TheVariants.{Whole}
 use Rattle.stat_defs.specs.declared.reports.WorkerEnd.{WorkerEnd}
 use Rattle.load_scripts.specs.Load.{scripts}
 use Rattle.plain_store.specs.Store.{StoreHistory}
-use Rattle.replay_report.specs.Applying.{AreApplied}
-use Rattle.replay_report.specs.FileRun.{all_verdicts}
+use Rattle.replay_files.specs.Applying.{AreApplied}
+use Rattle.replay_files.specs.FileRun.{all_verdicts}
 
 -- the events of so many scripts of so many events each, one script after another
 abbrev pub all_script_events : ℕ → ℕ → List Event

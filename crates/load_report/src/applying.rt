@@ -5,8 +5,8 @@ ghost use Rattle.stat_defs.specs.Borrowed.{event_of};
 ghost use Rattle.stat_defs.specs.Events.{IsLawfulEvent};
 ghost use Rattle.load_scripts.specs.declared.limits.TheConstants.{MAX_SCRIPTS};
 ghost use Rattle.load_scripts.specs.Load.{script_events};
-ghost use Rattle.lone_worker.specs.declared.worker.TheConstants.{MAX_EVENTS};
-ghost use Rattle.replay_report.specs.Applying.{AreApplied, IsToldBehind};
+ghost use Rattle.plain_store.specs.declared.worker.TheConstants.{MAX_EVENTS};
+ghost use Rattle.replay_files.specs.Applying.{AreApplied, IsToldBehind};
 ghost use Rattle.load_report.specs.LoadRun.{AreScriptsApplied, script_ends};
 
 use load_scripts::{ScriptNames, next_state};

@@ -9,7 +9,7 @@ ghost use Rattle.load_report.specs.LoadRun.{script_ends};
 use crate::applying::{apply_scripts, script_ends};
 use name_map::HashKey;
 use plain_store::PlainStore;
-use replay_report::report_of;
+use replay_files::report_of;
 use stat_defs::{Config, NoMemory, Reported};
 use std::alloc::Global;
 use tag_rules::{Matcher, TagRules};

@@ -20,7 +20,7 @@ use Rattle.book_state.proofs.Growing.{replayed_on}
 use Rattle.book_state.proofs.Lists.{eq_or, get_change_same, get_change_other, get_map, get_within, get_push_before, both, true_false}
 use Rattle.book_state.proofs.Releasing.{others}
 use Rattle.stat_book.specs.Calls.{rules_of, state_of, IsLegal}
-use Rattle.lone_worker.specs.Entries.{Adds}
+use Rattle.plain_store.specs.Entries.{Adds}
 use Rattle.book_state.specs.Follows.{Own}
 use Rattle.plain_store.specs.StoreKept.{is_counter_there}
 

@@ -19,7 +19,7 @@ use Rattle.book_state.specs.Log.{replay}
 use Rattle.book_state.proofs.Lists.{get_map, true_false}
 use Rattle.stat_book.specs.Calls.{rules_of, state_of, IsLegal, Logged}
 use Rattle.stat_book.specs.NameChanges.{names_of}
-use Rattle.lone_worker.specs.Worker.{WorkerHistory, IsFollowed}
+use Rattle.plain_store.specs.Worker.{WorkerHistory, IsFollowed}
 use Rattle.ledger.specs.Work.{units_of}
 use Rattle.ledger.specs.Gauges.{gauge_word}
 use Rattle.ledger.specs.Segments.{left_over, bins_by_worker}

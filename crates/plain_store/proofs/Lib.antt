@@ -1,3 +1,5 @@
+pub mod OwnSeats
+pub mod WorkerLemmas
 pub mod Numbers
 pub mod Listed
 pub mod CountersStay

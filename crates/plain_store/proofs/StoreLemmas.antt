@@ -19,8 +19,8 @@ use Rattle.stat_defs.specs.declared.configs.Config.{Config}
 use Rattle.stat_defs.specs.declared.events.Key.{Key}
 use Rattle.stat_book.specs.Calls.{rules_of, state_of, IsLegal}
 use Rattle.book_seat.specs.Naming.{NamesLive, NamesOwn}
-use Rattle.lone_worker.specs.Entries.{Adds}
-use Rattle.lone_worker.specs.Worker.{WorkerHistory}
+use Rattle.plain_store.specs.Entries.{Adds}
+use Rattle.plain_store.specs.Worker.{WorkerHistory}
 use Rattle.ledger.specs.Work.{units_in, recording_in}
 use Rattle.ledger.specs.Gauges.{move_in}
 use Rattle.ledger.specs.Segments.{left_over}

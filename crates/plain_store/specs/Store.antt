@@ -11,7 +11,7 @@ use Rattle.stat_defs.specs.declared.reports.LastFlush.{LastFlush}
 use Rattle.book_state.specs.Follows.{Follows}
 use Rattle.stat_book.specs.Calls.{rules_of, IsLegal, Logged}
 use Rattle.stat_book.specs.NameChanges.{names_of}
-use Rattle.lone_worker.specs.Worker.{WorkerHistory, new_worker, Decides, IsCutShort as IsWorkerCutShort}
+use Rattle.plain_store.specs.Worker.{WorkerHistory, new_worker, Decides, IsCutShort as IsWorkerCutShort}
 use Rattle.ledger.specs.Work.{Work, units_of}
 use Rattle.ledger.specs.Gauges.{gauge_word}
 use Rattle.ledger.specs.Segments.{left_over, TakesLess}

@@ -5,7 +5,7 @@ use Rattle.stat_defs.specs.Keys.{same_kind}
 use Rattle.stat_defs.specs.declared.ids.Kind.TheVariants.{Counter}
 use Rattle.book_state.specs.State.{State, is_gone}
 use Rattle.stat_book.specs.Calls.{rules_of, state_of}
-use Rattle.lone_worker.specs.declared.worker.TheConstants.{MAX_EVENTS}
+use Rattle.plain_store.specs.declared.worker.TheConstants.{MAX_EVENTS}
 use Rattle.ledger.specs.Work.{units_of}
 use Rattle.ledger.specs.Gauges.{gauge_word}
 use Rattle.ledger.specs.Segments.{left_over, TakesLess}

@@ -1,5 +1,5 @@
 -- What a store sums up: numbers by the metrics that they belong to. This project's own.
-use Rattle.std.specs.Prelude.{◌≡◌, ◌<◌, ◌+◌, ℕ, ◌==◌, if◌then◌else◌, Bool, true, false, Option, None, Some, List, [], ◌∷◌, ◌++◌, map}
+use Rattle.std.specs.Prelude.{◌≡◌, ◌≤◌, ◌<◌, ◌+◌, ◌^◌, ℕ, ◌==◌, if◌then◌else◌, Bool, true, false, Option, None, Some, List, [], ◌∷◌, ◌++◌, map}
 use Rattle.std.specs.Prelude.{length, get_or, slice_get}
 use Rattle.std.specs.List.{list_any}
 use Rattle.std.specs.Option.{option_map_or}
@@ -11,7 +11,7 @@ use Rattle.stat_defs.specs.declared.history.Call.TheVariants as call
 use Rattle.stat_defs.specs.declared.history.Reply.TheVariants as reply
 use Rattle.stat_book.specs.Calls.{state_of, IsLegal, Logged}
 use Rattle.stat_book.specs.NameChanges.{names_of}
-use Rattle.lone_worker.specs.Worker.{WorkerHistory, IsFollowed}
+use Rattle.plain_store.specs.Worker.{WorkerHistory, IsFollowed}
 use Rattle.ledger.specs.Flushes.{ids_made, ids_not_gone}
 use Rattle.stat_defs.specs.declared.ids.MetricId.{MetricId}
 use Rattle.stat_defs.specs.declared.events.Event.{Event}
@@ -21,6 +21,7 @@ use Rattle.stat_defs.specs.declared.reports.Delta.{Delta}
 use Rattle.stat_defs.specs.declared.reports.Reading.{Reading}
 use Rattle.stat_defs.specs.declared.reports.FlushRecord.{FlushRecord}
 use Rattle.stat_defs.specs.declared.reports.LastFlush.{LastFlush}
+use Rattle.merge_round.specs.declared.half.TheConstants.{MAX_HALF_COUNT}
 use Rattle.merge_round.specs.Halves.{new_half, bins_by}
 use Rattle.merge_round.specs.Rounds.{new_parents, worker_values, all_values, ArePartsOf}
 use Rattle.book_state.specs.State.{State, metrics_of}
@@ -63,6 +64,11 @@ pub record AreAlike (old new : Sums) : Type 0 where
   pub deltas : (id : ℕ) → delta_in new id ≡ delta_in old id
   pub words : (id : ℕ) → word_in new id ≡ word_in old id
   pub values : new.half.values ≡ old.half.values
+
+-- there is room for one event more
+pub record HasRoom (sums : Sums) : Type 0 where
+  pub units : (id : ℕ) → delta_in sums id + 2 ^ 32 ≤ 2 ^ 64
+  pub values : length sums.half.values < MAX_HALF_COUNT
 
 -- an accepted verdict names one of so many metrics
 abbrev pub IsMade : ℕ → Verdict → Type 0

@@ -4,8 +4,7 @@ ghost use Rattle.book_state.specs.Follows.{event_key};
 ghost use Rattle.stat_defs.specs.declared.history.Verdict.TheVariants as verdict;
 ghost use Rattle.stat_defs.specs.Borrowed.{event_of};
 ghost use Rattle.stat_defs.specs.Events.{IsLawfulEvent};
-ghost use Rattle.merge_round.specs.declared.half.TheConstants.{MAX_HALF_COUNT};
-ghost use Rattle.plain_store.specs.Sums.{delta_in, SumsUp, AreAlike, IsMade};
+ghost use Rattle.plain_store.specs.Sums.{delta_in, SumsUp, AreAlike, HasRoom, IsMade};
 
 use crate::sums::{Sums, add, move_word};
 use stat_defs::{EventRef, MetricId, NoMemory, Verdict};
@@ -22,8 +21,7 @@ fn sum_accepted(
 ) -> Result<(), NoMemory>
     requires lawful { IsLawfulEvent (event_of event.now) }
     requires made { IfSome (event_key (event_of event.now)) (λ key. id.0 < made) }
-    requires small { (k : ℕ) → delta_in sums.old k + 2 ^ 32 ≤ 2 ^ 64 }
-    requires half { length sums.old.half.values < MAX_HALF_COUNT }
+    requires room { HasRoom sums.old }
     ensures ok { OnOk result (SumsUp sums.old (event_of event.now, verdict.Accepted id) sums.new) }
     ensures err { OnErr result (AreAlike sums.old sums.new) }
     ensures units { (k : ℕ) → delta_in sums.new k ≤ delta_in sums.old k + 2 ^ 32 }
@@ -49,8 +47,7 @@ pub(crate) fn sum_up(
 ) -> Result<(), NoMemory>
     requires lawful { IsLawfulEvent (event_of event.now) }
     requires made { IfSome (event_key (event_of event.now)) (λ key. IsMade made verdict) }
-    requires small { (k : ℕ) → delta_in sums.old k + 2 ^ 32 ≤ 2 ^ 64 }
-    requires half { length sums.old.half.values < MAX_HALF_COUNT }
+    requires room { HasRoom sums.old }
     ensures ok { OnOk result (SumsUp sums.old (event_of event.now, verdict) sums.new) }
     ensures err { OnErr result (AreAlike sums.old sums.new) }
     ensures units { (k : ℕ) → delta_in sums.new k ≤ delta_in sums.old k + 2 ^ 32 }

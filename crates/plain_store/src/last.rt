@@ -12,7 +12,7 @@ ghost use Rattle.plain_store.specs.Sums.{is_of_kind, value_count, Shows, SweepsL
 use crate::lists::all_made;
 use crate::record::take_flush;
 use crate::sums::Sums;
-use lone_worker::LoneWorker;
+use crate::worker::LoneWorker;
 use stat_book::BookParts;
 use stat_defs::{FlushRecord, LastFlush, List, MetricId, NoMemory};
 use std::alloc::Global;

@@ -4,7 +4,7 @@ ghost use Rattle.std.specs.List.{range_with_len};
 ghost use Rattle.stat_book.specs.Calls.{state_of};
 ghost use Rattle.plain_store.specs.Sums.{is_of_kind, as_id};
 
-use lone_worker::LoneWorker;
+use crate::worker::LoneWorker;
 use stat_defs::{Kind, MetricId, NoMemory};
 use std::alloc::Global;
 

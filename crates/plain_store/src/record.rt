@@ -9,13 +9,11 @@ ghost use Rattle.plain_store.specs.Sums.{number_at, is_of_kind, delta_of, readin
 ghost use Rattle.plain_store.specs.Sums.{IsEmptied, value_count};
 
 use crate::lists::of_kind;
+use crate::seat::SEAT;
 use crate::sums::{Sums, number_at};
-use lone_worker::LoneWorker;
+use crate::worker::LoneWorker;
 use stat_defs::{Delta, FlushRecord, Kind, List, MetricId, NoMemory, Part, Reading};
 use std::alloc::Global;
-
-/// The worker whose values the half has.
-const WORKER: u32 = 1;
 
 // A delta for each of these counters.
 fn deltas_of(alloc: Global, deltas: &[u64], ids: &[MetricId]) -> Result<Vec<Delta>, NoMemory>
@@ -71,7 +69,7 @@ fn take_parts(alloc: Global, sums: &mut Sums) -> Result<Vec<Part>, NoMemory>
     ensures deltas { sums.new.deltas ≡ sums.old.deltas }
     ensures words { sums.new.words ≡ sums.old.words }
 {
-    sums.parents.take_half(alloc, WORKER, &mut sums.half)?;
+    sums.parents.take_half(alloc, SEAT, &mut sums.half)?;
     let parts = sums.parents.new_round(alloc)?;
     Ok(parts)
 }

@@ -7,7 +7,7 @@ ghost use Rattle.stat_defs.specs.declared.events.Event.{Event as TheEvent};
 ghost use Rattle.stat_defs.specs.declared.history.Verdict.{Verdict as TheVerdict};
 ghost use Rattle.book_state.specs.Stored.{IsLawfulCall};
 ghost use Rattle.stat_book.specs.Calls.{IsLegal};
-ghost use Rattle.lone_worker.specs.declared.worker.TheConstants.{MAX_EVENTS};
+ghost use Rattle.plain_store.specs.declared.worker.TheConstants.{MAX_EVENTS};
 ghost use Rattle.plain_store.specs.Store.{new_store, Applied, IsCutShort, Flushes, FlushIsCutShort, Finishes};
 ghost use Rattle.plain_store.specs.Store.{AccountsSoFar};
 
@@ -15,8 +15,8 @@ use crate::account::sum_up;
 use crate::last::finish_parts;
 use crate::record::take_flush;
 use crate::sums::Sums;
+use crate::worker::LoneWorker;
 use ghost_list::GhostList;
-use lone_worker::LoneWorker;
 use name_map::HashKey;
 use stat_defs::{Config, Entry, Event, EventRef, FlushRecord, LastFlush, List, NoMemory, Verdict};
 use std::alloc::Global;

@@ -8,7 +8,7 @@ use crate::metered::{Meter, MeteredShelf};
 use boot_file::usual;
 use boot_load::{LoadFault, boot_line, load};
 use name_map::HashKey;
-use replay_report::replay_files;
+use replay_files::replay_files;
 use stat_defs::{Config, FileEnd, Report, Reported};
 use stats_io::{MemFile, MemShelf};
 use std::alloc::Global;

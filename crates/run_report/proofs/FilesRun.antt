@@ -12,7 +12,7 @@ use Rattle.ledger.specs.Ledger.{RunPlan, RunLedger, plan_of}
 use Rattle.ledger.proofs.ScopeEntries.{scopes_once}
 use Rattle.file_reading.specs.FileRead.{FileRead, IsFile, AreFiles}
 use Rattle.file_reading.proofs.FileOpened.{file_read, file_unopened}
-use Rattle.replay_report.proofs.FilesReported.{events_of, ends_of, runs_of, counted_of}
+use Rattle.replay_files.proofs.FilesReported.{events_of, ends_of, runs_of, counted_of}
 use Rattle.worker_run.specs.declared.given.Given.{Given}
 use Rattle.worker_run.specs.declared.given.Given.TheVariants.{Opened, Missing}
 use Rattle.run_files.specs.Run.{content_of, IsRunOfGiven}

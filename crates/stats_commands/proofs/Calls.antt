@@ -13,7 +13,7 @@ use Rattle.stat_defs.specs.declared.reports.Report.{Report}
 use Rattle.stats_commands.specs.declared.status.TheConstants.{DONE, NO_COMMAND, NO_MEMORY}
 use Rattle.stats_commands.specs.declared.outcome.Outcome.{Outcome}
 use Rattle.stats_commands.proofs.BootRefused.{boot_is_no_usage}
-use Rattle.replay_report.specs.ReplayReport.{IsReplayOf}
+use Rattle.replay_files.specs.ReplayReport.{IsReplayOf}
 use Rattle.stats_commands.proofs.Replayed.{report_is_no_usage}
 
 printed_is_no_usage : (a b x y : SinkState) (text : List ℕ) (status : ℕ) → IsPrinted a b x y text status → status ≢ NO_COMMAND

@@ -23,7 +23,7 @@ use Rattle.boot_load.specs.Load.{IsBoot, Loads, IsTooBig}
 use Rattle.boot_load.specs.declared.fault.LoadFault.{LoadFault}
 use Rattle.boot_load.specs.declared.fault.LoadFault.TheVariants as unloaded
 use Rattle.output_options.specs.declared.OutputOptions.{OutputOptions}
-use Rattle.replay_report.specs.ReplayReport.{IsReplayOf}
+use Rattle.replay_files.specs.ReplayReport.{IsReplayOf}
 use Rattle.stats_commands.specs.declared.status.TheConstants.{DONE}
 use Rattle.stats_commands.specs.declared.outcome.Outcome.{Outcome}
 use Rattle.command_words.specs.Command.{Command, Run, Replay, Check, Bins, Load, command}

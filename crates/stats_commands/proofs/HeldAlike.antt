@@ -2,8 +2,8 @@
 use Rattle.std.proofs.Common.{◌≡◌, ℕ, Option, List}
 use Rattle.stat_defs.specs.declared.configs.Config.{Config}
 use Rattle.stats_io.specs.States.{SourceState, ShelfState}
-use Rattle.replay_report.specs.ReplayReport.{IsReplayOf}
-use Rattle.replay_report.proofs.HeldAlike.{replay_alike}
+use Rattle.replay_files.specs.ReplayReport.{IsReplayOf}
+use Rattle.replay_files.proofs.HeldAlike.{replay_alike}
 use Rattle.stats_commands.specs.Replay.{Records}
 use Rattle.stats_commands.specs.declared.replay.Recorded.{Recorded}
 

@@ -9,7 +9,7 @@ use Rattle.flush_view.proofs.LedgerNames.{names_of_ledgers}
 use Rattle.flush_view.proofs.Showable.{ledgers_show}
 use Rattle.file_reading.specs.declared.limits.TheConstants.{MAX_FILES}
 use Rattle.file_reading.specs.FileRead.{FileRead}
-use Rattle.replay_report.specs.ReplayReport.{IsReplayOf}
+use Rattle.replay_files.specs.ReplayReport.{IsReplayOf}
 use Rattle.stats_commands.specs.Replay.{Records}
 use Rattle.stats_commands.specs.declared.replay.Recorded.{Recorded}
 

@@ -9,7 +9,7 @@ use Rattle.stat_defs.specs.declared.reports.Report.{Report}
 use Rattle.boot_load.specs.declared.fault.LoadFault.{LoadFault}
 use Rattle.boot_load.specs.declared.fault.LoadFault.TheVariants as unloaded
 use Rattle.output_options.specs.declared.OutputOptions.{OutputOptions}
-use Rattle.replay_report.specs.ReplayReport.{IsReplayOf}
+use Rattle.replay_files.specs.ReplayReport.{IsReplayOf}
 use Rattle.command_words.specs.Command.{Command, Run, Replay, Check, Bins, Load, command}
 use Rattle.load_report.specs.LoadReport.{IsLoadOf}
 use Rattle.stats_commands.specs.Quiet.{without_threads, quiet_command}

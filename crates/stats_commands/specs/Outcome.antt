@@ -18,7 +18,7 @@ use Rattle.boot_load.specs.declared.fault.LoadFault.{LoadFault}
 use Rattle.boot_load.specs.declared.fault.LoadFault.TheVariants as unloaded
 use Rattle.boot_load.specs.Load.{Loads}
 use Rattle.boot_load.specs.BootLine.{boot_line}
-use Rattle.replay_report.specs.ReplayReport.{IsReplayOf}
+use Rattle.replay_files.specs.ReplayReport.{IsReplayOf}
 use Rattle.report_text.specs.ReportText.{report_text}
 use Rattle.output_options.specs.declared.OutputOptions.{OutputOptions}
 use Rattle.stats_commands.specs.declared.status.TheConstants.{DONE, NO_COMMAND, BAD_BOOT, BAD_FILE, UNREADABLE, UNWRITTEN}

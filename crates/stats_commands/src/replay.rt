@@ -1,7 +1,7 @@
 //! `replay [--symbols] [--format F] BOOT FILE..`.
 ghost use Rattle.std.specs.Prelude.{◌≡◌, ◌≤◌, IfOk, length, map, string_bytes};
 ghost use Rattle.file_reading.specs.declared.limits.TheConstants as limits;
-ghost use Rattle.replay_report.specs.ReplayReport.{IsReplayOf};
+ghost use Rattle.replay_files.specs.ReplayReport.{IsReplayOf};
 ghost use Rattle.report_text.specs.ReportText.{report_text};
 ghost use Rattle.stats_commands.specs.FaultLines.{fault_lines};
 ghost use Rattle.stats_commands.specs.World.{world, sight};
@@ -16,7 +16,7 @@ use boot_load::{Boot, LoadFault, load};
 use command_words::Reporting;
 use name_map::HashKey;
 use output_options::OutputOptions;
-use replay_report::replay_files;
+use replay_files::replay_files;
 use report_text::write_report;
 use stat_defs::{Config, LogNames, NoMemory, Report, Reported};
 use stats_io::{Shelf, Sink};

@@ -19,7 +19,7 @@ use Rattle.book_state.specs.Stored.{IsLawfulCall}
 use Rattle.stat_book.specs.Calls.{IsLegal}
 use Rattle.ledger.specs.Work.{Work}
 use Rattle.ledger.proofs.WorkedParts.{none_falls}
-use Rattle.lone_worker.specs.declared.worker.TheConstants.{MAX_EVENTS}
+use Rattle.plain_store.specs.declared.worker.TheConstants.{MAX_EVENTS}
 use Rattle.text_parts.specs.Histograms.{AreHistograms, HasHistograms}
 use Rattle.flush_view.specs.Showing.{HasBinsShown}
 use Rattle.live_view.specs.Live.{LiveHistory, CanBeShown, no_views}

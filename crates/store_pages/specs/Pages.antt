@@ -5,7 +5,7 @@ use Rattle.stat_defs.specs.declared.events.Event.{Event}
 use Rattle.stat_defs.specs.declared.history.Verdict.{Verdict}
 use Rattle.stat_defs.specs.declared.reports.FlushRecord.{FlushRecord}
 use Rattle.stat_defs.specs.declared.views.FlushView.{FlushView}
-use Rattle.lone_worker.specs.declared.worker.TheConstants.{MAX_EVENTS}
+use Rattle.plain_store.specs.declared.worker.TheConstants.{MAX_EVENTS}
 use Rattle.flush_view.specs.Views.{view_rules}
 use Rattle.live_view.specs.Live.{view_so_far}
 use Rattle.plain_store.specs.Store.{StoreHistory, new_store, Applied, IsCutShort, Accounts, Flushes, FlushIsCutShort}

@@ -3,7 +3,7 @@ use Rattle.std.specs.Prelude.{◌≡◌, ◌≤◌, ◌<◌, ◌++◌, Bool, tru
 use Rattle.std.specs.List.Sorted.{IsNonDecreasing}
 use Rattle.stat_defs.specs.Events.{IsLawfulEvent}
 use Rattle.stat_defs.specs.declared.history.Entry.{Entry}
-use Rattle.lone_worker.specs.declared.worker.TheConstants.{MAX_EVENTS}
+use Rattle.plain_store.specs.declared.worker.TheConstants.{MAX_EVENTS}
 use Rattle.live_view.specs.Live.{LiveHistory}
 use Rattle.plain_store.specs.Store.{StoreHistory}
 use Rattle.store_pages.specs.declared.pages.StorePages.TheInside.{Inside}

@@ -4,7 +4,7 @@ use Rattle.std.specs.List.Sorted.{IsNonDecreasing}
 use Rattle.stat_defs.specs.Events.{IsLawfulEvent}
 use Rattle.book_state.specs.Stored.{IsLawfulCall}
 use Rattle.stat_book.specs.Calls.{IsLegal}
-use Rattle.lone_worker.specs.declared.worker.TheConstants.{MAX_EVENTS}
+use Rattle.plain_store.specs.declared.worker.TheConstants.{MAX_EVENTS}
 use Rattle.live_view.specs.Live.{CanBeShown}
 use Rattle.plain_store.specs.Store.{StoreHistory, AccountsSoFar}
 

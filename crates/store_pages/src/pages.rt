@@ -4,7 +4,7 @@ ghost use Rattle.stat_defs.specs.Borrowed.{event_of};
 ghost use Rattle.stat_defs.specs.Configs.{IsConfig};
 ghost use Rattle.stat_defs.specs.Events.{IsLawfulEvent};
 ghost use Rattle.text_parts.specs.Histograms.{HasHistograms};
-ghost use Rattle.lone_worker.specs.declared.worker.TheConstants as worker;
+ghost use Rattle.plain_store.specs.declared.worker.TheConstants as worker;
 ghost use Rattle.store_pages.specs.Pages.{new_pages, IsApplied, ApplyFails, GivesPage, PageFails};
 ghost use Rattle.store_pages.specs.Unbuilt.{HasNoStore};
 

@@ -5,7 +5,7 @@ ghost use Rattle.file_reading.specs.declared.limits.TheConstants as limits;
 
 use boot_file::usual;
 use name_map::HashKey;
-use replay_report::replay_files;
+use replay_files::replay_files;
 use stat_defs::{Config, FileEnd, MetricId, Report, Reported, ScopeId, Verdict};
 use stats_io::{MemFile, MemShelf};
 use std::alloc::Global;

@@ -3,7 +3,7 @@ ghost use Rattle.std.specs.Prelude.{◌≡◌, ◌≤◌, ◌+◌, ◌*◌, IfOk
 ghost use Rattle.stat_defs.specs.Configs.{IsConfig};
 ghost use Rattle.event_script.specs.declared.limits.TheConstants as file;
 ghost use Rattle.flush_view.specs.Showing.{IsShowable};
-ghost use Rattle.lone_worker.specs.declared.worker.TheConstants as worker;
+ghost use Rattle.plain_store.specs.declared.worker.TheConstants as worker;
 ghost use Rattle.plain_store.specs.Store.{new_store};
 
 use boot_file::{read, usual};

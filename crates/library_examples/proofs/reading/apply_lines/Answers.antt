@@ -1,6 +1,6 @@
 use Rattle.std.proofs.Common.{Ok, ap}
 use Rattle.file_reading.proofs.ReadSoFar.{lawful_now, room_now, read_more}
-use Rattle.replay_report.proofs.SoFar.{so_far_none, room_so_far, applied_more}
+use Rattle.replay_files.proofs.SoFar.{so_far_none, room_so_far, applied_more}
 use Rattle.library_examples.proofs.LinesFlushed.{lines_stay, lines_few, no_flush}
 use Rattle.library_examples.proofs.LinesRead.{lines_read}
 use Rattle.library_examples.proofs.reading.apply_lines.Goals as goal

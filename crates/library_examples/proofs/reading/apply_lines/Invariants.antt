@@ -1,6 +1,6 @@
 use Rattle.std.proofs.Common.{◌-◌}
 use Rattle.event_script.specs.declared.limits.TheConstants.{MAX_EVENTS}
-use Rattle.replay_report.proofs.SoFar.{SoFar}
+use Rattle.replay_files.proofs.SoFar.{SoFar}
 use Rattle.library_examples.proofs.reading.apply_lines.Given as goal
 
 abbrev pub invariant-loop-lines : goal.invariant-loop-lines

@@ -1,5 +1,5 @@
 use Rattle.std.proofs.Common.{ℕ, ◌∙◌, ap, subst}
-use Rattle.lone_worker.specs.Worker.{WorkerHistory}
+use Rattle.plain_store.specs.Worker.{WorkerHistory}
 use Rattle.plain_store.specs.Sums.{SweepsLast}
 use Rattle.plain_store.proofs.last.end_all.Goals as goal
 

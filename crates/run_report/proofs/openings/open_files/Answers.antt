@@ -1,5 +1,5 @@
 use Rattle.std.proofs.Common.{ℕ, Option, List, ◌∙◌, map, take, string_bytes, refl, arith, subst}
-use Rattle.replay_report.proofs.FilesRead.{front_push}
+use Rattle.replay_files.proofs.FilesRead.{front_push}
 use Rattle.run_report.specs.Opened.{IsOpening}
 use Rattle.run_report.proofs.FilesOpened.{none_opened, one_opened_more}
 use Rattle.run_report.proofs.openings.open_files.Goals as goal

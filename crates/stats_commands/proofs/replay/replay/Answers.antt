@@ -1,6 +1,6 @@
 use Rattle.std.proofs.Common.{◌≢◌, ℕ, List, String, Global, rules, refl, subst, map, string_bytes}
 use Rattle.boot_load.specs.declared.fault.LoadFault.TheVariants.{NoMemory}
-use Rattle.replay_report.specs.ReplayReport.{IsReplayOf}
+use Rattle.replay_files.specs.ReplayReport.{IsReplayOf}
 use Rattle.stats_commands.specs.World.{world, sight}
 use Rattle.stats_commands.specs.Outcome.{Reports}
 use Rattle.stats_commands.proofs.HeldAlike.{records_alike}

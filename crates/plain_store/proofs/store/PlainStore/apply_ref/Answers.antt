@@ -2,10 +2,10 @@ use Rattle.std.proofs.Common.{◌<◌, [], ◌∷◌, length, length-append, ap,
 use Rattle.stat_defs.specs.Borrowed.{event_of}
 use Rattle.book_state.specs.Follows.{event_key, MakesAcked}
 use Rattle.stat_book.specs.Calls.{state_of}
-use Rattle.lone_worker.specs.declared.worker.TheConstants.{MAX_EVENTS}
+use Rattle.plain_store.specs.declared.worker.TheConstants.{MAX_EVENTS}
 use Rattle.book_seat.specs.Naming.{NamesLive}
-use Rattle.lone_worker.specs.Entries.{IsLeftOf}
-use Rattle.lone_worker.specs.Worker.{WorkerHistory}
+use Rattle.plain_store.specs.Entries.{IsLeftOf}
+use Rattle.plain_store.specs.Worker.{WorkerHistory}
 use Rattle.merge_round.specs.Rounds.{ParentsState, all_values}
 use Rattle.ledger.specs.Work.{Work}
 use Rattle.plain_store.specs.Sums.{IsMade}
@@ -21,15 +21,13 @@ decide_ref-decided-requires c = record {
   works = c.self.invariant.works;
 }
 
-pub sum_up-requires-clause-small : goal.sum_up-requires-clause-small
-sum_up-requires-clause-small c k =
+pub sum_up-requires-clause-room : goal.sum_up-requires-clause-room
+sum_up-requires-clause-room c =
     let few : length c.self.inside.worker.events < MAX_EVENTS = subst (λ (s : StoreHistory). length s.worker.events < MAX_EVENTS) (sym c.self.view_is) c.requires.few in
-    let small = c.self.invariant.small.deltas k in omega (arith, small, few)
-
-pub sum_up-requires-clause-half : goal.sum_up-requires-clause-half
-sum_up-requires-clause-half c =
-    let few : length c.self.inside.worker.events < MAX_EVENTS = subst (λ (s : StoreHistory). length s.worker.events < MAX_EVENTS) (sym c.self.view_is) c.requires.few in
-    let small = c.self.invariant.small.values in omega (arith, small, few)
+    record {
+      units = λ id. (let small = c.self.invariant.small.deltas id in omega (arith, small, few));
+      values = (let small = c.self.invariant.small.values in omega (arith, small, few));
+    }
 
 pub sum_up-requires-clause-made : goal.sum_up-requires-clause-made
 sum_up-requires-clause-made c =

@@ -4,7 +4,7 @@ use Rattle.stat_defs.specs.declared.history.Entry.{Entry}
 use Rattle.stat_defs.specs.declared.reports.FlushRecord.{FlushRecord}
 use Rattle.book_state.proofs.Lists.{true_false}
 use Rattle.stat_book.specs.Calls.{state_of}
-use Rattle.lone_worker.specs.Worker.{WorkerHistory}
+use Rattle.plain_store.specs.Worker.{WorkerHistory}
 use Rattle.book_seat.proofs.Results.{err_so}
 use Rattle.ledger.specs.Flushes.{ids_not_gone}
 use Rattle.plain_store.specs.Sums.{is_of_kind}

@@ -2,7 +2,7 @@ use Rattle.std.proofs.Common.{true, List, [], length, ap, sym, subst, arith}
 use Rattle.stat_defs.specs.declared.reports.FlushRecord.{FlushRecord}
 use Rattle.merge_round.specs.Halves.{HalfState}
 use Rattle.merge_round.specs.Rounds.{ParentsState, all_values}
-use Rattle.lone_worker.specs.Worker.{WorkerHistory, new_worker}
+use Rattle.plain_store.specs.Worker.{WorkerHistory, new_worker}
 use Rattle.ledger.specs.Work.{Work}
 use Rattle.plain_store.specs.StoreKept.{AreOfWork}
 use Rattle.plain_store.proofs.StoreLemmas.{first_of_work}

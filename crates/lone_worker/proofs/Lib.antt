@@ -1,2 +1,0 @@
-pub mod OwnSeats
-pub mod WorkerLemmas

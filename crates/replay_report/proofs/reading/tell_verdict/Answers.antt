@@ -1,8 +1,0 @@
-use Rattle.replay_report.proofs.reading.tell_verdict.Goals as goal
-
-pub returns : goal.returns
-returns c = record {
-  verdict = c.in_ok-verdict.verdict;
-  applied = c.in_ok-verdict.ensures.ok;
-  told = c.in_ok-push.ensures.items;
-}
