@@ -46,12 +46,15 @@ second_part = record {
   order = λ i j d low below. absurd (omega (arith, low, below));
 }
 
-pub three_rise : IsStrictlyIncreasing (3 ∷ 6 ∷ 11 ∷ [])
-three_rise = λ k within. by_place k (omega (arith, within)) where
-  by_place : (k : ℕ) → k < 2 → slice_index (3 ∷ 6 ∷ 11 ∷ []) k < slice_index (3 ∷ 6 ∷ 11 ∷ []) (k + 1)
-  by_place zero low = omega arith
-  by_place (suc zero) low = omega arith
+pub rise_by : (first last : ℕ) → first < 6 → 6 < last → IsStrictlyIncreasing (first ∷ 6 ∷ last ∷ [])
+rise_by first last below above = λ k within. by_place k (omega (arith, within)) where
+  by_place : (k : ℕ) → k < 2 → slice_index (first ∷ 6 ∷ last ∷ []) k < slice_index (first ∷ 6 ∷ last ∷ []) (k + 1)
+  by_place zero low = below
+  by_place (suc zero) low = above
   by_place (suc (suc k)) low = absurd (omega (arith, low))
+
+pub three_rise : IsStrictlyIncreasing (3 ∷ 6 ∷ 11 ∷ [])
+three_rise = rise_by 3 11 (omega arith) (omega arith)
 
 two_rise : IsNonDecreasing (4 ∷ 8 ∷ [])
 two_rise = λ i j d below within. by_place i j d below within where

@@ -1,10 +1,12 @@
 -- The worked report is a ledger, and the broken ones are none.
-use Rattle.std.proofs.Common.{◌≡◌, ◌≢◌, ◌<◌, ℕ, zero, suc, Bool, cond, [], ◌∷◌, List, map, refl, sym, ap, ◌∙◌, arith, inl, true≢false}
-use Rattle.std.specs.Prelude.{slice_index_or}
+use Rattle.std.proofs.Common.{◌≡◌, ◌≢◌, ◌<◌, ℕ, zero, suc, Bool, true, false, Option, None, Some, cond, [], ◌∷◌, List, map, refl, sym, ap, ◌∙◌, arith, inl, true≢false}
+use Rattle.std.specs.Prelude.{◌++◌, codes, slice_index_or}
 use Rattle.std.proofs.lemmas.Cmp.{nat_eq_equiv}
 use Rattle.std.proofs.lemmas.List.Elements.{All-from_recursion, recursion_from_All}
 use Rattle.std.proofs.lemmas.Map.Views.{list_any-from_Contains}
 use Rattle.std.specs.Fmt.{digits}
+use Rattle.stat_defs.specs.declared.history.Entry.{Entry}
+use Rattle.stat_defs.specs.declared.history.Call.{Call}
 use Rattle.stat_defs.specs.declared.events.GaugeOp.TheVariants.{Set}
 use Rattle.stat_defs.specs.declared.reports.FileEnd.TheVariants as file
 use Rattle.stat_defs.specs.declared.reports.FlushRecord.{FlushRecord}
@@ -15,6 +17,12 @@ use Rattle.loglinear_bins.specs.Counts.{bins_of}
 use Rattle.merge_round.specs.Halves.{bins_by}
 use Rattle.merge_round.specs.Rounds.{ArePartsOf, HasPart, IsBefore}
 use Rattle.event_script.specs.FileEvents.{AreEventsOf}
+use Rattle.book_state.specs.Follows.{Own, own, Follows}
+use Rattle.book_state.specs.Log.{empty, is_sweep, Legal}
+use Rattle.book_state.specs.SeatLaws.{is_end}
+use Rattle.book_state.specs.Worked.{plain, root_alone}
+use Rattle.book_state.proofs.Computed.{drawn_all}
+use Rattle.book_state.proofs.WorkedParts.{legal_log}
 use Rattle.ledger.specs.Ledger.{AreRead, HasHistory, Account, AreShown}
 use Rattle.ledger.specs.Segments.{bins_by_worker, segments_at}
 use Rattle.ledger.specs.Work.{Recording}
@@ -22,9 +30,9 @@ use Rattle.ledger.specs.Worked.{file_of}
 use Rattle.ledger.proofs.Lists.{nil_cons, number_apart}
 use Rattle.ledger.proofs.WorkedParts.{bins_of_7, read_whole, rec_7, inc_a, moves_g}
 use Rattle.run_ledger.proofs.Accounts.{run_accounts}
-use Rattle.worked_runs.specs.Run.{plan_of_run, events_of_run, files_of_run, first_events, second_events, flushes_of_run, reads_of_run, report_with, report_of_run, told_of_run, early_read, part_of, IsLedgerOfRun}
-use Rattle.worked_runs.specs.Broken.{ThirdAloneBroken, FourthAloneBroken, FifthAloneBroken, flushes_exchanged, plan_of_more, counted_twice, part_moved, value_lost, value_fallen, place_fallen, reading_left_out, flushes_joined, plan_of_fewer, gauge_too_early, word_unset, units_made_up, delta_left_out, counter_left_out, gauge_read_too_early, place_behind_the_log, part_of_8, value_in_another_bin, works_in}
-use Rattle.worked_runs.proofs.Accounted.{two_account, three_rise}
+use Rattle.worked_runs.specs.Run.{plan_of_run, events_of_run, files_of_run, first_events, second_events, second_verdicts, flushes_of_run, reads_of_run, report_with, report_of_run, told_of_run, early_read, part_of, IsLedgerOfRun}
+use Rattle.worked_runs.specs.Broken.{SecondAloneBroken, ThirdAloneBroken, FourthAloneBroken, FifthAloneBroken, log_without_end, end_left_out, flushes_exchanged, plan_of_more, counted_twice, part_moved, value_lost, value_fallen, place_fallen, reading_left_out, flushes_joined, plan_of_fewer, gauge_too_early, word_unset, units_made_up, delta_left_out, counter_left_out, gauge_read_too_early, place_behind_the_log, part_of_8, value_in_another_bin, beside_its_sweep, works_in}
+use Rattle.worked_runs.proofs.Accounted.{two_account, three_rise, rise_by}
 
 first_read : AreEventsOf (file_of first_events) file.Whole 0 first_events
 unfolding digits
@@ -259,4 +267,88 @@ another_bin = record {
       let digits_are : 80 ≡ 70 = ap first_digits (held ∙ bins_of_7) in
       absurd (omega (arith, digits_are));
   shown = same_shown _;
+}
+
+-- whether there is a call and it sweeps
+abbrev sweeps_there : Option Call → Bool
+sweeps_there None = false
+sweeps_there (Some c) = is_sweep c
+
+pub beside : FourthAloneBroken beside_its_sweep
+beside = record {
+  read = is_read _ _;
+  history = same_history _ _;
+  swept = record { number = refl; sweeps = refl; rising = rise_by 4 11 (omega arith) (omega arith); ended = refl };
+  no_account = λ account. true≢false (sym (ap sweeps_there account.flushes.0.sweep));
+  shown = same_shown _;
+}
+
+-- whether the last of these entries is an end
+abbrev ends_last : List Own → Bool
+ends_last [] = false
+ends_last (o ∷ []) = is_end o.call
+ends_last (o ∷ (next ∷ rest)) = ends_last (next ∷ rest)
+
+last_is : (front : List Own) (o : Own) → ends_last (front ++ o ∷ []) ≡ is_end o.call
+last_is [] o = refl
+last_is (x ∷ []) o = refl
+last_is (x ∷ (y ∷ rest)) o = last_is (y ∷ rest) o
+
+ends_by_an_end : (log : List Entry) → Follows plain 2 2 second_events second_verdicts log → ends_last (own plain 2 (empty 2) log) ≡ true
+ends_by_an_end log h = ap ends_last h.own_are ∙ last_is h.entries h.last ∙ ap is_end h.ends
+
+legal_without_end : Legal plain root_alone 2 log_without_end
+legal_without_end = legal_log 2 _ refl (
+  (inl refl, refl, refl),
+  (
+    ((refl, refl), (refl, drawn_all [] (codes "h" ∷ []) (1 ∷ []) refl)),
+    (
+      ((refl, refl), (refl, drawn_all ((codes "h", 1) ∷ []) (codes "a" ∷ []) (2 ∷ []) refl)),
+      (
+        (refl, refl),
+        (
+          ((refl, refl), refl),
+          (
+            ((refl, refl), refl),
+            (
+              (refl, refl),
+              (
+                ((refl, refl), (refl, drawn_all ((codes "h", 1) ∷ (codes "a", 2) ∷ []) (codes "g" ∷ []) (3 ∷ []) refl)),
+                (((refl, refl), refl), ((refl, tt), ((refl, refl), tt))),
+              ),
+            ),
+          ),
+        ),
+      ),
+    ),
+  ),
+)
+
+pub without_end : SecondAloneBroken end_left_out
+without_end = let a = ledger.account in let s = ledger.shown in record {
+  read = record { an_end_each = refl; verdicts_each = refl; a_verdict_each = refl; read = (first_read, (second_read, tt)); counted = (refl, (refl, tt)) };
+  legal = legal_without_end;
+  no_history = λ history. true≢false (sym (ends_by_an_end log_without_end history.follows.1.0));
+  swept = record { number = refl; sweeps = refl; rising = rise_by 3 10 (omega arith) (omega arith); ended = refl };
+  account = record {
+    flushes = (
+      record { sweep = refl; deltas = refl; gauges = refl; parts = a.flushes.0.parts },
+      (
+        record { sweep = refl; deltas = refl; gauges = refl; parts = a.flushes.1.0.parts },
+        (record { sweep = refl; deltas = refl; gauges = refl; parts = a.flushes.1.1.0.parts }, tt),
+      ),
+    );
+    units = a.units;
+    values = a.values;
+    words = a.words;
+  };
+  shown = record {
+    number = s.number;
+    never_falls = s.never_falls;
+    each = (
+      record { within = omega arith; counters = refl; gauges = refl; at_most = s.each.0.at_most },
+      (record { within = omega arith; counters = refl; gauges = refl; at_most = s.each.1.0.at_most }, tt),
+    );
+    rising = s.rising;
+  };
 }

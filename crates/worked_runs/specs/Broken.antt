@@ -1,14 +1,26 @@
 -- Reports that differ from that of the worked run, or from what was asked for, in one place, and are no ledgers. This
 -- project's own.
-use Rattle.std.specs.Prelude.{pos, List, [], ◌∷◌}
+use Rattle.std.specs.Prelude.{◌++◌, pos, List, [], ◌∷◌, take, drop}
+use Rattle.stat_defs.specs.declared.history.Entry.{Entry}
 use Rattle.stat_defs.specs.declared.reports.Part.{Part}
 use Rattle.stat_defs.specs.declared.reports.Report.{Report}
+use Rattle.book_state.specs.Log.{Legal}
+use Rattle.book_state.specs.Worked.{plain, root_alone}
 use Rattle.ledger.specs.Work.{Work, apart}
 use Rattle.ledger.specs.Ledger.{RunPlan, AreRead, HasHistory, AreSwept, Account, AreShown}
 use Rattle.ledger.specs.Worked.{delta, reading}
 use Rattle.worked_runs.specs.Run.{plan_of_run, events_of_run, files_of_run, part_of, first_flush, second_flush}
 use Rattle.worked_runs.specs.Run.{last_flush, flushes_with, flushes_of_run, early_read, late_read, reads_of_run}
-use Rattle.worked_runs.specs.Run.{report_with}
+use Rattle.worked_runs.specs.Run.{report_with, log_of_run}
+
+-- the log has no end of worker 2, so the last sweep stands one place earlier
+abbrev pub log_without_end : List Entry
+log_without_end = take 9 log_of_run ++ drop 10 log_of_run
+
+abbrev pub end_left_out : Report
+end_left_out = record
+    (report_with (first_flush (part_of 1) ∷ second_flush ∷ record (last_flush 2) { at = 10 } ∷ []) reads_of_run)
+    { log = log_without_end }
 
 -- the second flush stands before the first one
 abbrev pub flushes_exchanged : Report
@@ -26,6 +38,11 @@ flushes_joined = report_with
 
 abbrev pub plan_of_fewer : RunPlan
 plan_of_fewer = record plan_of_run { flushes = 1 }
+
+-- the first flush stands at the entry behind its sweep
+abbrev pub beside_its_sweep : Report
+beside_its_sweep = report_with
+    (record (first_flush (part_of 1)) { at = 4 } ∷ second_flush ∷ last_flush 2 ∷ []) reads_of_run
 
 -- the last flush has the 4 units of the second one too
 abbrev pub counted_twice : Report
@@ -94,6 +111,16 @@ reading_left_out = report_with flushes_of_run (early_read 3 ∷ [])
 
 abbrev pub works_in : Report → List Work
 works_in report = apart events_of_run report.verdicts
+
+-- the report is no ledger of the run by its second part alone, and there by what a worker's entries follow, since the
+-- log is legal
+pub record SecondAloneBroken (report : Report) : Type 0 where
+  pub read : AreRead files_of_run events_of_run report
+  pub legal : Legal plain root_alone 2 report.log
+  pub no_history : HasHistory plan_of_run (works_in report) report → ⊥
+  pub swept : AreSwept plan_of_run report
+  pub account : Account plan_of_run (works_in report) report
+  pub shown : AreShown plan_of_run (works_in report) report
 
 -- the report is no ledger of a run of this plan by its third part alone, the flushes and their sweeps
 pub record ThirdAloneBroken (plan : RunPlan) (report : Report) : Type 0 where

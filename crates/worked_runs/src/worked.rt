@@ -6,7 +6,7 @@ ghost use Rattle.worked_runs.specs.Broken.{plan_of_more, counted_twice, part_mov
 ghost use Rattle.worked_runs.specs.Broken.{place_fallen, reading_left_out, flushes_joined, plan_of_fewer};
 ghost use Rattle.worked_runs.specs.Broken.{gauge_too_early, word_unset, units_made_up, delta_left_out};
 ghost use Rattle.worked_runs.specs.Broken.{counter_left_out, gauge_read_too_early, place_behind_the_log};
-ghost use Rattle.worked_runs.specs.Broken.{value_in_another_bin};
+ghost use Rattle.worked_runs.specs.Broken.{value_in_another_bin, beside_its_sweep, SecondAloneBroken, end_left_out};
 
 /// A worked run: its workers, flushes and readings account for what they did.
 ///
@@ -20,6 +20,12 @@ pub fn two_account()
 /// A worked report: that of the worked run is its ledger.
 pub fn a_report_of_two()
     ensures { IsLedgerOfRun report_of_run }
+{}
+
+/// A broken report: worker 2 has no end in the log. That is no ledger by its second part alone, though the log is legal:
+/// the worker's entries do not follow its events.
+pub fn a_worker_without_an_end()
+    ensures { SecondAloneBroken end_left_out }
 {}
 
 /// A broken report: the second flush stands before the first one. That is no ledger by its third part alone.
@@ -37,6 +43,11 @@ pub fn a_flush_too_few()
 /// before the last one was asked for, that is no ledger by its third part alone: the log has three sweeps.
 pub fn a_flush_left_out()
     ensures { ThirdAloneBroken plan_of_fewer flushes_joined }
+{}
+
+/// A broken report: the first flush stands at the entry behind its sweep. That is no ledger by its fourth part alone.
+pub fn a_flush_beside_its_sweep()
+    ensures { FourthAloneBroken beside_its_sweep }
 {}
 
 /// A broken report: the last flush has 4 units that the second one has too. That is no ledger by its fourth part
