@@ -30,17 +30,20 @@ pub(crate) struct Desk<'a, R: Wait> {
     pub(crate) again: bool,
 }
 
-fn poll<R: Wait>(desk: &Desk<'_, R>, recorder: &mut Recorder, _more: u32) -> Result<(), NoMemory>
+// Only one request for memory is refused in a run, so a call that is made once more has memory.
+const REFUSED_TWICE: &str = "refused twice";
+
+fn poll<R: Wait>(desk: &Desk<'_, R>, recorder: &mut Recorder, _more: u32) -> Result<(), Fail>
     requires { MayBeGiven desk.now.store.now _more recorder.old }
     ensures { MayBeGiven desk.now.store.now _more recorder.new }
 {
     match recorder.poll(desk.rt, desk.alloc, desk.store) {
         Ok(_) => Ok(()),
-        Err(NoMemory) if desk.again => {
-            let _polled = recorder.poll(desk.rt, desk.alloc, desk.store)?;
-            Ok(())
-        }
-        Err(NoMemory) => Err(NoMemory),
+        Err(NoMemory) if desk.again => match recorder.poll(desk.rt, desk.alloc, desk.store) {
+            Ok(_) => Ok(()),
+            Err(NoMemory) => Err(REFUSED_TWICE)?,
+        },
+        Err(NoMemory) => Err(NoMemory)?,
     }
 }
 
@@ -49,15 +52,20 @@ fn apply<R: Wait>(
     recorder: &mut Recorder,
     event: &EventRef<'_>,
     _more: u32,
-) -> Result<Verdict, NoMemory>
+) -> Result<Verdict, Fail>
     requires given { MayBeGiven desk.now.store.now (_more + 2) recorder.old }
     requires lawful { IsLawfulEvent (event_of event.now) }
     ensures { IfOk result (λ _. MayBeGiven desk.now.store.now _more recorder.new) }
 {
     match recorder.apply(desk.rt, desk.alloc, desk.store, event) {
         Ok(verdict) => Ok(verdict),
-        Err(NoMemory) if desk.again => recorder.apply(desk.rt, desk.alloc, desk.store, event),
-        Err(NoMemory) => Err(NoMemory),
+        Err(NoMemory) if desk.again => match recorder.apply(
+            desk.rt, desk.alloc, desk.store, event,
+        ) {
+            Ok(verdict) => Ok(verdict),
+            Err(NoMemory) => Err(REFUSED_TWICE)?,
+        },
+        Err(NoMemory) => Err(NoMemory)?,
     }
 }
 
@@ -86,7 +94,7 @@ pub(crate) fn work<R: Wait>(
 {
     let event = event_in(desk.alloc, line)?;
     poll(desk, recorder, more + 2)?;
-    Ok(apply(desk, recorder, &event.borrowed(), more)?)
+    apply(desk, recorder, &event.borrowed(), more)
 }
 
 /// Polls, and applies the event that a line says once. False where there was no memory for it.
@@ -106,7 +114,7 @@ pub(crate) fn work_once<R: Wait>(
 }
 
 /// A reading.
-pub(crate) fn read<R: Wait>(desk: &Desk<'_, R>, admin: &mut Admin) -> Result<ReadRecord, NoMemory>
+pub(crate) fn read<R: Wait>(desk: &Desk<'_, R>, admin: &mut Admin) -> Result<ReadRecord, Fail>
     requires { IsReaderOf desk.now.store.now.book desk.now.store.now.counters desk.now.store.now.gauges admin.old }
     ensures { IsReaderOf desk.now.store.now.book desk.now.store.now.counters desk.now.store.now.gauges admin.new }
 {
@@ -118,23 +126,29 @@ pub(crate) fn read<R: Wait>(desk: &Desk<'_, R>, admin: &mut Admin) -> Result<Rea
     } = desk.store;
     match admin.read(book, desk.alloc, counters, gauges) {
         Ok(shown) => Ok(shown),
-        Err(NoMemory) if desk.again => admin.read(book, desk.alloc, counters, gauges),
-        Err(NoMemory) => Err(NoMemory),
+        Err(NoMemory) if desk.again => match admin.read(book, desk.alloc, counters, gauges) {
+            Ok(shown) => Ok(shown),
+            Err(NoMemory) => Err(REFUSED_TWICE)?,
+        },
+        Err(NoMemory) => Err(NoMemory)?,
     }
 }
 
-fn begin<R: Wait>(desk: &Desk<'_, R>, flusher: &mut Flusher) -> Result<(), NoMemory>
+fn begin<R: Wait>(desk: &Desk<'_, R>, flusher: &mut Flusher) -> Result<(), Fail>
     requires { IsIdle desk.now.store.now flusher.old }
     ensures { OnOk result (IsFlusherOf desk.now.store.now flusher.new × IsSome flusher.new.round) }
 {
     match flusher.begin(desk.rt, desk.alloc, desk.store) {
         Ok(()) => Ok(()),
-        Err(NoMemory) if desk.again => flusher.begin(desk.rt, desk.alloc, desk.store),
-        Err(NoMemory) => Err(NoMemory),
+        Err(NoMemory) if desk.again => match flusher.begin(desk.rt, desk.alloc, desk.store) {
+            Ok(()) => Ok(()),
+            Err(NoMemory) => Err(REFUSED_TWICE)?,
+        },
+        Err(NoMemory) => Err(NoMemory)?,
     }
 }
 
-fn pass<R: Wait>(desk: &Desk<'_, R>, flusher: &mut Flusher) -> Result<Pass, NoMemory>
+fn pass<R: Wait>(desk: &Desk<'_, R>, flusher: &mut Flusher) -> Result<Pass, Fail>
     requires { IsFlusherOf desk.now.store.now flusher.old × IsSome flusher.old.round }
     ensures own { IfOk result (λ pass. IsFlusherOf desk.now.store.now flusher.new × IsSome flusher.new.round) }
     ensures told { IfOk result (λ pass. pass ≡ pass_from 1 flusher.new.tokens) }
@@ -142,20 +156,26 @@ fn pass<R: Wait>(desk: &Desk<'_, R>, flusher: &mut Flusher) -> Result<Pass, NoMe
 {
     match flusher.pass(desk.alloc, desk.store) {
         Ok(pass) => Ok(pass),
-        Err(NoMemory) if desk.again => flusher.pass(desk.alloc, desk.store),
-        Err(NoMemory) => Err(NoMemory),
+        Err(NoMemory) if desk.again => match flusher.pass(desk.alloc, desk.store) {
+            Ok(pass) => Ok(pass),
+            Err(NoMemory) => Err(REFUSED_TWICE)?,
+        },
+        Err(NoMemory) => Err(NoMemory)?,
     }
 }
 
-fn take<R: Wait>(desk: &Desk<'_, R>, flusher: &mut Flusher) -> Result<FlushRecord, NoMemory>
+fn take<R: Wait>(desk: &Desk<'_, R>, flusher: &mut Flusher) -> Result<FlushRecord, Fail>
     requires own { IsFlusherOf desk.now.store.now flusher.old × IsSome flusher.old.round }
     requires done { (pass_from 1 flusher.old.tokens ≡ Done) × All IsNotHolding flusher.old.tokens }
     ensures { IfOk result (λ _. IsIdle desk.now.store.now flusher.new) }
 {
     match flusher.flush(desk.alloc, desk.store) {
         Ok(shown) => Ok(shown),
-        Err(NoMemory) if desk.again => flusher.flush(desk.alloc, desk.store),
-        Err(NoMemory) => Err(NoMemory),
+        Err(NoMemory) if desk.again => match flusher.flush(desk.alloc, desk.store) {
+            Ok(shown) => Ok(shown),
+            Err(NoMemory) => Err(REFUSED_TWICE)?,
+        },
+        Err(NoMemory) => Err(NoMemory)?,
     }
 }
 
@@ -173,7 +193,7 @@ fn finish<R: Wait>(
 {
     poll(desk, recorder, more)?;
     match pass(desk, flusher)? {
-        Pass::Done => Ok(take(desk, flusher)?),
+        Pass::Done => take(desk, flusher),
         Pass::Late(..) => Err("the half was not given")?,
     }
 }
