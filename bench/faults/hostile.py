@@ -220,9 +220,19 @@ def searched_rules():
     config = {"use_all_default_tags": False, "stats_tags": rules,
               "stats_matcher": {"exclusion_list": {"patterns": patterns}}}
     boot = put_boot("b", {"stats_config": config, "stats_run": {"scopes": [{"label": "s", "prefix": "a" * 255}]}})
-    lines = ["inc s %s%s%03d 1" % ("a" * 60, "".join(words), at) for at in range(2)]
+    lines = ["inc s %s%s%03d 1" % ("a" * 60, "".join(words), at) for at in range(64)]
+    return Case([put("f", lines)], boot=boot, ends=lambda told: told == [(64, 0)])
+
+
+def late_matches():
+    """64 tag rules that match each name, though another way is tried first, at all bytes of the name."""
+    regex = "^(?:" + "(?:[a.]*)*" * 100 + "x|(.*))%s$"
+    rules = [{"tag_name": "t%02d" % at, "regex": regex % ("z" * (at % 8))} for at in range(64)]
+    boot = put_boot("b", {"stats_config": {"use_all_default_tags": False, "stats_tags": rules},
+                          "stats_run": {"scopes": [{"label": "s", "prefix": "a" * 255}]}})
+    lines = ["inc s %s%s 1" % ("a" * (247 - at), "z" * 8) for at in range(2)]
     return Case([put("f", lines)], boot=boot, ends=lambda told: told == [(2, 0)],
-                slow="each of 96 patterns is run over each new name, through all its states at each byte")
+                slow="where there is a match its groups are looked for by state and byte")
 
 
 def folded(a, b):
@@ -380,7 +390,7 @@ def odd_bytes():
 
 
 CASES = [many_releases, open_and_release, dots, only_dots, warm_histograms, churn, rules, twice_the_names,
-         searched_rules, one_hash, labels_of_one_hash, endless_pipe, endless_bootstrap, directory, bootstrap_directory,
+         searched_rules, late_matches, one_hash, labels_of_one_hash, endless_pipe, endless_bootstrap, directory, bootstrap_directory,
          zeros, bootstrap_zeros, full_device, most_events, an_event_too_many, most_bytes, a_byte_too_many, big_bootstrap,
          deep_bootstrap, longest_lines, a_line_too_long, odd_bytes]
 
