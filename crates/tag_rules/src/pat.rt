@@ -1,5 +1,5 @@
 //! Compiled regular expressions.
-ghost use Rattle.std.specs.Prelude.{◌≡◌, ◌≤◌, nat_lt, None, IfOk, IfErr, IfSome, IsTrue, OnOk, length, vec_len, option_map};
+ghost use Rattle.std.specs.Prelude.{◌≡◌, ◌≤◌, nat_lt, IfOk, IfErr, IfSome, OnOk, length, vec_len, option_map};
 ghost use Rattle.regex.specs.Failures.{IsRightKind};
 ghost use Rattle.regex.specs.Patterns.{default_config};
 ghost use Rattle.regex.specs.Sources.{IsRefusal};
@@ -14,7 +14,7 @@ use crate::starts::Starts;
 use regex::Error;
 use regex_nfa::Nfa;
 use regex_syntax::Config;
-use regex_vm::Backtracker;
+use regex_vm::{Backtracker, Declined};
 use stat_defs::Txt;
 use std::alloc::{AllocError, Global};
 use std::marker::Model;
@@ -46,12 +46,23 @@ enum Sieve {
 /// A regular expression, ready to be searched for. Contracts see it as its text, and its matches are those that `regex`
 /// defines for that text. Since a contract knows nothing of what a lock has, the DFA in it carries its own text, which
 /// is compared with the pattern's before its answer is taken.
-#[derive(Drop)]
 pub struct Pat {
     text: Txt,
     nfa: Nfa,
     starts: Starts,
     sieve: Mutex<Sieve>,
+}
+
+// Written out, so that a caller's proof sees one call and not the drop of each field.
+impl Drop for Pat {
+    fn drop(self) {
+        let Pat {
+            text: _text,
+            nfa: _nfa,
+            starts: _starts,
+            sieve: _sieve,
+        } = self;
+    }
 }
 
 impl Model for Pat {
@@ -143,8 +154,10 @@ impl Pat {
         ensures cells { OnOk result (IfSome (leftmost self.now name.now)
             (λ m. cells.new ≡ group_cells m (length cells.old))) }
     {
-        if self.takes_long(name) && self.is_ruled_out(alloc, name) {
-            return Ok(None);
+        if self.takes_long(name) {
+            if let Ok(found) = self.by_dfa(alloc, name, cells) {
+                return Ok(found);
+            }
         }
         machine::leftmost(alloc, &self.nfa, &self.starts, tracker, name, cells)
     }
@@ -156,20 +169,27 @@ impl Pat {
         steps >= MANY_STEPS && self.starts.range(name.as_bytes(), 0).is_some()
     }
 
-    // Whether the DFA finds that there is no match.
+    // What `search` finds, by the pattern's DFA, which may give up. The cells are then any.
     #[cold]
-    fn is_ruled_out(&self, alloc: Global, name: &str) -> bool
-        ensures { IsTrue result → leftmost self.now name.now ≡ None }
+    fn by_dfa(
+        &self,
+        alloc: Global,
+        name: &str,
+        cells: &mut [usize],
+    ) -> Result<Option<(usize, usize)>, Declined>
+        ensures span { IfOk result (λ found. found ≡ option_map span (leftmost self.now name.now)) }
+        ensures cells { OnOk result (IfSome (leftmost self.now name.now)
+            (λ m. cells.new ≡ group_cells m (length cells.old))) }
     {
         let Some(mut sieve) = self.sieve.try_lock() else {
-            return false;
+            return Err(Declined);
         };
         if let Sieve::Unmade = &*sieve {
             *sieve = made(alloc, &self.text);
         }
         match &mut *sieve {
-            Sieve::Made(dfa) => dfa.is_of(&self.text) && dfa.rules_out(name),
-            _ => false,
+            Sieve::Made(dfa) if dfa.is_of(&self.text) => dfa.find(alloc, name, cells),
+            _ => Err(Declined),
         }
     }
 }

@@ -8,4 +8,5 @@ invariant_of-result c =
       rw (same, c.in-Ok-new.ensures.same)
           (runs c.in-Ok-compile.nfa c.in-Ok.parsed.hir _ c.args.text.now c.in-Ok-compile.ensures.matches (rw c.default.ensures at c.in-Ok.ensures.ok)),
       c.in-Ok-with_budget.ensures.own,
+      c.in-Ok-new-2.ensures.own,
     )
