@@ -17,4 +17,4 @@ pub use ended::Ended;
 pub use limits::MAX_GIVEN;
 pub use polling::Polled;
 pub use recorder::Recorder;
-pub use working::work_one;
+pub use working::{Handled, work_one};

@@ -12,7 +12,6 @@ use flusher::Flusher;
 use run_gates::Gate;
 use stat_defs::{FlushRecord, NoMemory};
 use std::sync::Wait;
-use std::thread::yield_now;
 
 /// What a flusher flushed, and the flusher.
 #[derive(Drop)]
@@ -21,8 +20,8 @@ pub(crate) struct Flushings {
     pub(crate) flusher: Flusher,
 }
 
-// Passes over the workers' cells until each worker that was asked gave its half or left. Between two passes other
-// threads have their turn. A worker that wanted memory has not left, so each turn sees whether the run stops.
+// Passes over the workers' cells until each worker that was asked gave its half or left. Between two passes the flusher
+// waits for a worker. One that wanted memory has not left, so each turn sees whether the run stops.
 fn take_halves<R: Wait, G: Gate>(
     hall: &Hall<'_, R, G>,
     flusher: &mut Flusher,
@@ -32,14 +31,16 @@ fn take_halves<R: Wait, G: Gate>(
     ensures looked { OnOk result (HasLooked hall.now.store.now flusher.old flusher.new) }
     ensures done { OnOk result ((pass_from 1 flusher.new.tokens ≡ Done) × All IsNotHolding flusher.new.tokens) }
 {
+    let mut looks = 0u32;
     for _ in hall.rt.forever() {
         if hall.is_stopped() {
             return Err(NoMemory);
         }
         match flusher.pass(hall.alloc, hall.store)? {
             Pass::Done => return Ok(()),
-            Pass::Late(..) => yield_now(),
+            Pass::Late(worker, _) => hall.bell.wait(hall.rt, looks, worker),
         }
+        looks = looks.saturating_add(1);
     }
     unreachable!()
 }

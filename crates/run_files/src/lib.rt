@@ -4,6 +4,7 @@
 //! is carried through the join.
 #![tactic(auto)]
 
+mod bell;
 mod flushes;
 mod gathering;
 mod hall;

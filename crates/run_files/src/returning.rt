@@ -7,6 +7,7 @@ ghost use Rattle.run_files.specs.Readings.{HasRead};
 ghost use Rattle.run_files.specs.Gathering.{AreGathered};
 ghost use Rattle.run_files.specs.Returning.{AreBack};
 
+use crate::bell::Bell;
 use crate::flushes::Flushings;
 use crate::gathering::{Gathered, gather};
 use crate::hall::Hall;
@@ -103,12 +104,14 @@ pub(crate) fn run_parties<R: Threads + Wait + Sync, G: Gate + Sync, S: Source + 
         drop(jobs);
         return Err(NoMemory);
     };
+    let bell = Bell::new();
     let stop = AtomicBool::new(false);
     let hall = Hall {
         rt,
         alloc,
         gate,
         store,
+        bell: &bell,
         stop: &stop,
         told: told.as_slice(),
     };

@@ -21,7 +21,7 @@ pub(crate) fn work_told<R: Wait, G: Gate, S: Source + Drop>(
     ensures { IfOk result (IsWorked S.state hall.now.store.now job.number job.given) }
 {
     let number = job.number;
-    let outcome = work(hall.rt, hall.alloc, hall.gate, hall.store, job);
+    let outcome = work(hall.rt, hall.alloc, hall, hall.store, job);
     if outcome.is_err() {
         hall.stop_all();
     }

@@ -4,7 +4,9 @@
 #![tactic(auto)]
 
 mod given;
+mod worker_gate;
 mod working;
 
 pub use given::{Given, Job, Worked};
+pub use worker_gate::WorkerGate;
 pub use working::work;

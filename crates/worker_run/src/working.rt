@@ -9,10 +9,10 @@ ghost use Rattle.worker_run.specs.declared.given.Given.TheVariants as given_file
 ghost use Rattle.worker_run.specs.Working.{IsFileRead, IsAtWork, IsWorked};
 
 use crate::given::{Given, Job, Worked};
+use crate::worker_gate::WorkerGate;
 use event_script::Lines;
 use file_reading::{FileRun, end_of, event_or_end, not_opened};
 use recorder::{MAX_GIVEN, Recorder, work_one};
-use run_gates::Gate;
 use stat_defs::{EventRef, NoMemory, Verdict};
 use stats_io::Source;
 use std::alloc::Global;
@@ -21,7 +21,7 @@ use store_parts::Store;
 
 // Where a worker works: the runtime that may wait, the gate before each event, the store, and the worker's number.
 #[derive(Drop)]
-struct Desk<'a, R: Wait, G: Gate> {
+struct Desk<'a, R: Wait, G: WorkerGate> {
     rt: &'a R,
     alloc: Global,
     gate: &'a G,
@@ -29,9 +29,10 @@ struct Desk<'a, R: Wait, G: Gate> {
     number: u32,
 }
 
-// Goes through the gate and applies an event, whose verdict comes behind the earlier ones.
+// Goes through the gate and applies an event, whose verdict comes behind the earlier ones. The gate is told where the
+// poll turned the half.
 #[inline(always)]
-fn tell_verdict<R: Wait, G: Gate>(
+fn tell_verdict<R: Wait, G: WorkerGate>(
     desk: &Desk<'_, R, G>,
     recorder: &mut Recorder,
     event: &EventRef<'_>,
@@ -45,13 +46,16 @@ fn tell_verdict<R: Wait, G: Gate>(
 {
     let event_number = verdicts.len() as u64 + 1;
     desk.gate.worker_at(desk.rt, desk.number, event_number);
-    let verdict = work_one(desk.rt, desk.alloc, desk.store, recorder, event)?;
-    verdicts.push(verdict)?;
+    let handled = work_one(desk.rt, desk.alloc, desk.store, recorder, event)?;
+    if handled.polled.turned {
+        desk.gate.worker_turned(desk.rt, desk.number);
+    }
+    verdicts.push(handled.verdict)?;
     Ok(())
 }
 
 // Reads a source to its end and applies its events.
-fn read_source<R: Wait, G: Gate, S: Source + Drop>(
+fn read_source<R: Wait, G: WorkerGate, S: Source + Drop>(
     desk: &Desk<'_, R, G>,
     source: S,
     recorder: &mut Recorder,
@@ -80,7 +84,7 @@ fn read_source<R: Wait, G: Gate, S: Source + Drop>(
 }
 
 // Reads a file, which may be missing, and applies its events.
-fn read_file<R: Wait, G: Gate, S: Source + Drop>(
+fn read_file<R: Wait, G: WorkerGate, S: Source + Drop>(
     desk: &Desk<'_, R, G>,
     given: Given<S>,
     recorder: &mut Recorder,
@@ -101,7 +105,7 @@ fn read_file<R: Wait, G: Gate, S: Source + Drop>(
 
 /// Reads the worker's file to its end, and applies its events to the store, each behind a call of the gate and a poll.
 /// Then the worker's recorder ends. May wait. The gate is not told that the worker is done.
-pub fn work<R: Wait, G: Gate, S: Source + Drop>(
+pub fn work<R: Wait, G: WorkerGate, S: Source + Drop>(
     rt: &R,
     alloc: Global,
     gate: &G,
@@ -133,7 +137,7 @@ pub fn work<R: Wait, G: Gate, S: Source + Drop>(
 }
 
 // Ends the recorder of a worker that read its file.
-fn end<R: Wait, G: Gate>(
+fn end<R: Wait, G: WorkerGate>(
     desk: &Desk<'_, R, G>,
     recorder: Recorder,
     read: FileRun,
