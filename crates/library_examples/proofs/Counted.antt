@@ -10,8 +10,8 @@ use Rattle.event_script.specs.declared.limits.TheConstants as file
 use Rattle.plain_store.specs.declared.worker.TheConstants as worker
 use Rattle.plain_store.specs.Worker.{WorkerHistory}
 use Rattle.flush_view.specs.Showing.{IsShowable}
-use Rattle.plain_store.specs.Store.{StoreHistory, Applied, new_store}
-use Rattle.library_examples.specs.StoreOf.{IsStoreOf, IsReportOfStore}
+use Rattle.plain_store.specs.Store.{StoreHistory, Applied, new_store, IsReportOfStore}
+use Rattle.library_examples.specs.StoreOf.{IsStoreOf}
 use Rattle.library_examples.specs.Counting.{Stays}
 use Rattle.library_examples.proofs.StoreShown.{stores_show}
 

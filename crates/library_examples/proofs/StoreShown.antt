@@ -35,8 +35,8 @@ use Rattle.flush_view.proofs.Ends.{ends_of_workers}
 use Rattle.flush_view.proofs.InLog.{legal_with_ends}
 use Rattle.flush_view.proofs.Recorded.{LawfulWork, AreBounded, events_in_files}
 use Rattle.flush_view.proofs.Showable.{units, values, lawful}
-use Rattle.plain_store.specs.Store.{StoreHistory, Accounts}
-use Rattle.library_examples.specs.StoreOf.{IsStoreOf, IsReportOfStore, StoresShow}
+use Rattle.plain_store.specs.Store.{StoreHistory, Accounts, IsReportOfStore}
+use Rattle.library_examples.specs.StoreOf.{IsStoreOf, StoresShow}
 use Rattle.library_examples.proofs.StoreKept.{place, rising_push, made, event, events, flushed as flush_kept}
 
 told_lawful : (es : List Event) (vs : List Verdict) → AllByRecursion IsLawful es → LawfulWork (zip es vs)

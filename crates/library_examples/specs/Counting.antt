@@ -11,9 +11,9 @@ use Rattle.event_script.specs.Answer.{Explains}
 use Rattle.event_script.specs.Grammar.{IsLawful}
 use Rattle.event_script.specs.FileEvents.{AreEventsOf}
 use Rattle.event_script.specs.declared.limits.TheConstants as file
-use Rattle.plain_store.specs.Store.{StoreHistory, new_store, Applied, Flushes}
+use Rattle.plain_store.specs.Store.{StoreHistory, new_store, Applied, Flushes, IsReportOfStore}
 use Rattle.replay_files.specs.Applying.{AreApplied}
-use Rattle.library_examples.specs.StoreOf.{IsStoreOf, IsReportOfStore}
+use Rattle.library_examples.specs.StoreOf.{IsStoreOf}
 
 -- an event was applied twice, and then came a flush, whose record this is
 pub record CountsTwice (old : StoreHistory) (e : Event) (flush : FlushRecord) : Type 0 where

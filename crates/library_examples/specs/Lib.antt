@@ -1,3 +1,2 @@
 pub mod StoreOf
 pub mod Counting
-pub mod Unbuilt

@@ -7,12 +7,11 @@ use Rattle.stat_defs.specs.declared.configs.Config.{Config}
 use Rattle.stat_defs.specs.declared.events.Event.{Event}
 use Rattle.stat_defs.specs.declared.history.Verdict.{Verdict}
 use Rattle.stat_defs.specs.declared.reports.FlushRecord.{FlushRecord}
-use Rattle.stat_defs.specs.declared.reports.LastFlush.{LastFlush}
 use Rattle.stat_defs.specs.declared.reports.Report.{Report}
 use Rattle.event_script.specs.Grammar.{IsLawful}
 use Rattle.plain_store.specs.declared.worker.TheConstants.{MAX_EVENTS}
 use Rattle.flush_view.specs.Showing.{IsShowable}
-use Rattle.plain_store.specs.Store.{StoreHistory, new_store, Applied, Flushes, Finishes}
+use Rattle.plain_store.specs.Store.{StoreHistory, new_store, Applied, Flushes, IsReportOfStore}
 use Rattle.replay_files.specs.Applying.{AreApplied}
 
 -- A store of this configuration, none of whose calls was cut short by want of memory: each event that was decided was
@@ -28,16 +27,6 @@ pub record IsStoreOf (config : Config) (store : StoreHistory) : Type 0 where
   pub a_verdict_each : length store.worker.verdicts ≡ length store.worker.events
   pub rising : IsNonDecreasing (map (λ flush. flush.at) store.flushes)
   pub logged : All (λ flush. flush.at < length store.worker.book.log) store.flushes
-
--- the store was finished: the report has its flushes, the last one behind them, and the log, and nothing else
-pub record IsReportOfStore (store : StoreHistory) (report : Report) : Type 0 where
-  pub given : LastFlush
-  pub finished : Finishes store given
-  pub flushes : report.flushes ≡ store.flushes ++ given.last ∷ []
-  pub log : report.log ≡ given.log
-  pub no_verdicts : report.verdicts ≡ []
-  pub no_reads : report.reads ≡ []
-  pub no_ends : report.ends ≡ []
 
 -- A new store is one of its configuration, and its calls keep that. When it is finished, the report of its flushes can
 -- be shown.

@@ -6,32 +6,17 @@ ghost use Rattle.event_script.specs.declared.limits.TheConstants as file;
 ghost use Rattle.flush_view.specs.Showing.{IsShowable};
 ghost use Rattle.plain_store.specs.declared.worker.TheConstants as worker;
 ghost use Rattle.plain_store.specs.Store.{new_store};
+ghost use Rattle.tag_rules.specs.Unbuilt.{HasNoStore};
 ghost use Rattle.library_examples.specs.Counting.{CountsTwice, CountsLines, CountsInTurn, CountsOften};
 ghost use Rattle.library_examples.specs.Counting.{AreFlushedOften, Stays};
-ghost use Rattle.library_examples.specs.Unbuilt.{IsUnbuilt};
 
 use crate::flushing::flush_often;
 use crate::reading::{apply_lines, flush_in_turn};
-use crate::showing::finish_report;
 use plain_store::PlainStore;
 use stat_defs::{Config, Event, FlushRecord, NoMemory, Report};
 use stats_io::Source;
 use std::alloc::Global;
-use tag_rules::{Matcher, RegexMaker, TagFault, TagRules, config_law};
-
-/// A new store of this configuration. A pattern of it that is refused is told by its place among those of the tag rules
-/// or of the matcher.
-pub fn store_of(alloc: Global, config: &Config) -> Result<PlainStore, TagFault>
-    requires { IsConfig config.now }
-    ensures made { IfOk result (λ store. store ≡ new_store config.now) }
-    ensures refused { IfErr result (λ fault. IsUnbuilt config.now fault) }
-{
-    config_law();
-    let mut maker = RegexMaker::new(Vec::new(alloc));
-    let rules = TagRules::build(alloc, &mut maker, config.tags.items())?;
-    let matcher = Matcher::build(alloc, &mut maker, &config.matcher)?;
-    Ok(PlainStore::new(alloc, config, rules, matcher)?)
-}
+use tag_rules::TagFault;
 
 // Applies an event twice, and flushes.
 fn apply_twice(
@@ -54,9 +39,9 @@ pub fn count_twice(alloc: Global, config: &Config, event: &Event) -> Result<Flus
     requires config { IsConfig config.now }
     requires event { IsLawfulEvent event.now }
     ensures counted { IfOk result (λ flush. CountsTwice (new_store config.now) event.now flush) }
-    ensures refused { IfErr result (λ fault. IsUnbuilt config.now fault) }
+    ensures refused { IfErr result (λ fault. HasNoStore config.now fault) }
 {
-    let mut store = store_of(alloc, config)?;
+    let mut store = PlainStore::build(alloc, config)?;
     let flush = apply_twice(alloc, &mut store, event);
     drop(store);
     Ok(flush?)
@@ -72,11 +57,11 @@ pub fn count_lines<S: Source + Drop>(
     requires { IsConfig config.now }
     ensures counted { IfOk result (λ report. CountsLines S.state source config.now report) }
     ensures showable { IfOk result (λ report. IsShowable config.now report) }
-    ensures refused { IfErr result (λ fault. IsUnbuilt config.now fault) }
+    ensures refused { IfErr result (λ fault. HasNoStore config.now fault) }
 {
-    let mut store = store_of(alloc, config)?;
+    let mut store = PlainStore::build(alloc, config)?;
     match apply_lines(alloc, source, &mut store) {
-        Ok(_lines) => Ok(finish_report(alloc, store, Vec::new(alloc))?),
+        Ok(_lines) => Ok(store.finish_report(alloc, Vec::new(alloc))?),
         Err(fault) => {
             drop(store);
             Err(TagFault::from(fault))
@@ -96,12 +81,12 @@ pub fn count_in_turn<S: Source + Drop>(
     ensures counted { IfOk result (λ report. CountsInTurn S.state sources.items config.now report) }
     ensures showable { IfOk result (λ report. IsShowable config.now report) }
     ensures flushes { IfOk result (λ report. length report.flushes ≡ length sources.items + 1) }
-    ensures refused { IfErr result (λ fault. IsUnbuilt config.now fault) }
+    ensures refused { IfErr result (λ fault. HasNoStore config.now fault) }
 {
-    let mut store = store_of(alloc, config)?;
+    let mut store = PlainStore::build(alloc, config)?;
     let mut flushes = Vec::new(alloc);
     match flush_in_turn(alloc, sources, &mut store, &mut flushes) {
-        Ok(()) => Ok(finish_report(alloc, store, flushes)?),
+        Ok(()) => Ok(store.finish_report(alloc, flushes)?),
         Err(fault) => {
             drop(store);
             Err(TagFault::from(fault))
@@ -141,12 +126,12 @@ pub fn count_often<S: Source + Drop>(
     ensures counted { IfOk result (λ report. CountsOften S.state source flushes config.now report) }
     ensures showable { IfOk result (λ report. IsShowable config.now report) }
     ensures flushes { IfOk result (λ report. length report.flushes ≡ flushes + 1) }
-    ensures refused { IfErr result (λ fault. IsUnbuilt config.now fault) }
+    ensures refused { IfErr result (λ fault. HasNoStore config.now fault) }
 {
-    let mut store = store_of(alloc, config)?;
+    let mut store = PlainStore::build(alloc, config)?;
     let mut records = Vec::new(alloc);
     match flush_after_lines(alloc, source, &mut store, flushes, &mut records) {
-        Ok(()) => Ok(finish_report(alloc, store, records)?),
+        Ok(()) => Ok(store.finish_report(alloc, records)?),
         Err(fault) => {
             drop(store);
             Err(TagFault::from(fault))

@@ -7,8 +7,8 @@ mod laws;
 mod reading;
 mod showing;
 
-pub use counting::{count_in_turn, count_lines, count_often, count_twice, store_of};
+pub use counting::{count_in_turn, count_lines, count_often, count_twice};
 pub use flushing::flush_often;
 pub use laws::stores_show;
 pub use reading::{LinesApplied, apply_lines, flush_in_turn, flush_lines};
-pub use showing::{finish_report, rules_and_buckets, shown_of};
+pub use showing::shown_of;

@@ -8,6 +8,7 @@ use Rattle.stat_defs.specs.declared.history.Entry.{Entry}
 use Rattle.stat_defs.specs.declared.history.Verdict.{Verdict}
 use Rattle.stat_defs.specs.declared.reports.FlushRecord.{FlushRecord}
 use Rattle.stat_defs.specs.declared.reports.LastFlush.{LastFlush}
+use Rattle.stat_defs.specs.declared.reports.Report.{Report}
 use Rattle.book_state.specs.Follows.{Follows}
 use Rattle.stat_book.specs.Calls.{rules_of, IsLegal, Logged}
 use Rattle.stat_book.specs.NameChanges.{names_of}
@@ -90,3 +91,13 @@ pub record Finishes (old : StoreHistory) (given : LastFlush) : Type 0 where
   pub accounts : old.whole ≡ true → Accounts old given.log true given.last
   pub all_fit : old.whole ≡ true
       → FitAll (rules_of old.worker.book) given.log (old.counted ∷ []) (old.flushes ++ given.last ∷ [])
+
+-- the store was finished: the report has its flushes, the last one behind them, and the log, and nothing else
+pub record IsReportOfStore (store : StoreHistory) (report : Report) : Type 0 where
+  pub given : LastFlush
+  pub finished : Finishes store given
+  pub flushes : report.flushes ≡ store.flushes ++ given.last ∷ []
+  pub log : report.log ≡ given.log
+  pub no_verdicts : report.verdicts ≡ []
+  pub no_reads : report.reads ≡ []
+  pub no_ends : report.ends ≡ []

@@ -7,6 +7,7 @@
 #![tactic(auto)]
 
 mod account;
+mod building;
 mod last;
 mod lists;
 mod record;

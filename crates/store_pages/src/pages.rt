@@ -3,12 +3,11 @@ ghost use Rattle.std.specs.Prelude.{◌≡◌, ◌≤◌, IfOk, IfErr, length};
 ghost use Rattle.stat_defs.specs.Borrowed.{event_of};
 ghost use Rattle.stat_defs.specs.Configs.{IsConfig};
 ghost use Rattle.stat_defs.specs.Events.{IsLawfulEvent};
+ghost use Rattle.tag_rules.specs.Unbuilt.{HasNoStore};
 ghost use Rattle.text_parts.specs.Histograms.{HasHistograms};
 ghost use Rattle.plain_store.specs.declared.worker.TheConstants as worker;
 ghost use Rattle.store_pages.specs.Pages.{new_pages, IsApplied, ApplyFails, GivesPage, PageFails};
-ghost use Rattle.store_pages.specs.Unbuilt.{HasNoStore};
 
-use crate::building::{rules_of, store_of};
 use crate::fault::{ApplyFault, PageFault};
 use live_view::LiveViews;
 use name_map::HashKey;
@@ -16,7 +15,7 @@ use plain_store::{MAX_EVENTS, PlainStore};
 use stat_defs::{Config, Event, EventRef, FlushView, Verdict};
 use std::alloc::Global;
 use std::marker::Model;
-use tag_rules::{Buckets, TagFault};
+use tag_rules::{Buckets, TagFault, rules_of};
 
 /// A store on one thread, and the pages of its flushes while it goes on. Contracts see it as the store, and whether no
 /// page was cut short by want of memory.
@@ -72,7 +71,7 @@ impl<'a> StorePages<'a> {
     {
         let rules = rules_of(alloc, config)?;
         let views = LiveViews::new(alloc, config, rules, buckets, 1)?;
-        let store = store_of(alloc, key, config)?;
+        let store = PlainStore::build_with_key(alloc, key, config)?;
         Ok(StorePages {
             store,
             views,

@@ -7,7 +7,7 @@ ghost use Rattle.store_tests.specs.TriedFlushes.{tried_flushes, tried_part};
 
 use crate::stores::{NO_TAGS, config_of, three_flushes, written};
 use flush_view::{ReportViews, names_of_log};
-use library_examples::{rules_and_buckets, shown_of};
+use library_examples::shown_of;
 use output_options::{Format, OutputOptions};
 use stat_defs::{
     Bin, BinCount, Config, Delta, FlushRecord, FlushView, List, MetricId, NoMemory, Part,
@@ -17,6 +17,7 @@ use stats_io::MemSink;
 use std::alloc::Global;
 use std::process::Abort;
 use std::test::Fail;
+use tag_rules::rules_and_buckets;
 
 fn delta(id: u32, n: u64) -> Delta
     ensures { result ≡ told.delta id n }

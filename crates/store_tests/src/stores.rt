@@ -9,8 +9,7 @@ ghost use Rattle.plain_store.specs.Store.{new_store};
 use boot_file::{read, usual};
 use flush_view::names_of_log;
 use library_examples::{
-    LinesApplied, apply_lines, count_in_turn, count_lines, count_often, count_twice,
-    rules_and_buckets, shown_of, store_of,
+    LinesApplied, apply_lines, count_in_turn, count_lines, count_often, count_twice, shown_of,
 };
 use output_options::{Format, OutputOptions};
 use plain_store::PlainStore;
@@ -20,6 +19,7 @@ use stats_io::{MemSink, MemSource, SureSource};
 use std::alloc::Global;
 use std::process::Abort;
 use std::test::Fail;
+use tag_rules::rules_and_buckets;
 
 // Without tag rules.
 pub(crate) const NO_TAGS: &str = r#"{"stats_config":{"use_all_default_tags":false}}"#;
@@ -52,7 +52,7 @@ fn lines_applied(alloc: Global, lines: &[u8], store: &mut PlainStore) -> Result<
 fn verdicts_in(alloc: Global, config: &Config, lines: &[u8]) -> Result<Vec<Verdict>, Fail>
     requires { IsConfig config.now }
 {
-    let mut store = store_of(alloc, config)?;
+    let mut store = PlainStore::build(alloc, config)?;
     let applied = lines_applied(alloc, lines, &mut store);
     drop(store);
     Ok(applied?.verdicts)
