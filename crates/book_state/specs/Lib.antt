@@ -16,5 +16,6 @@ pub mod ScopesKept
 pub mod Metrics
 pub mod MetricsKept
 pub mod Stored
+pub mod Making
 pub mod StateKept
 pub mod SeatLaws

@@ -9,6 +9,7 @@ ghost use Rattle.book_state.specs.Finding.{scope_of, name_of, is_full, is_over_l
 ghost use Rattle.book_state.specs.Step.{overdue_in, Works};
 ghost use Rattle.book_state.specs.Follows.{tag_of};
 ghost use Rattle.book_state.specs.Log.{empty};
+ghost use Rattle.book_state.specs.Making.{MakesMetric};
 ghost use Rattle.book_state.specs.Stored.{drawing, after_entry, IsNext, IsNoted, MakesOf, numbers_in, fresh_metric};
 
 use crate::limits::{MAX_HISTOGRAMS, MAX_METRICS};
@@ -263,13 +264,7 @@ impl BookState {
         key: &Key,
         name: NameKey,
     ) -> Result<(), NoMemory>
-        requires next { IsNext self.old entry.now }
-        requires call { entry.now.call ≡ call.Find key.now }
-        requires made { MakesOf entry.now.reply }
-        requires scope { live_scope self.old.state key.now.label ≡ Some scope }
-        requires kind { name.kind ≡ key.now.kind }
-        requires name { name.name ≡ name_of self.old.state key.now }
-        requires full { IsFullName name.name }
+        requires { MakesMetric self.old scope key.now name entry.now }
         ensures ok { OnOk result (self.new ≡ after_entry self.old entry.now) }
         ensures err { OnErr result (self.new ≡ self.old) }
     {

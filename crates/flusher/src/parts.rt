@@ -9,10 +9,9 @@ ghost use Rattle.book_access.specs.Calling.{Calls};
 ghost use Rattle.book_access.specs.Making.{IsAsFound};
 ghost use Rattle.locked_book.specs.Sharing.{known_by, IsSeatOf};
 ghost use Rattle.locked_book.specs.Lists.{AreMetrics, SweepsListed};
-ghost use Rattle.flush_words.specs.Words.{after_latches, after_gauge_loads};
 ghost use Rattle.flush_cells.specs.Cells.{cell_of};
 ghost use Rattle.flush_cells.specs.Asks.{AsksEach};
-ghost use Rattle.flusher.specs.Shown.{Flushed};
+ghost use Rattle.flusher.specs.Shown.{Flushed, ReadsWords};
 
 use flush_cells::FlushCells;
 use flush_words::{latch_into, load_into};
@@ -81,10 +80,7 @@ impl FlusherParts {
         ensures shows { IfOk result (λ shown. Flushed listing.now shown) }
         ensures parts { IfOk result (λ shown.
             ArePartsOf (λ worker. bins_by (worker_values worker self.old.cells.parents.round)) shown.parts) }
-        ensures counters { IfOk result (λ shown.
-            flush_known self.new.counters ≡ after_latches shown.deltas (flush_known self.old.counters)) }
-        ensures gauges { IfOk result (λ shown.
-            gauge_known self.new.gauges ≡ after_gauge_loads shown.gauges (gauge_known self.old.gauges)) }
+        ensures words { IfOk result (λ shown. ReadsWords shown self.old self.new) }
         ensures round { OnOk result (self.new.cells.parents ≡ after_round self.old.cells.parents) }
         ensures rest { (self.new.seat ≡ self.old.seat) × (self.new.cells.tokens ≡ self.old.cells.tokens) }
         ensures err { OnErr result (self.new ≡ self.old) }

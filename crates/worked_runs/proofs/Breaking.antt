@@ -1,6 +1,6 @@
 -- The worked report is a ledger, and the broken ones are none.
-use Rattle.std.proofs.Common.{◌≡◌, ◌≢◌, ◌<◌, ℕ, zero, suc, Bool, true, false, Option, None, Some, cond, [], ◌∷◌, List, map, refl, sym, ap, ◌∙◌, arith, inl, true≢false}
-use Rattle.std.specs.Prelude.{◌++◌, codes, slice_index_or}
+use Rattle.std.proofs.Common.{◌≡◌, ◌≢◌, ◌<◌, ℕ, zero, suc, Bool, true, false, Option, None, Some, cond, [], ◌∷◌, List, map, refl, sym, ap, ◌∙◌, arith, inl, true≢false, drop}
+use Rattle.std.specs.Prelude.{◌++◌, slice_index_or}
 use Rattle.std.proofs.lemmas.Cmp.{nat_eq_equiv}
 use Rattle.std.proofs.lemmas.List.Elements.{All-from_recursion, recursion_from_All}
 use Rattle.std.proofs.lemmas.Map.Views.{list_any-from_Contains}
@@ -21,8 +21,6 @@ use Rattle.book_state.specs.Follows.{Own, own, Follows}
 use Rattle.book_state.specs.Log.{empty, is_sweep, Legal}
 use Rattle.book_state.specs.SeatLaws.{is_end}
 use Rattle.book_state.specs.Worked.{plain, root_alone}
-use Rattle.book_state.proofs.Computed.{drawn_all}
-use Rattle.book_state.proofs.WorkedParts.{legal_log}
 use Rattle.ledger.specs.Ledger.{AreRead, HasHistory, Account, AreShown}
 use Rattle.ledger.specs.Segments.{bins_by_worker, segments_at}
 use Rattle.ledger.specs.Work.{Recording}
@@ -30,7 +28,8 @@ use Rattle.ledger.specs.Worked.{file_of}
 use Rattle.ledger.proofs.Lists.{nil_cons, number_apart}
 use Rattle.ledger.proofs.WorkedParts.{bins_of_7, read_whole, rec_7, inc_a, moves_g}
 use Rattle.run_ledger.proofs.Accounts.{run_accounts}
-use Rattle.worked_runs.specs.Run.{plan_of_run, events_of_run, files_of_run, first_events, second_events, second_verdicts, flushes_of_run, reads_of_run, report_with, report_of_run, told_of_run, early_read, part_of, IsLedgerOfRun}
+use Rattle.worked_runs.proofs.Seats.{legal_with}
+use Rattle.worked_runs.specs.Run.{log_of_run, plan_of_run, events_of_run, files_of_run, first_events, second_events, second_verdicts, flushes_of_run, reads_of_run, report_with, report_of_run, told_of_run, early_read, part_of, IsLedgerOfRun}
 use Rattle.worked_runs.specs.Broken.{SecondAloneBroken, ThirdAloneBroken, FourthAloneBroken, FifthAloneBroken, log_without_end, end_left_out, flushes_exchanged, plan_of_more, counted_twice, part_moved, value_lost, value_fallen, place_fallen, reading_left_out, flushes_joined, plan_of_fewer, gauge_too_early, word_unset, units_made_up, delta_left_out, counter_left_out, gauge_read_too_early, place_behind_the_log, part_of_8, value_in_another_bin, beside_its_sweep, works_in}
 use Rattle.worked_runs.proofs.Accounted.{two_account, three_rise, rise_by}
 
@@ -298,31 +297,7 @@ ends_by_an_end : (log : List Entry) → Follows plain 2 2 second_events second_v
 ends_by_an_end log h = ap ends_last h.own_are ∙ last_is h.entries h.last ∙ ap is_end h.ends
 
 legal_without_end : Legal plain root_alone 2 log_without_end
-legal_without_end = legal_log 2 _ refl (
-  (inl refl, refl, refl),
-  (
-    ((refl, refl), (refl, drawn_all [] (codes "h" ∷ []) (1 ∷ []) refl)),
-    (
-      ((refl, refl), (refl, drawn_all ((codes "h", 1) ∷ []) (codes "a" ∷ []) (2 ∷ []) refl)),
-      (
-        (refl, refl),
-        (
-          ((refl, refl), refl),
-          (
-            ((refl, refl), refl),
-            (
-              (refl, refl),
-              (
-                ((refl, refl), (refl, drawn_all ((codes "h", 1) ∷ (codes "a", 2) ∷ []) (codes "g" ∷ []) (3 ∷ []) refl)),
-                (((refl, refl), refl), ((refl, tt), ((refl, refl), tt))),
-              ),
-            ),
-          ),
-        ),
-      ),
-    ),
-  ),
-)
+legal_without_end = legal_with (drop 10 log_of_run) refl ((refl, tt), ((refl, refl), tt))
 
 pub without_end : SecondAloneBroken end_left_out
 without_end = let a = ledger.account in let s = ledger.shown in record {

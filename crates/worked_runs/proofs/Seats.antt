@@ -1,11 +1,12 @@
 -- The two workers follow their events, and did their work.
-use Rattle.std.proofs.Common.{ℕ, List, [], ◌∷◌, take, drop, refl, inl, arith}
+use Rattle.std.proofs.Common.{◌≡◌, ℕ, true, List, [], ◌∷◌, ◌++◌, take, drop, refl, inl, arith}
+use Rattle.std.specs.List.{list_all}
 use Rattle.stat_defs.specs.declared.history.Entry.{Entry}
 use Rattle.metric_words.specs.declared.counter_view.CountKind.TheVariants as count
 use Rattle.metric_words.specs.Counters.{step_of}
 use Rattle.metric_words.specs.declared.gauge_view.GaugeKind.TheVariants as gauge
 use Rattle.metric_words.specs.Gauges.{gauge_step}
-use Rattle.book_state.specs.Log.{empty, Legal}
+use Rattle.book_state.specs.Log.{empty, fits_seat, replay_from, Run, Legal}
 use Rattle.book_state.specs.Follows.{Own, own, Follows}
 use Rattle.book_state.specs.Worked.{plain, root_alone}
 use Rattle.std.specs.Prelude.{codes}
@@ -59,8 +60,14 @@ second_follows = record {
   own_are = refl;
 }
 
-pub legal : Legal plain root_alone 2 log_of_run
-legal = legal_log 2 _ refl (
+-- the entries before the workers end
+abbrev working : List Entry
+working = take 9 log_of_run
+
+-- whatever steps come behind them
+pub legal_with : (rest : List Entry) → list_all (fits_seat 2) (drop 1 working ++ rest) ≡ true
+    → Run plain (replay_from plain (empty 2) working) rest → Legal plain root_alone 2 (working ++ rest)
+legal_with rest fits steps = legal_log 2 (drop 1 working ++ rest) fits (
   (inl refl, refl, refl),
   (
     ((refl, refl), (refl, drawn_all [] (codes "h" ∷ []) (1 ∷ []) refl)),
@@ -76,7 +83,7 @@ legal = legal_log 2 _ refl (
               (refl, refl),
               (
                 ((refl, refl), (refl, drawn_all ((codes "h", 1) ∷ (codes "a", 2) ∷ []) (codes "g" ∷ []) (3 ∷ []) refl)),
-                (((refl, refl), refl), ((refl, tt), ((refl, tt), ((refl, refl), tt)))),
+                (((refl, refl), refl), steps),
               ),
             ),
           ),
@@ -85,6 +92,9 @@ legal = legal_log 2 _ refl (
     ),
   ),
 )
+
+pub legal : Legal plain root_alone 2 log_of_run
+legal = legal_with (drop 9 log_of_run) refl ((refl, tt), ((refl, tt), ((refl, refl), tt)))
 
 -- each worker from nothing on, by one event after the other
 abbrev nothing_done : ℕ → WorkerTold

@@ -21,28 +21,28 @@ pub make-requires-clause-scope : goal.make-requires-clause-scope
 make-requires-clause-scope c =
     let b = c.self.inside in let v = shown b in let e = c.args.entry.now in
     let next = subst (λ (w : StateView). IsNext w e) (sym c.self.view_is) c.requires.next in
-    find_within v (stored_in b) c.self.invariant e next c.args.key.now c.args.scope c.requires.call (subst (λ (w : StateView). live_scope w.state c.args.key.now.label ≡ Some c.args.scope) (sym c.self.view_is) c.requires.scope)
+    find_within v (stored_in b) c.self.invariant e next c.args.key.now c.args.scope c.requires.find (subst (λ (w : StateView). live_scope w.state c.args.key.now.label ≡ Some c.args.scope) (sym c.self.view_is) c.requires.scope)
 
 pub make-requires-clause-new : goal.make-requires-clause-new
 make-requires-clause-new c =
     let b = c.self.inside in let v = shown b in let e = c.args.entry.now in
     let next = subst (λ (w : StateView). IsNext w e) (sym c.self.view_is) c.requires.next in
     let makes = makes_of e.reply c.requires.made in
-    (λ i. known_in (map metric_of b.metrics) (c.requires.kind i) ((c.requires.name ∙ ap (λ (w : StateView). name_of w.state c.args.key.now) (sym c.self.view_is)) i)) ∙ make_new v (stored_in b) c.self.invariant e next c.args.key.now c.args.scope c.requires.call (subst (λ (w : StateView). live_scope w.state c.args.key.now.label ≡ Some c.args.scope) (sym c.self.view_is) c.requires.scope) makes.0 (numbers_in e.reply) makes.1
+    (λ i. known_in (map metric_of b.metrics) (c.requires.means.kind i) ((c.requires.means.name ∙ ap (λ (w : StateView). name_of w.state c.args.key.now) (sym c.self.view_is)) i)) ∙ make_new v (stored_in b) c.self.invariant e next c.args.key.now c.args.scope c.requires.find (subst (λ (w : StateView). live_scope w.state c.args.key.now.label ≡ Some c.args.scope) (sym c.self.view_is) c.requires.scope) makes.0 (numbers_in e.reply) makes.1
 
 pub invariant_of-self-2 : goal.invariant_of-self-2
 invariant_of-self-2 c =
     let b = c.self.inside in let v = shown b in let e = c.args.entry.now in
     let next = subst (λ (w : StateView). IsNext w e) (sym c.self.view_is) c.requires.next in
     let makes = makes_of e.reply c.requires.made in
-    let name = c.requires.name ∙ ap (λ (w : StateView). name_of w.state c.args.key.now) (sym c.self.view_is) in
+    let name = c.requires.means.name ∙ ap (λ (w : StateView). name_of w.state c.args.key.now) (sym c.self.view_is) in
     let metric : c.in_ok-metric.metric ≡ fresh_metric b.rules c.args.key.now (name_of v.state c.args.key.now) (numbers_in e.reply) =
     c.in_ok-metric.ensures ∙ (λ i. fresh_metric b.rules c.args.key.now (name i) (c.numbers_of.ensures i)) in
     kept_with b.rules (length b.seats.items) (length b.seats.items) b.past.items c.and-self-inside.result.items e refl c.and-self-inside.ensures _
     (subst (λ scopes. IsStored (record (stored_in b) { scopes = scopes; metrics = c.make.new.self }) (after_entry v e).state) (sym c.in_ok-make.ensures.borne)
     (subst (λ rows. IsStored (record (stored_in b) { scopes = change_at (bearing (length b.metrics)) c.args.scope b.scopes; metrics = rows }) (after_entry v e).state)
     (sym (c.in_ok-make.ensures.made ∙ ap (λ (m : Metric). b.metrics ++ record { metric = m; bearers = 1 } ∷ []) metric))
-    (made_stored v (stored_in b) c.self.invariant e next c.args.key.now c.args.scope c.requires.call (subst (λ (w : StateView). live_scope w.state c.args.key.now.label ≡ Some c.args.scope) (sym c.self.view_is) c.requires.scope) makes.0 (numbers_in e.reply) makes.1)))
+    (made_stored v (stored_in b) c.self.invariant e next c.args.key.now c.args.scope c.requires.find (subst (λ (w : StateView). live_scope w.state c.args.key.now.label ≡ Some c.args.scope) (sym c.self.view_is) c.requires.scope) makes.0 (numbers_in e.reply) makes.1)))
 
 pub returns-clause-ok : goal.returns-clause-ok
 returns-clause-ok c =
@@ -50,4 +50,4 @@ returns-clause-ok c =
     let next = subst (λ (w : StateView). IsNext w e) (sym c.self.view_is) c.requires.next in
     let makes = makes_of e.reply c.requires.made in
     seen_with b.rules (length b.seats.items) (length b.seats.items) b.past.items c.and-self-inside.result.items e refl c.and-self-inside.ensures b.released.items b.released.items c.args.self.now c.self.view_is
-    (sym (ap (λ l. b.released.items ++ l) (released_at v e (call.Find c.args.key.now) (reply.Made makes.0 (numbers_in e.reply)) c.requires.call makes.1) ∙ append-nil b.released.items))
+    (sym (ap (λ l. b.released.items ++ l) (released_at v e (call.Find c.args.key.now) (reply.Made makes.0 (numbers_in e.reply)) c.requires.find makes.1) ∙ append-nil b.released.items))
