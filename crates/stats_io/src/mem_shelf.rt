@@ -1,5 +1,5 @@
 //! A shelf in memory.
-ghost use Rattle.std.specs.Prelude.{◌≡◌, ◌≢◌, ◌≤◌, ◌⊎◌, ℕ, List, None, [], map, All, Err, IfOk, OnOk, Contains};
+ghost use Rattle.std.specs.Prelude.{◌≡◌, ◌≢◌, ◌≤◌, ◌⊎◌, ◌↔◌, ℕ, List, None, [], map, All, Err, IfOk, Contains};
 ghost use Rattle.stats_io.specs.Open.{IsUnpulled, IsUnopened};
 ghost use Rattle.stats_io.specs.MemSource.{as_source, counted};
 ghost use Rattle.stats_io.specs.MemShelf.{IsSourceOf, as_shelf, file_named, held_by, opened};
@@ -94,9 +94,8 @@ impl Shelf for MemShelf {
 
         // Which openings fail, and what an opened source is.
         ensures source { IfOk result (λ source. IsSourceOf name.now (file_named self.old.files name.now) source) }
-        ensures sure { OnOk result (¬ (Contains self.old.fails self.old.calls)) }
-        ensures fails { result ≡ Err OpenFault.Failed
-            → Contains self.old.fails self.old.calls ⊎ (file_named self.old.files name.now ≡ None) }
+        ensures fails { result ≢ Err OpenFault.NoMemory → (result ≡ Err OpenFault.Failed)
+            ↔ (Contains self.old.fails self.old.calls ⊎ (file_named self.old.files name.now ≡ None)) }
         ensures state { self.new ≡ opened name.now result self.old }
     {
         let call = self.calls;

@@ -1,5 +1,5 @@
 //! A sink in memory.
-ghost use Rattle.std.specs.Prelude.{◌≡◌, ◌<◌, ◌≤◌, ◌⊎◌, [], length, IfOk, Contains, min, ◌+◌, ◌-◌, ◌^◌};
+ghost use Rattle.std.specs.Prelude.{◌≡◌, ◌<◌, ◌≤◌, ◌⊎◌, ◌↔◌, [], length, IfOk, Contains, min, ◌+◌, ◌-◌, ◌^◌};
 ghost use Rattle.stat_defs.specs.Faults.{Rose};
 ghost use Rattle.stats_io.specs.Push.{IfTook, FitsPiece, Pushes};
 ghost use Rattle.stats_io.specs.MemSink.{as_sink, pushed};
@@ -86,9 +86,8 @@ impl Sink for MemSink {
         ensures failed { result ≡ Push.Failed → Rose self.old.faults self.new.faults }
         ensures fits { IfTook result
             (λ k. k ≡ min (min (length piece.now) self.old.piece) (self.old.room - length self.old.written)) }
-        ensures sure { IfTook result (λ _. ¬ (Contains self.old.fails self.old.calls)) }
-        ensures fails { result ≡ Push.Failed
-            → Contains self.old.fails self.old.calls ⊎ (length self.old.written ≡ self.old.room) }
+        ensures fails { (result ≡ Push.Failed)
+            ↔ (Contains self.old.fails self.old.calls ⊎ (length self.old.written ≡ self.old.room)) }
         ensures state { self.new ≡ pushed result piece.now self.old }
     {
         let call = self.calls;

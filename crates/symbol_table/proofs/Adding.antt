@@ -6,11 +6,11 @@ use Rattle.std.proofs.lemmas.List.Elements.{All-cons}
 use Rattle.std.specs.List.{join_with_byte}
 use Rattle.std.specs.Cmp.{nat_cmp_total}
 use Rattle.std.specs.FinMap as map
-use Rattle.std.specs.FinMap.{get-insert, get-remove}
+use Rattle.std.specs.FinMap.{get-insert, get-remove, same_map, nat_cmp-IsAntisymmetric}
 use Rattle.symbol_table.specs.Drawing.{DrawsAll}
-use Rattle.symbol_table.specs.Table.{Table, Holds, uses_at, times, InUseAll, token_in, text_in, counted, counted_all, counted_again, counted_again_all, uncounted, uncounted_all}
+use Rattle.symbol_table.specs.Table.{Table, Holds, uses_at, times, InUseAll, token_in, text_in, counted, counted_all, counted_again, counted_again_all, uncounted, uncounted_all, IsTable, Interns}
 use Rattle.symbol_table.proofs.Counting.{same_key, other_key, eq_or, token_of_got}
-use Rattle.symbol_table.proofs.DrawingLemmas.{holds_all}
+use Rattle.symbol_table.proofs.DrawingLemmas.{holds_all, drawn_length}
 
 abbrev uses_in : Option (List ℕ × ℕ) → ℕ
 uses_in o = elim o as (λ x. ℕ) [ None ↦ 0 | Some entry ↦ entry.1 ]
@@ -153,3 +153,28 @@ in_use_all m [] counts = λ k d below. absurd (omega arith)
 in_use_all m (n ∷ ns) counts =
     let rest : (j : ℕ) → times j ns ≤ uses_at m j = λ j. omega (arith, counts j, times_cons j n ns) in
     All-cons (λ k. 0 < uses_at m k) n ns (omega (arith, counts n, times_cons n n ns, tick_same n n refl)) (in_use_all m ns rest)
+
+-- an entry has uses
+abbrev Used : Option (List ℕ × ℕ) → Type 0
+Used o = (entry : List ℕ × ℕ) → o ≡ Some entry → 0 < entry.1
+
+same_entry : (o p : Option (List ℕ × ℕ)) → Used o → Used p → uses_in o ≡ uses_in p → (0 < uses_in p → token_of_entry o ≡ token_of_entry p) → o ≡ p
+same_entry None None used used' uses token = refl
+same_entry None (Some f) used used' uses token = absurd (omega (arith, uses, used' f refl))
+same_entry (Some e) None used used' uses token = absurd (omega (arith, uses, used e refl))
+same_entry (Some e) (Some f) used used' uses token = let same : e.0 ≡ f.0 = token (used' f refl) in λ i. Some (same i, uses i)
+
+-- the uses of interned tokens
+pub interns_uses : (m m' : Table) (ts : List (List ℕ)) (ns : List ℕ) → Interns m ts m' ns → (k : ℕ) → uses_at m' k ≡ uses_at m k + times k ns
+interns_uses m m' ts ns i k = ap (λ (t : Table). uses_at t k) i.counted_are ∙ uses_counted_all m ts ns k (drawn_length (Holds m) ts ns i.drawn)
+
+-- Where the numbers of interned tokens are uncounted, the table is the one before.
+pub all_undone : (m m' last : Table) (ts : List (List ℕ)) (ns : List ℕ) → IsTable m → IsTable last → Interns m ts m' ns → last ≡ uncounted_all m' ns → last ≡ m
+all_undone m m' last ts ns is is' i e =
+    let more = interns_uses m m' ts ns i in
+    let less : (k : ℕ) → uses_at last k + times k ns ≡ uses_at m' k = λ k. ap (λ (t : Table). uses_at t k + times k ns) e ∙ uses_uncounted_all m' ns (λ j. omega (arith, more j)) k in
+    same_map nat_cmp_total nat_cmp-IsAntisymmetric last m (λ k. same_entry (map.get last k) (map.get m k) (λ f got. is'.used k f.0 f.1 got) (λ f got. is.used k f.0 f.1 got) (omega (arith, more k, less k)) (λ some.
+    let h = holds_all m (token_in m k) k ts ns i.drawn (used_case m k (map.get m k) refl some) in
+    ap (λ (t : Table). token_in t k) e
+    ∙ ((still_used m' ns k (subst (λ (t : Table). 0 < uses_at t k) e (omega (arith, some, more k, less k)))).1
+    ∙ (ap (λ (t : Table). token_in t k) i.counted_are ∙ token_of_got (counted_all m ts ns) k (token_in m k, h.0) h.1))))

@@ -1,12 +1,11 @@
 -- Drawing over two tables that say the same, one token after another, and undoing it.
-use Rattle.std.proofs.Common.{◌≡◌, ℕ, zero, suc, ◌+◌, ◌-◌, ◌<◌, ◌==◌, Bool, true, false, cond, Option, Some, None, List, [], ◌∷◌, ◌++◌, length, map as list_map, refl, ap, sym, ◌∙◌, subst, arith, inl, inr, ◌⊎◌, append_assoc}
-use Rattle.std.proofs.lemmas.Bool.Decides.{nat_tests}
+use Rattle.std.proofs.Common.{◌≡◌, ℕ, zero, suc, ◌+◌, ◌<◌, Bool, true, false, cond, Some, None, List, [], ◌∷◌, ◌++◌, length, map as list_map, refl, ap, sym, ◌∙◌, subst, arith, inl, inr}
 use Rattle.std.specs.Cmp.{nat_cmp_total}
 use Rattle.std.specs.Ordering.{nat_cmp, eq_by_cmp}
 use Rattle.std.specs.FinMap as map
-use Rattle.std.specs.FinMap.{get-insert, get-remove, same_map, nat_cmp-IsAntisymmetric}
+use Rattle.std.specs.FinMap.{get-insert}
 use Rattle.symbol_table.specs.Drawing.{Draws, DrawsAll, with_use, Same}
-use Rattle.symbol_table.specs.Table.{Table, Holds, uses_at, token_in, counted, counted_all, counted_again, uncounted, IsTable, Interned}
+use Rattle.symbol_table.specs.Table.{Table, Holds, uses_at, token_in, counted, counted_all, counted_again, IsTable, Interns}
 use Rattle.symbol_table.proofs.Counting.{same_key, other_key, eq_or, pair_parts, true_false, uses_of_got, token_of_got}
 use Rattle.std.specs.Str.{bytes_eq}
 use Rattle.std.proofs.lemmas.Slice.Eq.{bytes_eq-Decides}
@@ -46,30 +45,6 @@ counted_uses m t n = uses_of_got (counted m t n) n (t, uses_at m n + 1) (counted
 counted_token : (m : Table) (t : List ℕ) (n : ℕ) → token_in (counted m t n) n ≡ t
 counted_token m t n = token_of_got (counted m t n) n (t, uses_at m n + 1) (counted_here m t n)
 
-uncounted_case : (m : Table) (n : ℕ) (t : List ℕ) (u : ℕ) → token_in m n ≡ t → uses_at m n ≡ u → uncounted m n ≡ cond (u == 1) (map.remove m n) (map.insert m n (t, u - 1))
-uncounted_case m n t u token uses = rw (token, uses) refl
-
--- Undoing a count gives the table back, where the number was free or the token's.
-count_undone : (m : Table) (t : List ℕ) (n : ℕ) → (map.get m n ≡ None) ⊎ ((u : ℕ) × (map.get m n ≡ Some (t, u)) × (0 < u)) → uncounted (counted m t n) n ≡ m
-count_undone m t n was =
-    uncounted_case (counted m t n) n t (uses_at m n + 1) (counted_token m t n) (counted_uses m t n) ∙
-    same_map nat_cmp_total nat_cmp-IsAntisymmetric (cond (uses_at m n + 1 == 1) (map.remove (counted m t n) n) (map.insert (counted m t n) n (t, uses_at m n + 1 - 1))) m (λ k. elim was [
-      | inl none ↦
-          let z : uses_at m n ≡ 0 = ap (λ (o : Option (List ℕ × ℕ)). elim o as (λ x. ℕ) [ None ↦ 0 | Some entry ↦ entry.1 ]) none in
-          subst (λ (u : ℕ). map.get (cond (u + 1 == 1) (map.remove (counted m t n) n) (map.insert (counted m t n) n (t, u + 1 - 1))) k ≡ map.get m k) (sym z) (elim (eq_or k n) [
-            | inl e ↦ get-remove nat_cmp_total (counted m t n) n k ∙ rw (e, same_key n) (sym none)
-            | inr ne ↦ get-remove nat_cmp_total (counted m t n) n k ∙ (rw (other_key k n ne) (counted_get m t n k ∙ rw (other_key k n ne) refl))
-          ])
-      | inr had ↦
-          let z : uses_at m n ≡ had.0 = uses_of_got m n (t, had.0) had.1 in
-          let pos = had.2 in
-          let some : (uses_at m n + 1 == 1) ≡ false = grind (arith, nat_tests) in
-          rw some (get-insert nat_cmp_total (counted m t n) n (t, uses_at m n + 1 - 1) k ∙ elim (eq_or k n) [
-            | inl e ↦ let u : uses_at m n + 1 - 1 ≡ had.0 = omega (arith, z) in rw (e, same_key n, u) (sym had.1)
-            | inr ne ↦ rw (other_key k n ne) (counted_get m t n k ∙ rw (other_key k n ne) refl)
-          ])
-    ])
-
 own_case : (m : Table) (t s : List ℕ) (n u : ℕ) → Draws (Holds m) t n → map.get m n ≡ Some (s, u) → (b : Bool) → bytes_eq s t ≡ b → s ≡ t
 own_case m t s n u d e true b = (bytes_eq-Decides s t).0 b
 own_case m t s n u d e false b =
@@ -84,13 +59,6 @@ own_case m t s n u d e false b =
 -- a number that was drawn is free, or the token's own
 pub drawn_own : (m : Table) (t s : List ℕ) (n u : ℕ) → Draws (Holds m) t n → map.get m n ≡ Some (s, u) → s ≡ t
 drawn_own m t s n u d e = own_case m t s n u d e (bytes_eq s t) refl
-
-was_case : (m : Table) → IsTable m → (t : List ℕ) (n : ℕ) → Draws (Holds m) t n → (o : Option (List ℕ × ℕ)) → map.get m n ≡ o → (map.get m n ≡ None) ⊎ ((u : ℕ) × (map.get m n ≡ Some (t, u)) × (0 < u))
-was_case m is t n d None e = inl e
-was_case m is t n d (Some entry) e = inr (entry.1, e ∙ ap (λ (w : List ℕ). Some (w, entry.1)) (drawn_own m t entry.0 n entry.1 d e), is.used n entry.0 entry.1 e)
-
-drawn_was : (m : Table) → IsTable m → (t : List ℕ) (n : ℕ) → Draws (Holds m) t n → (map.get m n ≡ None) ⊎ ((u : ℕ) × (map.get m n ≡ Some (t, u)) × (0 < u))
-drawn_was m is t n d = was_case m is t n d (map.get m n) refl
 
 -- the uses after a count
 pub counted_same : (m : Table) (t : List ℕ) (n : ℕ) → Draws (Holds m) t n → Same (with_use (Holds m) t n) (Holds (counted m t n))
@@ -118,24 +86,6 @@ counted_positive m t n = omega (arith, counted_uses m t n)
 
 same_back : (u v : List ℕ → ℕ → Type 0) → Same u v → Same v u
 same_back u v s = record { to = s.from; from = s.to }
-
--- one token, and then the others
-pub interned_more : (m m' last : Table) (t : List ℕ) (n : ℕ) (ts : List (List ℕ)) (before after : List ℕ) → Draws (Holds m) t n → m' ≡ counted m t n
-    → Interned m' ts (before ++ n ∷ []) last after → Interned m (t ∷ ts) before last after
-interned_more m m' last t n ts before after d is i = record {
-  numbers = n ∷ i.numbers;
-  appended = i.appended ∙ append_assoc before (n ∷ []) i.numbers;
-  drawn = (
-    d,
-    DrawsAll_same (Holds (counted m t n)) (with_use (Holds m) t n) (same_back (with_use (Holds m) t n) (Holds (counted m t n)) (counted_same m t n d)) ts i.numbers
-        (subst (λ (x : Table). DrawsAll (Holds x) ts i.numbers) is i.drawn),
-  );
-  counted_are = i.counted_are ∙ ap (λ (x : Table). counted_all x ts i.numbers) is;
-}
-
--- what was counted first is taken back, after all that followed was
-pub undone : (m m' m'' last : Table) (t : List ℕ) (n : ℕ) → IsTable m → Draws (Holds m) t n → m' ≡ counted m t n → m'' ≡ m' → last ≡ uncounted m'' n → last ≡ m
-undone m m' m'' last t n is d counted_is back l = l ∙ (ap (λ (x : Table). uncounted x n) (back ∙ counted_is) ∙ count_undone m t n (drawn_was m is t n d))
 
 -- a drawn number holds its token after all counts
 holds_on : (m : Table) (t : List ℕ) (n : ℕ) (s : List ℕ) (k : ℕ) → Draws (Holds m) s k → Holds m t n → Holds (counted m s k) t n
@@ -168,6 +118,29 @@ tokens_back m (s ∷ ts) (k ∷ ns) d =
     let head : token_in (counted_all (counted m s k) ts ns) k ≡ s = token_of_got (counted_all (counted m s k) ts ns) k (s, h.0) h.1 in
     let tail : list_map (token_in (counted_all (counted m s k) ts ns)) ns ≡ ts = tokens_back (counted m s k) ts ns after in
     cc
+
+-- one token more, behind the others
+pub drawn_more : (m : Table) (ts : List (List ℕ)) (ns : List ℕ) (t : List ℕ) (n : ℕ) → DrawsAll (Holds m) ts ns → Draws (Holds (counted_all m ts ns)) t n → DrawsAll (Holds m) (ts ++ t ∷ []) (ns ++ n ∷ [])
+drawn_more m [] [] t n all d = (d, tt)
+drawn_more m [] (k ∷ ns) t n all d = absurd all
+drawn_more m (s ∷ ts) [] t n all d = absurd all
+drawn_more m (s ∷ ts) (k ∷ ns) t n all d = (
+  all.0,
+  DrawsAll_same (Holds (counted m s k)) (with_use (Holds m) s k) (same_back (with_use (Holds m) s k) (Holds (counted m s k)) (counted_same m s k all.0)) (ts ++ t ∷ []) (ns ++ n ∷ [])
+      (drawn_more (counted m s k) ts ns t n (draws_after m s k ts ns all.0 all.1) d),
+)
+
+counted_more : (m : Table) (ts : List (List ℕ)) (ns : List ℕ) (t : List ℕ) (n : ℕ) → DrawsAll (Holds m) ts ns → counted_all m (ts ++ t ∷ []) (ns ++ n ∷ []) ≡ counted (counted_all m ts ns) t n
+counted_more m [] [] t n all = refl
+counted_more m [] (k ∷ ns) t n all = absurd all
+counted_more m (s ∷ ts) [] t n all = absurd all
+counted_more m (s ∷ ts) (k ∷ ns) t n all = counted_more (counted m s k) ts ns t n (draws_after m s k ts ns all.0 all.1)
+
+pub interns_more : (m m' last : Table) (ts : List (List ℕ)) (ns : List ℕ) (t : List ℕ) (n : ℕ) → Interns m ts m' ns → Draws (Holds m') t n → last ≡ counted m' t n → Interns m (ts ++ t ∷ []) last (ns ++ n ∷ [])
+interns_more m m' last ts ns t n i d is = record {
+  drawn = drawn_more m ts ns t n i.drawn (subst (λ (x : Table). Draws (Holds x) t n) i.counted_are d);
+  counted_are = is ∙ (ap (λ (x : Table). counted x t n) i.counted_are ∙ sym (counted_more m ts ns t n i.drawn));
+}
 
 pub drawn_length : (uses : List ℕ → ℕ → Type 0) (ts : List (List ℕ)) (ns : List ℕ) → DrawsAll uses ts ns → length ns ≡ length ts
 drawn_length uses [] [] d = refl

@@ -1,13 +1,14 @@
 -- The name that was interned: how many numbers it has, and its text.
-use Rattle.std.proofs.Common.{◌≡◌, ℕ, ◌+◌, ◌<◌, ◌≤◌, ◌==◌, List, [], ◌++◌, length, map as list_map, All, ap, sym, ◌∙◌, subst, arith}
+use Rattle.std.proofs.Common.{◌≡◌, ℕ, ◌+◌, ◌<◌, ◌≤◌, ◌==◌, List, length, map as list_map, All, take, get_or, ◌++◌, ◌∷◌, [], ap, sym, ◌∙◌, subst, arith}
+use Rattle.std.specs.Borrow.{Bor}
 use Rattle.std.specs.List.{join_with_byte}
+use Rattle.std.proofs.lemmas.List.{take_more, map-append}
 use Rattle.std.proofs.lemmas.List.Sums.{count_by-le-length}
 use Rattle.std.proofs.lemmas.List.Splits.{length-slice_split, join_with_byte-slice_split}
 use Rattle.stat_defs.specs.Names.{IsFullName, tokens}
 use Rattle.stat_name.specs.StoredName.{IsName}
-use Rattle.symbol_table.specs.Table.{Table, Holds, uses_at, times, token_in, text_in, Interned}
+use Rattle.symbol_table.specs.Table.{Table, Holds, token_in, text_in, Interns}
 use Rattle.symbol_table.proofs.DrawingLemmas.{drawn_length, tokens_back}
-use Rattle.symbol_table.proofs.Adding.{uses_counted_all}
 
 -- a full name has 1 to 512 tokens
 pub token_count : (name : List ℕ) → IsFullName name → (1 ≤ length (tokens name)) × (length (tokens name) ≤ 512)
@@ -17,27 +18,28 @@ token_count name full =
     let short = full.short in
     (omega arith, omega arith)
 
-module _ (old new : Table) (name : List ℕ) (parts : List (List ℕ)) (before after : List ℕ) (cut : parts ≡ tokens name) (none : before ≡ []) (i : Interned old parts before new after) where
-  after_is : after ≡ i.numbers
-  after_is = i.appended ∙ ap (λ (l : List ℕ). l ++ i.numbers) none
+abbrev pub token_at : List (Bor (List ℕ)) → ℕ → List ℕ
+token_at parts i = (get_or parts i (record { ref_ptr = (0, 0); now = [] })).now
 
-  pub interned_length : length after ≡ length (tokens name)
-  interned_length = ap length after_is ∙ (drawn_length (Holds old) parts i.numbers i.drawn ∙ ap length cut)
+-- one token more of a name's
+pub tokens_more : (parts : List (Bor (List ℕ))) (i : ℕ) → i < length parts
+    → list_map (λ (x : Bor (List ℕ)). x.now) (take i parts) ++ token_at parts i ∷ [] ≡ list_map (λ (x : Bor (List ℕ)). x.now) (take (i + 1) parts)
+tokens_more parts i below =
+    sym (map-append (λ (x : Bor (List ℕ)). x.now) (take i parts) (get_or parts i (record { ref_ptr = (0, 0); now = [] }) ∷ []))
+    ∙ ap (list_map (λ (x : Bor (List ℕ)). x.now)) (sym (take_more parts i (record { ref_ptr = (0, 0); now = [] }) below))
 
-  pub interned_name : IsFullName name → All (λ n. 0 < n) after → IsName after
-  interned_name full each = let few = token_count name full in record {
-    some = omega (arith, interned_length, few.0);
-    few = omega (arith, interned_length, few.1);
+module _ (old new : Table) (name : List ℕ) (parts : List (List ℕ)) (numbers : List ℕ) (cut : parts ≡ tokens name) (i : Interns old parts new numbers) where
+  pub interned : Interns old (tokens name) new numbers
+  interned = subst (λ (ts : List (List ℕ)). Interns old ts new numbers) cut i
+
+  pub interned_name : IsFullName name → All (λ n. 0 < n) numbers → IsName numbers
+  interned_name full each = let few = token_count name full in let length_is = drawn_length (Holds old) (tokens name) numbers interned.drawn in record {
+    some = omega (arith, length_is, few.0);
+    few = omega (arith, length_is, few.1);
     each = each;
   }
 
-  pub interned_text : text_in new after ≡ name
+  pub interned_text : text_in new numbers ≡ name
   interned_text =
-      let back : list_map (token_in new) i.numbers ≡ parts = subst (λ (t : Table). list_map (token_in t) i.numbers ≡ parts) (sym i.counted_are) (tokens_back old parts i.numbers i.drawn) in
-      ap (λ (l : List ℕ). text_in new l) after_is ∙ (ap (join_with_byte 46) (back ∙ cut) ∙ join_with_byte-slice_split 46 name)
-
-  pub interned_uses : (k : ℕ) → uses_at new k ≡ uses_at old k + times k after
-  interned_uses k =
-      ap (λ (t : Table). uses_at t k) i.counted_are
-      ∙ (uses_counted_all old parts i.numbers k (drawn_length (Holds old) parts i.numbers i.drawn)
-      ∙ ap (λ (l : List ℕ). uses_at old k + times k l) (sym after_is))
+      let back : list_map (token_in new) numbers ≡ tokens name = subst (λ (t : Table). list_map (token_in t) numbers ≡ tokens name) (sym interned.counted_are) (tokens_back old (tokens name) numbers interned.drawn) in
+      ap (join_with_byte 46) back ∙ join_with_byte-slice_split 46 name

@@ -1,6 +1,6 @@
 -- The table as callers see it: the token and the count of uses of each number. A number without uses has no entry
 -- (Envoy's design note on statistics: symbols are counted by reference, and a symbol without references is free).
-use Rattle.std.specs.Prelude.{◌≡◌, ℕ, ◌+◌, ◌-◌, ◌<◌, ◌==◌, if◌then◌else◌, Some, None, List, [], ◌∷◌, ◌++◌}
+use Rattle.std.specs.Prelude.{◌≡◌, ℕ, ◌+◌, ◌-◌, ◌<◌, ◌==◌, if◌then◌else◌, Some, None, List, [], ◌∷◌}
 use Rattle.std.specs.Prelude.{map as list_map, All}
 use Rattle.std.specs.List.{sum_by, count_by, join_with_byte}
 use Rattle.std.specs.Ordering.{nat_cmp}
@@ -74,10 +74,7 @@ pub record IsTable (table : Table) : Type 0 where
   pub distinct : (token : List ℕ) (m n : ℕ) → Holds table token m → Holds table token n → m ≡ n
   pub few : total table < MAX_USES
 
--- the tokens were counted under numbers that were drawn for them, and these were appended
-pub record Interned (old : Table) (names : List (List ℕ)) (before : List ℕ) (new : Table)
-    (after : List ℕ) : Type 0 where
-  pub numbers : List ℕ
-  pub appended : after ≡ before ++ numbers
+-- the tokens were counted under these numbers, which were drawn for them
+pub record Interns (old : Table) (names : List (List ℕ)) (new : Table) (numbers : List ℕ) : Type 0 where
   pub drawn : DrawsAll (Holds old) names numbers
   pub counted_are : new ≡ counted_all old names numbers

@@ -3,10 +3,10 @@ ghost use Rattle.std.specs.Prelude.{◌≡◌, ℕ, ◌+◌, ◌<◌, ◌≤◌,
 ghost use Rattle.std.specs.FinMap as map;
 ghost use Rattle.std.specs.Vec.{vec_capacity};
 ghost use Rattle.stat_defs.specs.Names.{IsFullName, tokens};
-ghost use Rattle.symbol_table.specs.Drawing.{Draws, DrawsAll};
+ghost use Rattle.symbol_table.specs.Drawing.{Draws};
 ghost use Rattle.symbol_table.specs.Table.{Holds, uses_at, times, InUseAll, token_in, total, text_in, counted};
 ghost use Rattle.symbol_table.specs.Table.{counted_all, counted_again, counted_again_all, uncounted, uncounted_all};
-ghost use Rattle.symbol_table.specs.Table.{IsTable, Interned};
+ghost use Rattle.symbol_table.specs.Table.{IsTable, Interns};
 
 use crate::recent::Recent;
 use crate::slots::{
@@ -77,12 +77,20 @@ impl SymbolTable {
         }
     }
 
-    /// How many numbers are in use. Every table keeps to `IsTable`.
+    /// How many numbers are in use.
     pub fn numbers_in_use(&self) -> u32
-        ensures count { result ≡ map.len self.now }
-        ensures table { IsTable self.now }
+        ensures { result ≡ map.len self.now }
     {
         self.in_use
+    }
+
+    /// A law: every table keeps to `IsTable`.
+    #[inline(always)]
+    pub fn is_table(&self)
+        ensures { IsTable self.now }
+    {
+        // The invariant holds where a field is read.
+        let _in_use = self.in_use;
     }
 
     /// Counts one use of each token of a full name, from left to right, and gives the name as their numbers. A token in
@@ -90,8 +98,7 @@ impl SymbolTable {
     pub fn intern(&mut self, alloc: Global, name: &[u8]) -> Result<StatName, NoMemory>
         requires name { IsFullName name.now }
         requires room { total self.old + length (tokens name.now) < MAX_USES }
-        ensures drawn { IfOk result (DrawsAll (Holds self.old) (tokens name.now)) }
-        ensures counted { IfOk result (λ numbers. self.new ≡ counted_all self.old (tokens name.now) numbers) }
+        ensures interned { IfOk result (Interns self.old (tokens name.now) self.new) }
         ensures uses { IfOk result (λ numbers. (n : ℕ) → uses_at self.new n ≡ uses_at self.old n + times n numbers) }
         ensures text { IfOk result (λ numbers. text_in self.new numbers ≡ name.now) }
         ensures total { OnOk result (total self.new ≡ total self.old + length (tokens name.now)) }
@@ -99,9 +106,8 @@ impl SymbolTable {
         ensures err { OnErr result (self.new ≡ self.old) }
     {
         let parts = tokens_of(alloc, name)?;
-        let mut numbers = Vec::with_capacity(alloc, parts.len())?;
-        self.intern_all(alloc, &parts, &mut numbers)?;
-        let _in_use = self.numbers_in_use();
+        let numbers = self.intern_all(alloc, &parts)?;
+        self.is_table();
         Ok(StatName::of(Numbers::of(numbers)))
     }
 
@@ -141,7 +147,7 @@ impl SymbolTable {
         for n in numbers {
             self.uncount(*n);
         }
-        let _in_use = self.numbers_in_use();
+        self.is_table();
     }
 
     /// The tokens of a name, with dots between them.
@@ -162,36 +168,28 @@ impl SymbolTable {
 }
 
 impl SymbolTable {
-    /// Counts the tokens one after another and appends their numbers. Where one can't be counted, those before it are
+    /// Counts the tokens one after another and returns their numbers. Where one can't be counted, those before it are
     /// taken back.
-    fn intern_all(
-        &mut self,
-        alloc: Global,
-        parts: &[&[u8]],
-        numbers: &mut Vec<u32>,
-    ) -> Result<(), NoMemory>
-        requires room { total self.old + length parts.now < MAX_USES }
-        requires space { vec_len numbers.old + length parts.now ≤ vec_capacity numbers.old }
-        ensures ok { OnOk result (Interned self.old
-            (list_map (λ x. x.now) parts.now) numbers.old.items self.new numbers.new.items) }
-        ensures from_one { OnOk result (All (λ n. 0 < n) numbers.old.items → All (λ n. 0 < n) numbers.new.items) }
+    fn intern_all(&mut self, alloc: Global, parts: &[&[u8]]) -> Result<Vec<u32>, NoMemory>
+        requires { total self.old + length parts.now < MAX_USES }
+        ensures interned { IfOk result (λ numbers.
+            Interns self.old (list_map (λ x. x.now) parts.now) self.new numbers.items) }
+        ensures from_one { IfOk result (λ numbers. All (λ n. 0 < n) numbers.items) }
         ensures total { OnOk result (total self.new ≡ total self.old + length parts.now) }
         ensures err { OnErr result (self.new ≡ self.old) }
     {
-        match parts.split_first() {
-            None => Ok(()),
-            Some((first, rest)) => {
-                let n = self.count_token(alloc, *first)?;
-                put_last(numbers, n);
-                match self.intern_all(alloc, rest, numbers) {
-                    Ok(()) => Ok(()),
-                    Err(e) => {
-                        self.uncount(n);
-                        Err(e)
-                    }
+        self.is_table();
+        let mut numbers = Vec::with_capacity(alloc, parts.len())?;
+        for part in parts {
+            match self.count_token(alloc, *part) {
+                Ok(n) => put_last(&mut numbers, n),
+                Err(e) => {
+                    self.drop_numbers(&numbers);
+                    return Err(e);
                 }
             }
         }
+        Ok(numbers)
     }
 
     /// One use more of a token, whose number is looked up only where it was not counted lately.
@@ -201,7 +199,6 @@ impl SymbolTable {
         ensures from_one { IfOk result (λ n. 0 < n) }
         ensures counted { IfOk result (λ n. self.new ≡ counted self.old token.now n) }
         ensures total { OnOk result (total self.new ≡ total self.old + 1) }
-        ensures table { OnOk result (IsTable self.old) }
         ensures err { OnErr result (self.new ≡ self.old) }
     {
         let last = self.recent.number_of(token);
@@ -221,7 +218,6 @@ impl SymbolTable {
         ensures from_one { IfOk result (λ n. 0 < n) }
         ensures counted { IfOk result (λ n. self.new ≡ counted self.old token.now n) }
         ensures total { OnOk result (total self.new ≡ total self.old + 1) }
-        ensures table { OnOk result (IsTable self.old) }
         ensures err { OnErr result (self.new ≡ self.old) }
     {
         let key = Txt::of(alloc, token)?;

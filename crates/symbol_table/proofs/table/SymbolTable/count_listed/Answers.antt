@@ -1,8 +1,8 @@
-use Rattle.std.proofs.Common.{Result, Ok, Err, OnOk, ◌≡◌, ℕ, ◌<◌, Some, List, nat_eq, sym, ◌∙◌, subst}
+use Rattle.std.proofs.Common.{◌≡◌, ℕ, ◌<◌, Some, List, nat_eq, sym, ◌∙◌, subst}
 use Rattle.std.specs.HashMap.{get}
 use Rattle.std.specs.Cmp.Lexicographic.{pointwise}
 use Rattle.symbol_table.specs.Drawing.{Draws}
-use Rattle.symbol_table.specs.Table.{Table, Holds, uses_at, IsTable}
+use Rattle.symbol_table.specs.Table.{Table, Holds, uses_at}
 use Rattle.symbol_table.specs.Kept.{shown}
 use Rattle.symbol_table.proofs.Counting.{drawn_hit, hit_holds, hit_some, miss_none}
 use Rattle.symbol_table.proofs.DrawingLemmas.{again_counted, holds_from_one}
@@ -30,15 +30,5 @@ returns-in-Some-clause-counted c = let d = (goal.at.returns-in-Some-clause-count
     c.count_again.ensures.counted ∙ again_counted c.args.self.now c.args.token.now c.in-Some.n
     (subst (λ (t : Table). Holds t c.args.token.now c.in-Some.n) c.self.view_is (hit_holds c.self.inside c.self.invariant.indexed c.args.token.now c.in-Some.n (hit_of d)))
 
-pub returns-in-Some-clause-table : goal.returns-in-Some-clause-table
-returns-in-Some-clause-table c = subst IsTable c.self.view_is (is_table c.self.inside c.self.invariant)
-
 pub add_token-requires-clause-new : goal.add_token-requires-clause-new
 add_token-requires-clause-new c = subst (λ (t : Table). (n : ℕ) → Holds t c.in_ok-key.key n → ⊥) c.self.view_is (miss_none c.self.inside c.self.invariant.indexed c.in_ok-key.key (sym c.in_default.ensures))
-
-on_ok : {A E : Type 0} (r : Result A E) (P : Type 0) → P → OnOk r P
-on_ok (Ok x) P h = h
-on_ok (Err e) P h = tt
-
-pub returns-clause-table : goal.returns-clause-table
-returns-clause-table c = on_ok c.add_token.result (IsTable c.args.self.now) (subst IsTable c.self.view_is (is_table c.self.inside c.self.invariant))

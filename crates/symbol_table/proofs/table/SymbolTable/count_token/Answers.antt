@@ -1,10 +1,10 @@
-use Rattle.std.proofs.Common.{◌≡◌, ℕ, ◌<◌, Some, List, nat_eq, sym, ◌∙◌, subst}
+use Rattle.std.proofs.Common.{◌≡◌, ◌<◌, Some, List, nat_eq, ◌∙◌, subst}
 use Rattle.std.specs.HashMap.{get}
 use Rattle.std.specs.Cmp.Lexicographic.{pointwise}
 use Rattle.symbol_table.specs.declared.slots.Slot.{Slot}
 use Rattle.symbol_table.specs.Drawing.{Draws}
 use Rattle.symbol_table.specs.Slots.{IsListed}
-use Rattle.symbol_table.specs.Table.{Table, Holds, uses_at, IsTable}
+use Rattle.symbol_table.specs.Table.{Table, Holds, uses_at}
 use Rattle.symbol_table.specs.Kept.{shown}
 use Rattle.symbol_table.proofs.Counting.{drawn_hit, hit_holds, hit_some, listed_hit}
 use Rattle.symbol_table.proofs.DrawingLemmas.{again_counted, holds_from_one}
@@ -32,6 +32,3 @@ pub returns-then-has_token-clause-counted : goal.returns-then-has_token-clause-c
 returns-then-has_token-clause-counted c = let d = (goal.at.returns-then-has_token-clause-counted c).Then-has_token in
     c.count_again.ensures.counted ∙ again_counted c.args.self.now c.args.token.now c.number_of-last.result
     (subst (λ (t : Table). Holds t c.args.token.now c.number_of-last.result) c.self.view_is (hit_holds c.self.inside c.self.invariant.indexed c.args.token.now c.number_of-last.result (hit_of d)))
-
-pub returns-then-has_token-clause-table : goal.returns-then-has_token-clause-table
-returns-then-has_token-clause-table c = subst IsTable c.self.view_is (is_table c.self.inside c.self.invariant)
