@@ -23,7 +23,7 @@ impl BookAccess<()> for OwnedBook {
 
     fn find(&mut self, way: &(), alloc: Global, key: &Key) -> Result<FindAnswer, NoMemory> {
         let told = self.book.find(alloc, self.number, key);
-        let _log = self.book.log();
+        self.book.has_legal_log();
         told
     }
 
@@ -35,13 +35,13 @@ impl BookAccess<()> for OwnedBook {
         prefix: &Txt,
     ) -> Result<Verdict, NoMemory> {
         let told = self.book.open(alloc, self.number, label, prefix);
-        let _log = self.book.log();
+        self.book.has_legal_log();
         told
     }
 
     fn release(&mut self, way: &(), alloc: Global, label: &Txt) -> Result<Verdict, NoMemory> {
         let told = self.book.release(alloc, self.number, label);
-        let _log = self.book.log();
+        self.book.has_legal_log();
         told
     }
 
@@ -53,20 +53,20 @@ impl BookAccess<()> for OwnedBook {
         text: &Txt,
     ) -> Result<(), NoMemory> {
         let told = self.book.set_text(alloc, self.number, id, text);
-        let _log = self.book.log();
+        self.book.has_legal_log();
         told
     }
 
     fn ack(&mut self, way: &(), alloc: Global) -> Result<Acked, NoMemory> {
-        let _found = self.book.log();
+        self.book.has_legal_log();
         let told = self.book.ack(alloc, self.number);
-        let _log = self.book.log();
+        self.book.has_legal_log();
         told
     }
 
     fn end(&mut self, way: &(), alloc: Global) -> Result<(), NoMemory> {
         let told = self.book.end(alloc, self.number);
-        let _log = self.book.log();
+        self.book.has_legal_log();
         told
     }
 

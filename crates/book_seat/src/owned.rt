@@ -27,7 +27,7 @@ impl BookSeat<OwnedBook> {
         ensures err { OnErr result (self.new ≡ self.old) }
     {
         let swept = self.access.book.sweep(alloc);
-        let _log = self.access.book.log();
+        self.access.book.has_legal_log();
         swept
     }
 

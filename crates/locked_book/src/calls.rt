@@ -27,7 +27,7 @@ pub(crate) fn find_in(
     ensures err { OnErr result (book.new ≡ book.old) }
 {
     let answer = book.find(alloc, number, key);
-    let _log = book.log();
+    book.has_legal_log();
     answer
 }
 
@@ -47,7 +47,7 @@ pub(crate) fn open_in(
     ensures err { OnErr result (book.new ≡ book.old) }
 {
     let verdict = book.open(alloc, number, label, prefix);
-    let _log = book.log();
+    book.has_legal_log();
     verdict
 }
 
@@ -63,7 +63,7 @@ pub(crate) fn release_in(
     ensures err { OnErr result (book.new ≡ book.old) }
 {
     let verdict = book.release(alloc, number, label);
-    let _log = book.log();
+    book.has_legal_log();
     verdict
 }
 
@@ -80,7 +80,7 @@ pub(crate) fn set_text_in(
     ensures err { OnErr result (book.new ≡ book.old) }
 {
     let set = book.set_text(alloc, number, id, text);
-    let _log = book.log();
+    book.has_legal_log();
     set
 }
 
@@ -90,9 +90,9 @@ pub(crate) fn ack_in(book: &mut Book, alloc: Global, number: u32) -> Result<Acke
     ensures legal { IsLegal book.new }
     ensures err { OnErr result (book.new ≡ book.old) }
 {
-    let _found = book.log();
+    book.has_legal_log();
     let acked = book.ack(alloc, number);
-    let _log = book.log();
+    book.has_legal_log();
     acked
 }
 
@@ -103,6 +103,6 @@ pub(crate) fn end_in(book: &mut Book, alloc: Global, number: u32) -> Result<(), 
     ensures err { OnErr result (book.new ≡ book.old) }
 {
     let ended = book.end(alloc, number);
-    let _log = book.log();
+    book.has_legal_log();
     ended
 }

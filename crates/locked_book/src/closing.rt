@@ -27,7 +27,7 @@ impl SharedBook {
         bare_seats(seats, &mut bare);
         let SharedBook { lock } = self;
         let book = lock.close(bare);
-        let _log = book.log();
+        book.has_legal_log();
         Ok(book)
     }
 }

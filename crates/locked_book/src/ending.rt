@@ -38,7 +38,7 @@ fn counters_in(alloc: Global, book: &Book) -> Result<Vec<MetricId>, NoMemory>
     ensures metrics { IfOk result (λ ids. AreMetrics ids.items) }
     ensures legal { IsLegal book.now }
 {
-    let _log = book.log();
+    book.has_legal_log();
     let ids = all_made(alloc, book)?;
     of_kind(alloc, book, Kind::Counter, &ids)
 }

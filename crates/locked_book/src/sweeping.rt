@@ -22,7 +22,7 @@ pub fn sweep_in(book: &mut Book, alloc: Global) -> Result<Listing, NoMemory>
     // All memory is taken before the sweep is logged.
     let listing = listing_of(alloc, book)?;
     let swept = book.sweep(alloc);
-    let _log = book.log();
+    book.has_legal_log();
     swept?;
     Ok(listing)
 }

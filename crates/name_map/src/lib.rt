@@ -13,7 +13,7 @@ mod key;
 use indexmap::IndexMap;
 pub use key::HashKey;
 use std::alloc::Global;
-use std::hash::Hash;
+use std::hash::{BuildHasher, Hash};
 
 /// Entries by name. Every table whose keys come from files or from a bootstrap is one.
 pub type NameMap<K, V> = IndexMap<K, V, HashKey, Global>;
@@ -25,4 +25,12 @@ pub fn name_map<K: Eq + Hash, V>(alloc: Global, key: HashKey) -> NameMap<K, V>
     ensures unique { IsUnique K.eq result }
 {
     IndexMap::with_hasher(alloc, key)
+}
+
+/// A law: no two keys of a table are equal.
+#[inline(always)]
+pub fn keys_differ<K: Eq + Hash, V, S: BuildHasher>(table: &IndexMap<K, V, S, Global>)
+    ensures { IsUnique K.eq table.now }
+{
+    let _len = table.len();
 }

@@ -70,7 +70,7 @@ fn end_all(alloc: Global, worker: &mut LoneWorker, sums: &mut Sums) -> Result<Fl
 {
     let at = end_seat(alloc, worker)?;
     let flush = take_last(alloc, worker, sums, at)?;
-    let _log = worker.log();
+    worker.log_is_followed();
     Ok(flush)
 }
 

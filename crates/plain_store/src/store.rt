@@ -125,7 +125,7 @@ impl PlainStore {
         ensures err { OnErr result (IsCutShort self.old (event_of event.now) self.new) }
     {
         let decided = self.worker.decide_ref(alloc, event);
-        let _log = self.worker.log();
+        self.worker.log_is_followed();
         let verdict = decided?;
         self.decided += 1;
         let made = self.worker.made();

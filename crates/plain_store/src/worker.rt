@@ -79,7 +79,7 @@ impl LoneWorker {
         ensures { IfOk result (λ worker. worker ≡ new_worker config.now) }
     {
         let book = Book::with_key(alloc, key, config, rules, matcher, 1)?;
-        let _log = book.log();
+        book.has_legal_log();
         Ok(LoneWorker {
             seat: BookSeat::new(alloc, key, OwnedBook { book, number: SEAT }),
             ended: false,
@@ -151,6 +151,14 @@ impl LoneWorker {
         ensures followed { self.now.whole ≡ true → IsFollowed self.now }
     {
         self.seat.book().log()
+    }
+
+    /// A law: the log is legal, and the calls of the seat are those of its events, where none was cut short.
+    pub(crate) fn log_is_followed(&self)
+        ensures legal { IsLegal self.now.book }
+        ensures followed { self.now.whole ≡ true → IsFollowed self.now }
+    {
+        self.seat.book().has_legal_log();
     }
 
     /// What the book leaves, when its worker is done.

@@ -37,7 +37,7 @@ pub(crate) fn make_book(
     ensures seats { IfOk result (IsBookDeal workers) }
 {
     let book = Book::with_key(alloc, key, config, rules, matcher, workers)?;
-    let _log = book.log();
+    book.has_legal_log();
     let (book, seats) = SharedBook::new(alloc, book, workers + 2)?;
     Ok(BookDeal { book, seats })
 }

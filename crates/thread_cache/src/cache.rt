@@ -15,7 +15,7 @@ use crate::query::Query;
 use crate::scopes::{Scopes, drop_scopes, is_live};
 use crate::table::{Slot, Table, count_live, open_scope, put, slot_of, tidy};
 use indexmap::IndexMap;
-use name_map::{HashKey, name_map};
+use name_map::{HashKey, keys_differ, name_map};
 use stat_defs::{Key, NoMemory, ScopeId, Verdict};
 use std::alloc::Global;
 use std::marker::Model;
@@ -66,7 +66,7 @@ fn look_up(table: &Table, scopes: &Scopes, stale: u64, query: &Query<'_>) -> Opt
         (held_under (asked query.now) (shown scopes.now.entries table.now.entries)) }
     ensures once { HoldsOnce (shown scopes.now.entries table.now.entries) }
 {
-    let _all_different = table.len();
+    keys_differ(table);
     match slot_of(table, query) {
         Some(slot) => verdict_of(scopes, stale, slot),
         None => None,
@@ -138,7 +138,7 @@ impl Cache {
             ≡ held_without released.now (held_under key self.old.entries) }
         ensures room { self.new.room ≡ self.old.room }
     {
-        let _all_different = self.table.len();
+        keys_differ(&self.table);
         self.stale = drop_scopes(&mut self.scopes, released, self.stale);
         self.stale = tidy(&mut self.table, &mut self.scopes, self.stale);
     }
@@ -148,7 +148,7 @@ impl Cache {
         ensures count { result ≡ length self.now.entries }
         ensures once { HoldsOnce self.now.entries }
     {
-        let _all_different = self.table.len();
+        keys_differ(&self.table);
         count_live(&self.table, &self.scopes)
     }
 

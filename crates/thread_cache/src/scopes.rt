@@ -5,6 +5,7 @@ ghost use Rattle.indexmap.specs.IndexMap.{spare};
 ghost use Rattle.thread_cache.specs.Scopes.{is_live, is_listed, IsStanding};
 
 use indexmap::IndexMap;
+use name_map::keys_differ;
 use stat_defs::ScopeId;
 
 /// A scope that entries of the table have: whether it was dropped, and about how many entries have it.
@@ -107,7 +108,7 @@ pub(crate) fn forget_dropped(scopes: &mut Scopes)
     ensures listed { (s : ScopeId) → is_listed scopes.new.entries s ≡ is_live scopes.old.entries s }
     ensures spare { spare scopes.old ≤ spare scopes.new }
 {
-    let _all_different = scopes.len();
+    keys_differ(scopes);
     scopes.retain(
         |_scope: &ScopeId, entries: &mut ScopeEntries| -> bool
             ensures { (result ≡ not entries.old.dropped) × (entries.new ≡ entries.old) }

@@ -10,7 +10,7 @@ ghost use Rattle.thread_cache.specs.declared.table.Slot.{Slot};
 use crate::key::CacheKey;
 use crate::query::Query;
 use crate::scopes::{Scopes, Standing, count_entry, forget_dropped, is_live, list_scope};
-use name_map::NameMap;
+use name_map::{NameMap, keys_differ};
 use stat_defs::{ScopeId, Verdict};
 
 /// So many entries of dropped scopes may stay in a small table: to go through it at each release would cost more than
@@ -47,7 +47,7 @@ pub(crate) fn put(table: &mut Table, key: CacheKey, slot: Slot)
     ensures different { IsUnique ⟦<CacheKey as PartialEq>⟧.eq table.old }
     ensures still_different { IsUnique ⟦<CacheKey as PartialEq>⟧.eq table.new }
 {
-    let _all_different = table.len();
+    keys_differ(table);
     let _ = table.insert(key, slot);
 }
 

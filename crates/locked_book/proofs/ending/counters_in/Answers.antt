@@ -20,4 +20,4 @@ pub returns-clause-metrics : goal.returns-clause-metrics
 returns-clause-metrics c =
     let s = state_of c.args.book.now in
     IfOk-weaker c.of_kind.result (λ those. those.items ≡ filter (is_of_kind Counter s) c.deref.result.now) (λ those. AreMetrics those.items)
-    (λ those are. metrics_made c.args.book.now (is_of_kind Counter s) c.deref.result.now those.items c.log-log.ensures.legal (c.deref.ensures.value ∙ c.in_ok-ids.ensures) are) c.of_kind.ensures
+    (λ those are. metrics_made c.args.book.now (is_of_kind Counter s) c.deref.result.now those.items c.has_legal_log.ensures (c.deref.ensures.value ∙ c.in_ok-ids.ensures) are) c.of_kind.ensures

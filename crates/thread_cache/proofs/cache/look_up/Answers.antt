@@ -15,7 +15,7 @@ returns-in-Some-clause-verdict c =
     let key = asked c.args.query.now in
     let table = c.args.table.now.entries in
     let slot = sym c.slot_of.ensures ∙ c.in-Some.is in
-    c.verdict_of.ensures ∙ sym (ap (option_map (λ (held : Held). held.verdict)) (found scopes key table c.len-all_different.ensures.unique)
+    c.verdict_of.ensures ∙ sym (ap (option_map (λ (held : Held). held.verdict)) (found scopes key table c.keys_differ.ensures)
     ∙ (ap (λ s. option_map (λ (held : Held). held.verdict) (held_at scopes key s)) slot ∙ verdict_held scopes key _))
 
 pub returns-in-None-clause-verdict : goal.returns-in-None-clause-verdict
@@ -24,11 +24,11 @@ returns-in-None-clause-verdict c =
     let key = asked c.args.query.now in
     let table = c.args.table.now.entries in
     let slot = sym c.slot_of.ensures ∙ c.in-None.is in
-    sym (ap (option_map (λ (held : Held). held.verdict)) (found scopes key table c.len-all_different.ensures.unique)
+    sym (ap (option_map (λ (held : Held). held.verdict)) (found scopes key table c.keys_differ.ensures)
     ∙ ap (λ s. option_map (λ (held : Held). held.verdict) (held_at scopes key s)) slot)
 
 pub returns-in-Some-clause-once : goal.returns-in-Some-clause-once
-returns-in-Some-clause-once c = shown_once c.args.scopes.now.entries c.args.table.now.entries c.len-all_different.ensures.unique
+returns-in-Some-clause-once c = shown_once c.args.scopes.now.entries c.args.table.now.entries c.keys_differ.ensures
 
 pub returns-in-None-clause-once : goal.returns-in-None-clause-once
-returns-in-None-clause-once c = shown_once c.args.scopes.now.entries c.args.table.now.entries c.len-all_different.ensures.unique
+returns-in-None-clause-once c = shown_once c.args.scopes.now.entries c.args.table.now.entries c.keys_differ.ensures

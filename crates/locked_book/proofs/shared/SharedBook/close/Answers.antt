@@ -16,7 +16,7 @@ returns-clause-history c = subst (λ (known : List LogKnown). IsOneHistory (firs
     (ap (map seat_known) c.bare_seats.ensures ∙ known_bare c.args.seats.items) c.close-book.ensures.history
 
 pub returns-clause-names : goal.returns-clause-names
-returns-clause-names c = seats_give c.close-book.result c.args.seats.items c.bare_seats.new.bare.items c.bare_seats.ensures c.log-log.ensures.legal c.close-book.ensures.names.each
+returns-clause-names c = seats_give c.close-book.result c.args.seats.items c.bare_seats.new.bare.items c.bare_seats.ensures c.has_legal_log.ensures c.close-book.ensures.names.each
 
 pub returns-clause-changes : goal.returns-clause-changes
 returns-clause-changes c = seats_first c.close-book.result c.args.seats.items c.bare_seats.new.bare.items c.bare_seats.ensures c.close-book.ensures.names.each

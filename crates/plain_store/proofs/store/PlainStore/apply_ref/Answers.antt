@@ -47,7 +47,7 @@ invariant_of-self c =
         deltas = λ id. (let small = c.self.invariant.small.deltas id in omega (arith, small, events));
         values = (let small = c.self.invariant.small.values in omega (arith, small, events));
       };
-      exact = λ whole. longer_of_work (shown p) worker (IsLeftOf (event_of c.args.event.now)) err.left c.log-log.ensures.legal p.sums (c.self.invariant.exact whole);
+      exact = λ whole. longer_of_work (shown p) worker (IsLeftOf (event_of c.args.event.now)) err.left c.log_is_followed.ensures.legal p.sums (c.self.invariant.exact whole);
     }
 
 pub invariant_of-self-in_err-sum_up : goal.invariant_of-self-in_err-sum_up
@@ -66,7 +66,7 @@ invariant_of-self-in_err-sum_up c =
         values = (let small = c.self.invariant.small.values in omega (arith, small, parents, half, events));
       };
       exact = λ whole. alike_of_work (record (shown p) { worker = worker }) p.sums c.sum_up.new.sums c.in_err-sum_up.ensures.err c.in_err-sum_up.ensures.parents
-          (longer_of_work (shown p) worker (MakesAcked 1 (state_of p.worker.book) (event_of c.args.event.now) c.in_ok-verdict.verdict) decided.added c.log-log.ensures.legal p.sums (c.self.invariant.exact whole));
+          (longer_of_work (shown p) worker (MakesAcked 1 (state_of p.worker.book) (event_of c.args.event.now) c.in_ok-verdict.verdict) decided.added c.log_is_followed.ensures.legal p.sums (c.self.invariant.exact whole));
     }
 
 pub invariant_of-self-2 : goal.invariant_of-self-2
@@ -86,5 +86,5 @@ invariant_of-self-2 c =
       };
       exact = λ whole. subst (λ (work : Work). AreOfWork (record (shown p) { worker = worker; counted = work }) c.sum_up.new.sums) (sym c.with_counted-self-inside.ensures)
           (counted_of_work (record (shown p) { worker = worker }) e v p.sums c.sum_up.new.sums c.in_ok-verdict.ensures.named c.in_ok-sum_up.ensures.ok c.in_ok-sum_up.ensures.parents
-          (longer_of_work (shown p) worker (MakesAcked 1 (state_of p.worker.book) e v) decided.added c.log-log.ensures.legal p.sums (c.self.invariant.exact whole)));
+          (longer_of_work (shown p) worker (MakesAcked 1 (state_of p.worker.book) e v) decided.added c.log_is_followed.ensures.legal p.sums (c.self.invariant.exact whole)));
     }

@@ -8,7 +8,7 @@ use Rattle.plain_store.proofs.WorkerLemmas.{FollowedIn, first_seat, first_works,
 use Rattle.plain_store.proofs.worker.LoneWorker.with_key.Goals as goal
 
 pub new-requires : goal.new-requires
-new-requires c = first_seat c.in_ok-book.book c.args.config.now c.in_ok-book.ensures c.log-log.ensures.legal
+new-requires c = first_seat c.in_ok-book.book c.args.config.now c.in_ok-book.ensures c.has_legal_log.ensures
 
 pub invariant_of-result : goal.invariant_of-result
 invariant_of-result c =
@@ -19,7 +19,7 @@ invariant_of-result c =
     record {
       one_worker = ap (λ (b : BookHistory). b.workers) is;
       number = ap (λ (o : OwnedBook). o.number) c.new.ensures;
-      works = λ not_ended. first_works c.new.result.book config is (subst IsLegal (sym kept) c.log-log.ensures.legal);
+      works = λ not_ended. first_works c.new.result.book config is (subst IsLegal (sym kept) c.has_legal_log.ensures);
       few_openings = (let few = none_opened_first c.new.result.book config is in omega (arith, few));
       a_verdict_each = verdicts ∙ sym events;
       followed = λ whole.

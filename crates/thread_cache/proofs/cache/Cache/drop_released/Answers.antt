@@ -14,5 +14,5 @@ returns-clause-entries c =
 pub returns-clause-held : goal.returns-clause-held
 returns-clause-held c key =
     ap (held_under key) c.tidy-self-inside.ensures.shown
-    ∙ (held-dropped _ _ c.args.released.now c.drop_scopes-self-inside.ensures.live c.self.inside.table.entries c.len-all_different.ensures.unique key
+    ∙ (held-dropped _ _ c.args.released.now c.drop_scopes-self-inside.ensures.live c.self.inside.table.entries c.keys_differ.ensures key
     ∙ (λ i. held_without c.args.released.now (held_under key (c.self.view_is i).entries)))

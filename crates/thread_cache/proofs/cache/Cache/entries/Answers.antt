@@ -7,4 +7,4 @@ use Rattle.thread_cache.proofs.cache.Cache.entries.Goals as goal
 pub returns-clause-once : goal.returns-clause-once
 returns-clause-once c =
     subst (λ (v : CacheState). HoldsOnce v.entries) c.self.view_is
-    (shown_once c.self.inside.scopes.entries c.self.inside.table.entries c.len-all_different.ensures.unique)
+    (shown_once c.self.inside.scopes.entries c.self.inside.table.entries c.keys_differ.ensures)
