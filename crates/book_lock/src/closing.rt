@@ -18,7 +18,7 @@ impl<B: Booked + Drop> BookLock<B> {
         ensures names { NamesAreOne (room_of self) (map seat_part seats.items) (B.changed result) }
     {
         let all = self.gather(seats);
-        let BookLock { table } = self;
+        let BookLock { table, front: _ } = self;
         let mut closed = table.close_with(all);
         let book = closed.take(0).unwrap();
         closed.free();

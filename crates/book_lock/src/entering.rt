@@ -9,27 +9,10 @@ ghost use Rattle.book_lock.specs.Seats.{FoundWith, OnHeld, OnHeldWhole, OnBusy};
 
 use crate::held::{Held, Try};
 use crate::lock::{BookLock, LockSeat};
+use crate::waiting::Waiter;
 use crate::{steps, words};
 use stat_defs::Booked;
-use std::hint::spin_loop;
 use std::sync::Wait;
-use std::thread::yield_now;
-
-/// The most pauses of the processor between two tries of one call of `enter`.
-const MAX_PAUSES: u32 = 512;
-
-// Between two tries the processor pauses, each time twice as often, so that a seat that waits seldom disturbs the one
-// that is in. Past the most pauses other threads may run. Gives the pauses of the next time.
-fn pause(pauses: u32) -> u32 {
-    if MAX_PAUSES < pauses {
-        yield_now();
-        return pauses;
-    }
-    for _ in 0..pauses {
-        spin_loop();
-    }
-    pauses * 2
-}
 
 impl<B: Booked + Drop> BookLock<B> {
     /// The book, once a try finds the turn free. May wait.
@@ -43,11 +26,11 @@ impl<B: Booked + Drop> BookLock<B> {
         ensures part { Entered (B.history (held_book result)).log (B.changed (held_book result)) (seat_part seat.old)
             (seat_part seat.new) }
     {
-        let mut pauses = 1;
+        let mut waiter = Waiter::new(&self.front);
         for _ in rt.forever() {
             match self.try_enter(seat) {
                 Try::Held(held) => return held,
-                Try::Busy(_) => pauses = pause(pauses),
+                Try::Busy(_) => waiter.pause(rt),
             }
         }
         unreachable!()

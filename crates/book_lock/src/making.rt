@@ -8,6 +8,7 @@ ghost use Rattle.book_lock.specs.Seats.{lock_id, first_book, seats_of, room_of, 
 use crate::lock::{BookLock, LockSeat};
 use crate::steps::{FIRST_CHANGE, Place, RELEASES};
 use crate::view::LockKey;
+use crate::waiting::Front;
 use atomic_table::{Refused, Table};
 use seat_parts::Deal;
 use stat_defs::{Booked, NoMemory};
@@ -36,11 +37,12 @@ impl<B: Booked + Drop> BookLock<B> {
         };
         let words = first_words(alloc, room, book.releases())?;
         let boxed = Box::new(alloc, book)?;
+        let front = Front::empty(alloc)?;
         let mut slots = Vec::with_capacity(alloc, 1)?;
         slots.push_reserved(Some(boxed));
         match Table::new(alloc, words.as_slice(), slots, &key) {
             Ok((table, seat)) => {
-                let lock = BookLock { table };
+                let lock = BookLock { table, front };
                 let list = lock.deal(alloc, seat, seats)?;
                 Ok((lock, list))
             }

@@ -1,5 +1,5 @@
 //! A lock round a count.
-ghost use Rattle.std.specs.Prelude.{IfOk, All};
+ghost use Rattle.std.specs.Prelude.{IfOk, IfSome, All};
 ghost use Rattle.book_lock.specs.Seats.{lock_id, AtRest};
 ghost use Rattle.names_bench.specs.Filled.{IsSeat};
 
@@ -15,6 +15,15 @@ pub fn new_lock(alloc: Global) -> Result<(BookLock<Counts>, Vec<LockSeat<Counts>
 {
     let (lock, seats) = BookLock::new(alloc, Counts::new(alloc), 1, MAX_CHANGES)?;
     Ok((lock, seats))
+}
+
+/// The last of these seats, which is the only one.
+pub fn one_seat(lock: &BookLock<Counts>, seats: Vec<LockSeat<Counts>>) -> Option<LockSeat<Counts>>
+    requires { All (IsSeat (lock_id lock.now)) seats.items }
+    ensures { IfSome result (IsSeat (lock_id lock.now)) }
+{
+    let mut seats = seats;
+    seats.pop()
 }
 
 /// Enters, makes this number of changes more, where there is room for them, and leaves.

@@ -7,7 +7,7 @@ mod counts;
 mod filling;
 
 use book_lock::MAX_CHANGES;
-use filling::{fill, fill_often, new_lock, read_all, read_none};
+use filling::{fill, fill_often, new_lock, one_seat, read_all, read_none};
 use stat_defs::NoMemory;
 use std::alloc::Global;
 use std::io::Print;
@@ -41,8 +41,8 @@ fn main(rt: HostRuntime) -> io::Result<()> {
 }
 
 fn count<R: Print + Wait>(rt: &R, alloc: Global) -> io::Result<()> {
-    let (lock, mut seats) = new_lock(alloc).map_err(no_memory)?;
-    let Some(mut seat) = seats.pop() else {
+    let (lock, seats) = new_lock(alloc).map_err(no_memory)?;
+    let Some(mut seat) = one_seat(&lock, seats) else {
         return Ok(());
     };
     fill(rt, &lock, &mut seat, MAX_CHANGES);
@@ -51,25 +51,29 @@ fn count<R: Print + Wait>(rt: &R, alloc: Global) -> io::Result<()> {
     println!(rt; "changes left {MAX_CHANGES}, read {read}, read again {none}")
 }
 
-// Prints the time of a turn of the lock that makes this number of changes, of the least of some rounds, each on a lock of
-// its own.
+// How long turns that make this number of changes take, on a lock of their own.
+fn turns_of<R: Clock + Wait>(rt: &R, alloc: Global, count: u32) -> io::Result<u128> {
+    let (lock, seats) = new_lock(alloc).map_err(no_memory)?;
+    let Some(mut seat) = one_seat(&lock, seats) else {
+        return Ok(u128::MAX);
+    };
+    let start = Instant::now(rt)?;
+    fill_often(rt, &lock, &mut seat, count, TURNS);
+    Ok(start.elapsed(rt)?.as_nanos())
+}
+
+// Prints the time of turns of the lock that make this number of changes, of the least of some rounds.
 fn time_turns<R: Print + Clock + Wait>(rt: &R, alloc: Global, count: u32) -> io::Result<()> {
     let mut least = u128::MAX;
     for _ in 0..ROUNDS {
-        let (lock, mut seats) = new_lock(alloc).map_err(no_memory)?;
-        let Some(mut seat) = seats.pop() else {
-            return Ok(());
-        };
-        let start = Instant::now(rt)?;
-        fill_often(rt, &lock, &mut seat, count, TURNS);
-        least = least.min(start.elapsed(rt)?.as_nanos());
+        least = least.min(turns_of(rt, alloc, count)?);
     }
     println!(rt; "{TURNS} times enter, make {count}, leave: {least} ns")
 }
 
 fn time<R: Print + Clock + Wait>(rt: &R, alloc: Global) -> io::Result<()> {
-    let (lock, mut seats) = new_lock(alloc).map_err(no_memory)?;
-    let Some(mut seat) = seats.pop() else {
+    let (lock, seats) = new_lock(alloc).map_err(no_memory)?;
+    let Some(mut seat) = one_seat(&lock, seats) else {
         return Ok(());
     };
     let start = Instant::now(rt)?;
