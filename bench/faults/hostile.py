@@ -6,8 +6,7 @@ standard error and at the end of the output, and prints the time and the peak of
 of the same sizes: scripts of `load`, which are half increments of 512 counters, a quarter values of 16 histograms and a
 quarter moves of a gauge, at most as many events as a file may have. A case is wrong where the status or what was
 written is another one, where more than 4 GB were in use, or where it took more than ten times as long as the ordinary
-files and no cause is known; times below a twentieth of a second count as that. Its own status is the number of cases
-that were wrong.
+files; times below a twentieth of a second count as that. Its own status is the number of cases that were wrong.
 
 Words behind PROGRAM are the names of the cases to run; all where there is none. It needs GNU time, and Linux.
 """
@@ -33,12 +32,12 @@ LETTERS = "abcdefghijklmnopqrstuvwxyz0123456789_"
 
 
 class Case:
-    """Words behind the command, and what is to come of them. `slow` is the cause that makes the case slower than an
-    ordinary one, where there is such; `beside` are the sizes of the ordinary files, or other files to compare with."""
+    """Words behind the command, and what is to come of them. `beside` are the sizes of the ordinary files, or other
+    files to compare with."""
 
-    def __init__(self, words, status=0, err="", ends=None, boot=USUAL, slow="", beside=None, feeds=(), out=None):
+    def __init__(self, words, status=0, err="", ends=None, boot=USUAL, beside=None, feeds=(), out=None):
         self.words, self.status, self.err, self.ends = words, status, err, ends
-        self.boot, self.slow, self.beside, self.feeds, self.out = boot, slow, beside, feeds, out
+        self.boot, self.beside, self.feeds, self.out = boot, beside, feeds, out
 
 
 def put(name, content):
@@ -119,7 +118,7 @@ def faults_of(case, run, usual):
         faults.append("said %r" % err[-200:])
     if memory > MOST_MEMORY:
         faults.append("more than 4 GB")
-    if wall > 10 * max(usual, 0.05) and not case.slow:
+    if wall > 10 * max(usual, 0.05):
         faults.append("%.0f times the time of an ordinary one" % (wall / usual))
     told = accepted(out)
     if case.ends and not case.ends(told):
@@ -141,8 +140,7 @@ def many_releases():
 
 def open_and_release():
     files = same_name(32, ["open s p", "inc s a 1", "release s"] * 10000)
-    return Case(files, ends=lambda told: len(told) == 32 and all(a + d == 30000 for a, d in told),
-                slow="each event is one call of the book, which the workers of a run make one behind the other")
+    return Case(files, ends=lambda told: len(told) == 32 and all(a + d == 30000 for a, d in told))
 
 
 def dots():
@@ -175,8 +173,7 @@ def warm_histograms():
         rng = random.Random(worker)
         lines = ["rec root h%d %d" % (at % 1024, rng.randrange(1 << rng.randrange(1, 64))) for at in range(EVENTS)]
         files.append(put("f%d" % worker, lines))
-    return Case(files, boot=boot, ends=lambda told: told == [(EVENTS, 0)] * 32,
-                slow="the tables of 1,024 histograms are more than the caches hold")
+    return Case(files, boot=boot, ends=lambda told: told == [(EVENTS, 0)] * 32)
 
 
 def churn():
@@ -407,7 +404,7 @@ def try_case(program, make):
             run = once(program, words, case.out, feeds) if feeds else best(program, words, case.out)
             faults = faults_of(case, run, usual)
             os.chdir("/")
-        told = "; ".join(["WRONG: " + ", ".join(faults)] * bool(faults) + [case.slow] * bool(case.slow))
+        told = "WRONG: " + ", ".join(faults) if faults else ""
         print("%-20s %-6s status %d, %7.3f s (ordinary %6.3f), %6.1f MB%s"
               % (make.__name__, command, run[0], run[3], usual, run[4] / 1024, told and "; " + told), flush=True)
         wrong += bool(faults)
