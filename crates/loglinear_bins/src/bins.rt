@@ -10,6 +10,7 @@ use crate::place::{BIN_COUNT, MAX_COUNT, bin_at, place_of};
 use stat_defs::{Bin, BinCount, BinList, Bound, List, NoMemory};
 use std::alloc::Global;
 use std::marker::Model;
+use std::mem::swap;
 
 /// A histogram: how many values fell into each bin of circllhist.
 /// Contracts see the bins that are not empty, rising, with their counts.
@@ -96,6 +97,24 @@ impl Bins {
         self.total += other.total;
         self.from = self.from.min(other.from);
         self.to = self.to.max(other.to);
+    }
+
+    /// Moves all values of another histogram into this one, as `Vec::append` moves elements. Where this one has none, the
+    /// two change places, and no count is read.
+    pub fn append(&mut self, other: &mut Bins)
+        requires { total self.old + total other.old ≤ MAX_COUNT }
+        ensures all { self.new ≡ merged self.old other.old }
+        ensures none { other.new ≡ [] }
+    {
+        if other.total == 0 {
+            return;
+        }
+        if self.total == 0 {
+            swap(self, other);
+            return;
+        }
+        self.merge(other);
+        other.clear();
     }
 
     /// Counts the values of a list of bins too. A bin may stand in it more than once. It takes time in the list.

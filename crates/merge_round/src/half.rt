@@ -1,6 +1,6 @@
 //! Halves, which workers fill.
 ghost use Rattle.std.specs.Prelude.{◌≡◌, ◌<◌, IsErr, IsOk, IsTrue, OnErr, OnOk, length};
-ghost use Rattle.merge_round.specs.Halves.{is_warm_in, new_half, recorded, emptied};
+ghost use Rattle.merge_round.specs.Halves.{is_warm_in, new_half, recorded};
 
 use crate::tables::Tables;
 use ghost_list::GhostList;
@@ -17,7 +17,7 @@ pub const MAX_HALF_COUNT: u64 = 1 << 23;
 pub struct Half {
     pub(crate) tables: Tables,
     pub(crate) count: u64,
-    values: GhostList<(u32, u64)>,
+    pub(crate) values: GhostList<(u32, u64)>,
     touched: GhostList<u32>,
 }
 
@@ -66,15 +66,6 @@ impl Half {
         self.values = self.values.and(&(id.0, v));
         self.touched = self.touched.and(&id.0);
         Ok(())
-    }
-
-    /// Forgets all values. The tables stay.
-    pub(crate) fn clear(&mut self)
-        ensures { self.new ≡ emptied self.old }
-    {
-        self.tables.clear();
-        self.count = 0;
-        self.values = GhostList::new();
     }
 }
 

@@ -2,11 +2,11 @@
 ghost use Rattle.std.specs.Prelude.{◌≡◌, ℕ, ◌+◌, ◌^◌, ◌<◌, ◌≤◌, [], OnOk, vec_len};
 ghost use Rattle.loglinear_bins.specs.declared.place.TheConstants.{MAX_COUNT};
 ghost use Rattle.merge_round.specs.Halves.{HasAtMost, no_bins};
-ghost use Rattle.merge_round.specs.Slots.{bins_at};
+ghost use Rattle.merge_round.specs.Slots.{bins_at, is_warm_at};
 ghost use Rattle.merge_round.specs.Kept.{parts_in, IsReady, HasSameBins, HasFew, IsMerged};
 
 use crate::tables::Tables;
-use crate::workers::{clear_workers, merge_worker, warm_worker};
+use crate::workers::{append_worker, clear_workers, warm_worker};
 use stat_defs::NoMemory;
 use std::alloc::Global;
 
@@ -35,15 +35,18 @@ impl Merged {
         self.cumulative.warm_for(alloc, others)
     }
 
-    /// Adds all values of the others to the worker's part, to the interval and to the cumulative bins.
-    pub(crate) fn add(&mut self, worker: usize, others: &Tables)
-        requires ready { IsReady self.old worker others.now }
-        requires room { (n m : ℕ) × HasFew self.old n × HasAtMost m (bins_at others.now) × (n + m ≤ MAX_COUNT) }
-        ensures { IsMerged worker (bins_at others.now) self.old self.new }
+    /// Moves all values of the others to the worker's part, and adds them to the interval and to the cumulative bins.
+    /// The others keep their tables.
+    pub(crate) fn take(&mut self, worker: usize, others: &mut Tables)
+        requires ready { IsReady self.old worker others.old }
+        requires room { (n m : ℕ) × HasFew self.old n × HasAtMost m (bins_at others.old) × (n + m ≤ MAX_COUNT) }
+        ensures merged { IsMerged worker (bins_at others.old) self.old self.new }
+        ensures none { bins_at others.new ≡ no_bins }
+        ensures warm { is_warm_at others.new ≡ is_warm_at others.old }
     {
-        merge_worker(&mut self.workers, worker, others);
         self.interval.merge(others);
         self.cumulative.merge(others);
+        append_worker(&mut self.workers, worker, others);
     }
 
     /// Forgets the values of the round. The tables stay.
