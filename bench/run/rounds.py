@@ -1,23 +1,30 @@
 #!/usr/bin/env python3
-"""rounds.py [ROUNDS [WORKERS..]]: what flushes and readings beside its workers cost a run.
+"""rounds.py [awake] [ROUNDS [WORKERS..]]: what flushes and readings beside its workers cost a run.
 
-usage: bench/run/rounds.py [ROUNDS [WORKERS..]]    at the top of the repository, once `rt run` in crates/run_bench has
-                                                    built the program
+usage: bench/run/rounds.py [awake] [ROUNDS [WORKERS..]]    at the top of the repository, once `rt run` in
+                                                            crates/run_bench has built the program
 
 Runs `run_bench` with 64 flushes and 64 readings and with none in turn, 9 rounds and 1 and 4 workers where nothing else is
 said, with 131,072 events a worker that lie in memory. The time is that of the call `run_files`: no file is read from
 disk, and nothing is written. `same` are workers that count under the same names, `own` each under its own. A pair is two
 runs one behind the other, the first of them now with rounds, now without: its ratio sees the same load of the machine,
 which is told before and after. Where there are fewer processors than threads, rounds take them from workers.
+
+A worker wakes the flusher once a round. Where that has to run on a processor of a virtual machine that sleeps, the host
+wakes this, which takes the worker some 20 µs and not 1 to 3. With the word `awake` none sleeps: on each there is a
+process of the idle class, which gives way to all others (`awake.c`; it needs a C compiler).
 """
+import contextlib
 import os
 import re
 import statistics
 import subprocess
 import sys
+import tempfile
 from pathlib import Path
 
-PROGRAM = Path(__file__).resolve().parents[2] / "crates/run_bench/out/run_bench"
+HERE = Path(__file__).resolve().parent
+PROGRAM = HERE.parents[1] / "crates/run_bench/out/run_bench"
 EVENTS, MOST, GOAL = 131_072, 64, 1.1
 
 
@@ -61,14 +68,33 @@ def measure(workers, own, rounds):
           f"median of the pairs' ratios {middle:.3f}", flush=True)
 
 
+@contextlib.contextmanager
+def awake():
+    """While no processor that this may use sleeps."""
+    with tempfile.TemporaryDirectory() as place:
+        program = str(Path(place) / "awake")
+        subprocess.run(["cc", "-O1", "-o", program, str(HERE / "awake.c")], check=True)
+        ones = [subprocess.Popen([program, str(number)]) for number in os.sched_getaffinity(0)]
+        try:
+            yield
+        finally:
+            for one in ones:
+                one.kill()
+                one.wait()
+
+
 def main():
-    rounds = int(sys.argv[1]) if len(sys.argv) > 1 else 9
-    counts = [int(word) for word in sys.argv[2:]] or [1, 4]
+    words = sys.argv[1:]
+    keeps = words[:1] == ["awake"]
+    numbers = [int(word) for word in words[keeps:]]
+    rounds, counts = (numbers or [9])[0], numbers[1:] or [1, 4]
     before = os.getloadavg()[0]
-    for workers in counts:
-        for own in ([], ["own"]):
-            measure(workers, own, rounds)
-    print(f"load {before:.1f} to {os.getloadavg()[0]:.1f}, {os.cpu_count()} processors, {rounds} rounds")
+    with awake() if keeps else contextlib.nullcontext():
+        for workers in counts:
+            for own in ([], ["own"]):
+                measure(workers, own, rounds)
+    print(f"load {before:.1f} to {os.getloadavg()[0]:.1f}, {os.cpu_count()} processors"
+          f"{' kept awake' if keeps else ''}, {rounds} rounds")
 
 
 main()
