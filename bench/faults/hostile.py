@@ -14,6 +14,7 @@ import json
 import os
 import random
 import re
+import signal
 import subprocess
 import sys
 import tempfile
@@ -77,11 +78,15 @@ def once(program, words, out, feeds=()):
     started = time.perf_counter()
     command = ["/usr/bin/time", "-q", "-f", "%e %M", "-o", "figures", program] + words
     with open(out or "out", "wb") as to, open("err", "wb") as err:
-        try:
-            status = subprocess.run(command, stdout=to, stderr=err, timeout=LONGEST).returncode
-        except subprocess.TimeoutExpired:
-            return -1, "", "not done after %d s" % LONGEST, LONGEST, 0
+        process = subprocess.Popen(command, stdout=to, stderr=err, start_new_session=True)
+        # A wait with a time limit looks now and then whether the program has ended, up to 50 ms late.
+        ender = threading.Timer(LONGEST, os.killpg, [process.pid, signal.SIGKILL])
+        ender.start()
+        status = process.wait()
+        ender.cancel()
     wall = time.perf_counter() - started
+    if wall > LONGEST:
+        return -1, "", "not done after %d s" % LONGEST, LONGEST, 0
     memory = int(Path("figures").read_text().split()[-1])
     return status, "" if out else Path("out").read_text(errors="replace"), Path("err").read_text(), wall, memory
 
