@@ -10,9 +10,9 @@ disk, and nothing is written. `same` are workers that count under the same names
 runs one behind the other, the first of them now with rounds, now without: its ratio sees the same load of the machine,
 which is told before and after. Where there are fewer processors than threads, rounds take them from workers.
 
-A worker wakes the flusher once a round. Where that has to run on a processor of a virtual machine that sleeps, the host
-wakes this, which takes the worker some 20 µs and not 1 to 3. With the word `awake` none sleeps: on each there is a
-process of the idle class, which gives way to all others (`awake.c`; it needs a C compiler).
+A worker wakes the flusher once a round. With the word `awake` no processor sleeps, and so none has to be woken by the
+host of a virtual machine: on each there is a process of the idle class, which gives way to all others (`awake.c`; it
+needs a C compiler). It may slow the other thread of its core.
 """
 import contextlib
 import os
