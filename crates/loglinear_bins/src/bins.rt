@@ -91,8 +91,11 @@ impl Bins {
         ensures { self.new ≡ merged self.old other.now }
     {
         fill_to(&mut self.counts, other.to as usize);
+        // Slices, so that where the counts lie is read once.
+        let counts = self.counts.as_mut_slice();
+        let others = other.counts.as_slice();
         for place in other.from as usize..other.to as usize {
-            self.counts[place] += other.counts[place];
+            counts[place] += others[place];
         }
         self.total += other.total;
         self.from = self.from.min(other.from);
@@ -132,8 +135,9 @@ impl Bins {
     pub fn clear(&mut self)
         ensures { self.new ≡ [] }
     {
+        let counts = self.counts.as_mut_slice();
         for place in self.from as usize..self.to as usize {
-            self.counts[place] = 0;
+            counts[place] = 0;
         }
         self.total = 0;
         self.from = BIN_COUNT as u32;
