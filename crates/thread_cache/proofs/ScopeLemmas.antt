@@ -1,11 +1,13 @@
 -- Scopes without those that were dropped.
-use Rattle.std.proofs.Common.{◌≡◌, ◌==◌, Bool, true, false, not, is_some, Option, Some, None, List, [], ◌∷◌, cond, refl, sym, ap, ◌∙◌, rules}
+use Rattle.std.proofs.Common.{◌≡◌, ◌==◌, ◌<◌, ◌≤◌, ◌+◌, ◌⊎◌, ℕ, suc, min, Bool, true, false, not, is_some, Option, Some, None, List, [], ◌∷◌, cond, length, get_or, drop, slice_get, refl, sym, ap, subst, ◌∙◌, arith, inl, inr, rules, add-one}
 use Rattle.std.specs.Cmp.{IsEquivalence}
 use Rattle.std.specs.List.{filter, IsDistinct}
 use Rattle.std.specs.Map.{keys_of, lookup, set_value}
 use Rattle.std.specs.Option.{option_map_or}
+use Rattle.std.proofs.Math.Seq.{drop-cons}
+use Rattle.std.proofs.lemmas.Bool.{not-true, eqb-true}
 use Rattle.std.proofs.lemmas.Cmp.{nat_eq_equiv}
-use Rattle.std.proofs.lemmas.Option.{same_Some}
+use Rattle.std.proofs.lemmas.Option.{same_Some, slice_get-get_or}
 use Rattle.std.proofs.lemmas.Map.Entries.{option_filter, lookup-filter-values}
 use Rattle.stat_defs.specs.declared.ids.ScopeId.{ScopeId}
 use Rattle.thread_cache.specs.declared.scopes.ScopeEntries.{ScopeEntries}
@@ -76,3 +78,29 @@ is_live-written test w was s (e ∷ es) found same = by (test e.0) found (is_liv
         head : (t : Bool) → option_map_or stays (cond t (Some e.1) (entries_at (set_value test es w) s)) false ≡ option_map_or stays (cond t (Some e.1) (entries_at es s)) false
         head true = refl
         head false = rest there same
+
+-- no live scope that is listed before a place is below a number
+abbrev pub IsLeastBefore : ℕ → ℕ → List (ScopeId × ScopeEntries) → Type 0
+IsLeastBefore least at scopes = (s : ScopeId) → is_live scopes s ≡ true → (least ≤ s.0) ⊎ (is_live (drop at scopes) s ≡ true)
+
+pub least_with : (least number at : ℕ) (scopes : List (ScopeId × ScopeEntries)) → at < length scopes
+    → ((e : ScopeId × ScopeEntries) → slice_get scopes at ≡ Some e → e.1.dropped ≡ false → number ≡ e.0.0)
+    → IsLeastBefore least at scopes → IsLeastBefore (min least number) (at + 1) scopes
+least_with least number at scopes short is before s live = elim (before s live) [
+  | inl low ↦ inl (omega (arith, low))
+  | inr rest ↦ here (s.0 == e.0.0) refl (subst (λ es. is_live es s ≡ true) (drop-cons scopes at none short) rest)
+]
+  where
+    none : ScopeId × ScopeEntries
+    none = (record { 0 = 0 }, record { dropped = false; count = 0 })
+
+    e : ScopeId × ScopeEntries
+    e = get_or scopes at none
+
+    here : (t : Bool) → (s.0 == e.0.0) ≡ t → option_map_or stays (cond t (Some e.1) (entries_at (drop (suc at) scopes) s)) false ≡ true
+        → (min least number ≤ s.0) ⊎ (is_live (drop (at + 1) scopes) s ≡ true)
+    here true same stands =
+        let first = is e (slice_get-get_or scopes at none short) (not-true e.1.dropped stands) in
+        let mine = eqb-true s.0 e.0.0 same in
+        inl (omega (arith, first, mine))
+    here false other later = inr (rw add-one later)

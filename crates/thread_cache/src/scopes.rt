@@ -1,12 +1,19 @@
 //! The scopes that entries of the table have.
 ghost use Rattle.std.specs.Prelude.{◌≡◌, ◌<◌, ◌≤◌, ◌+◌, ◌||◌, ◌&&◌, ◌==◌, not, true, false, Bool, if◌then◌else◌};
+ghost use Rattle.std.specs.Prelude.{slice_get, Some};
 ghost use Rattle.std.specs.List.{list_any};
 ghost use Rattle.indexmap.specs.IndexMap.{spare};
 ghost use Rattle.thread_cache.specs.Scopes.{is_live, is_listed, IsStanding};
+ghost use Rattle.thread_cache.specs.declared.scopes.ScopeEntries.{ScopeEntries};
 
 use indexmap::IndexMap;
 use name_map::keys_differ;
 use stat_defs::ScopeId;
+
+/// Maximum number of listed scopes that are looked through for the least live one.
+const FEW_SCOPES: usize = 8;
+
+const _: () = prove!(FEW_SCOPES == 8);
 
 /// A scope that entries of the table have: whether it was dropped, and about how many entries have it.
 #[derive(Clone, Copy)]
@@ -86,7 +93,33 @@ pub(crate) fn drop_scope(scopes: &mut Scopes, scope: ScopeId) -> u64
     entries.count.max(1)
 }
 
-// Drops these scopes, and answers how stale the table is then.
+// The number of a scope that is listed at that place and live, or the greatest number.
+fn live_number_at(scopes: &Scopes, at: usize) -> u32
+    ensures { (e : ScopeId × ScopeEntries) → slice_get scopes.now.entries at ≡ Some e → e.1.dropped ≡ false
+        → result ≡ e.0.0 }
+{
+    match scopes.get_index(at) {
+        Some((scope, entries)) if !entries.dropped => scope.0,
+        _ => u32::MAX,
+    }
+}
+
+// A number that no live scope is below: the least of theirs where few scopes are listed, else 0.
+fn least_live(scopes: &Scopes) -> u32
+    ensures { (s : ScopeId) → is_live scopes.now.entries s ≡ true → result ≤ s.0 }
+{
+    if scopes.len() > FEW_SCOPES {
+        return 0;
+    }
+    let mut least = u32::MAX;
+    for at in 0..scopes.len() {
+        least = least.min(live_number_at(scopes, at));
+    }
+    least
+}
+
+// Drops these scopes, and answers how stale the table is then. A seat that waited long hears of many scopes that were
+// opened and released meanwhile. Those below all that are live are not looked up.
 pub(crate) fn drop_scopes(scopes: &mut Scopes, released: &[ScopeId], stale: u64) -> u64
     ensures live { (s : ScopeId) → is_live scopes.new.entries s ≡ (not (list_any
         (λ r. r.0 == s.0) released.now) && is_live scopes.old.entries s) }
@@ -96,8 +129,15 @@ pub(crate) fn drop_scopes(scopes: &mut Scopes, released: &[ScopeId], stale: u64)
     ensures spare { spare scopes.old ≤ spare scopes.new }
 {
     let mut total = stale;
+    let mut least = least_live(scopes);
     for scope in released {
-        total = total.saturating_add(drop_scope(scopes, *scope));
+        if scope.0 >= least {
+            let entries = drop_scope(scopes, *scope);
+            if entries > 0 {
+                total = total.saturating_add(entries);
+                least = least_live(scopes);
+            }
+        }
     }
     total
 }

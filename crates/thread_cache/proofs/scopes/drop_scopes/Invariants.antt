@@ -1,4 +1,4 @@
-use Rattle.std.proofs.Common.{◌≡◌, ◌≤◌, ◌&&◌, ◌==◌, not, take}
+use Rattle.std.proofs.Common.{◌≡◌, ◌≤◌, ◌&&◌, ◌==◌, not, take, true}
 use Rattle.std.specs.List.{list_any}
 use Rattle.indexmap.specs.IndexMap.{spare}
 use Rattle.stat_defs.specs.declared.ids.ScopeId.{ScopeId}
@@ -11,3 +11,4 @@ invariant-loop-scope l =
     × ((s : ScopeId) → is_listed l.scopes.entries s ≡ is_listed l.fn.scopes.entries s)
     × (l.total ≡ 0 → (l.fn.stale ≡ 0) × ((s : ScopeId) → is_live l.scopes.entries s ≡ is_live l.fn.scopes.entries s))
     × (spare l.fn.scopes ≤ spare l.scopes)
+    × ((s : ScopeId) → is_live l.scopes.entries s ≡ true → l.least ≤ s.0)
