@@ -1,6 +1,7 @@
 //! What the words ask for.
 
 use load_scripts::MAX_SCRIPT_EVENTS;
+use stat_defs::MAX_FLUSHES;
 use std::env::Args;
 
 /// A run of so many workers with so many events each, and its flushes and readings. The workers count under the same
@@ -15,9 +16,9 @@ pub(crate) struct Plan {
 }
 
 impl Plan {
-    /// Events between two rounds: the last of the most rounds comes behind all events.
+    /// Events between two rounds: each of them, and the last too, comes while workers still have events.
     pub(crate) fn flush_every(&self) -> u32 {
-        (self.workers.wrapping_mul(self.events) / 64).max(1)
+        (self.workers.wrapping_mul(self.events) / (MAX_FLUSHES + 1)).max(1)
     }
 }
 
