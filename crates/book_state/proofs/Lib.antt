@@ -6,6 +6,7 @@ pub mod LiveScopes
 pub mod Listing
 pub mod Changing
 pub mod Releasing
+pub mod Rows
 pub mod Members
 pub mod Numbering
 pub mod Moving

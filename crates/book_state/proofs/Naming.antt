@@ -1,5 +1,5 @@
 -- What is read of a stored state: full names, tags, and the state before the first entry.
-use Rattle.std.proofs.Common.{◌≡◌, ℕ, zero, suc, ◌-◌, ◌+◌, ◌<◌, ◌&&◌, Bool, true, false, Option, Some, None, unwrap_or, List, [], ◌∷◌, cond, map, length, slice_get, replicate, refl, ap, sym, ◌∙◌, subst, arith, length-append}
+use Rattle.std.proofs.Common.{◌≡◌, ℕ, zero, suc, ◌-◌, ◌+◌, ◌&&◌, Bool, true, false, Option, Some, None, unwrap_or, List, [], ◌∷◌, cond, map, length, slice_get, replicate, refl, ap, sym, ◌∙◌, subst, arith, length-append}
 use Rattle.std.proofs.lemmas.List.{length-replicate}
 use Rattle.std.proofs.lemmas.List.Folds.{list_all-append}
 use Rattle.std.proofs.lemmas.List.Elements.{All-nil}
@@ -18,7 +18,7 @@ use Rattle.book_state.specs.Follows.{tag_of}
 use Rattle.book_state.specs.Log.{empty}
 use Rattle.book_state.specs.Scopes.{ScopeView, scope_of_view}
 use Rattle.book_state.specs.Stored.{Stored, IsStored, MakesOf, numbers_in, seat_row, seat_stored}
-use Rattle.book_state.proofs.Lists.{not_some, some_at, get_map, get_within, all_at, map-replicate}
+use Rattle.book_state.proofs.Lists.{not_some, some_at, get_map, all_at, map-replicate}
 use Rattle.book_state.proofs.LiveScopes.{scope_at}
 use Rattle.book_state.proofs.Safety.{empty_run}
 
@@ -34,8 +34,8 @@ module _ (held : Stored) (s : State) (st : IsStored held s) (key : Key) (sc : �
   was : (scope : ScopeView) × (slice_get held.scopes sc ≡ Some scope) × (scope.live ≡ true) × (scope.label ≡ key.label)
   was = scope_at held.scopes key.label sc (ap (λ (l : List Scope). live_in l key.label) st.scopes ∙ live)
 
-  pub scope_within : sc < length held.scopes
-  scope_within = get_within held.scopes sc was.0 was.1
+  pub scope_lives : IsSomeAnd (slice_get held.scopes sc) (λ (scope : ScopeView). scope.live ≡ true)
+  scope_lives = subst (λ (o : Option ScopeView). IsSomeAnd o (λ (scope : ScopeView). scope.live ≡ true)) (sym was.1) was.2
 
   in_state : slice_get s.scopes sc ≡ Some (scope_of_view was.0)
   in_state = ap (λ (l : List Scope). slice_get l sc) (sym st.scopes) ∙ (get_map scope_of_view held.scopes sc ∙ ap (option_map scope_of_view) was.1)

@@ -193,10 +193,10 @@ module _ (v : StateView) (held : Stored) (st : IsStored held v.state) (e : Entry
     scope_is : scope_of v.state key ≡ sc
     scope_is = ap (λ o. unwrap_or o 0) live
 
-    pub find_within : sc < length held.scopes
-    find_within =
+    pub find_lives : IsSomeAnd (slice_get held.scopes sc) (λ (scope : ScopeView). scope.live ≡ true)
+    find_lives =
         let at = scope_at held.scopes key.label sc (ap (λ (l : List Scope). live_in l key.label) st.scopes ∙ live) in
-        get_within held.scopes sc at.0 at.1
+        subst (λ (o : Option ScopeView). IsSomeAnd o (λ (scope : ScopeView). scope.live ≡ true)) (sym at.1) at.2
 
     -- a metric that is found
     module _ (id : MetricId) (told : e.reply ≡ reply.Found id) where

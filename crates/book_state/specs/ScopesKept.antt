@@ -1,5 +1,6 @@
 -- What the fields of a table of scopes keep.
 use Rattle.std.specs.Prelude.{◌≡◌, ℕ, nat_eq, true, Some, List, [], get_or, map, slice_get}
+use Rattle.std.specs.Option.{is_some, option_map_or}
 use Rattle.std.specs.Cmp.Lexicographic.{pointwise}
 use Rattle.indexmap.specs.IndexMap.{get}
 use Rattle.book_state.specs.declared.scopes.ScopeTable.TheInside.{Inside}
@@ -8,7 +9,12 @@ use Rattle.book_state.specs.State.{live_in}
 use Rattle.book_state.specs.Scopes.{ScopeView, scope_of_view}
 
 abbrev pub row_shown : ScopeRow → ScopeView
-row_shown row = record { label = get_or row.label.items 0 []; prefix = row.prefix; live = row.live; bears = row.bears }
+row_shown row = record {
+  label = get_or row.label.items 0 [];
+  prefix = option_map_or (λ scope. scope.value.prefix) row.live (get_or row.past_prefix.items 0 []);
+  live = is_some row.live;
+  bears = option_map_or (λ scope. scope.value.bears) row.live [];
+}
 
 abbrev pub shown : Inside → List ScopeView
 shown b = map row_shown b.rows.items

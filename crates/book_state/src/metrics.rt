@@ -1,6 +1,6 @@
 //! The metrics of a book, with an index of the names that are not gone.
 ghost use Rattle.std.specs.Prelude.{◌≡◌, ◌<◌, ◌+◌, ◌^◌, ◌++◌, ◌∷◌, [], None, length, map, All, IfOk, OnOk, OnErr};
-ghost use Rattle.std.specs.Prelude.{slice_get, false, not, filter, if◌then◌else◌};
+ghost use Rattle.std.specs.Prelude.{slice_get, true, false, not, filter, if◌then◌else◌};
 ghost use Rattle.stat_defs.specs.declared.ids.Kind.TheVariants.{Histogram};
 ghost use Rattle.std.specs.Option.{IsSomeAnd};
 ghost use Rattle.indexmap.specs.IndexMap.{get, spare};
@@ -112,7 +112,7 @@ impl MetricTable {
         overdue_in(alloc, &self.rows, self.known.values().as_slice(), least)
     }
 
-    /// Makes a metric, which this scope alone bears.
+    /// Makes a metric, which this live scope alone bears.
     pub fn make(
         &mut self,
         alloc: Global,
@@ -121,7 +121,7 @@ impl MetricTable {
         name: NameKey,
         metric: Metric,
     ) -> Result<(), NoMemory>
-        requires scope { scope < length scopes.old }
+        requires scope { IsSomeAnd (slice_get scopes.old scope) (λ row. row.live ≡ true) }
         requires new { known_in (map metric_of self.old) name.kind name.name ≡ None }
         requires named { IsNamed name metric }
         requires room { length self.old < MAX_METRICS }

@@ -1,6 +1,6 @@
 //! The scopes of a book, with an index of the labels that are live.
 ghost use Rattle.std.specs.Prelude.{◌≡◌, ◌<◌, ◌^◌, ◌++◌, ◌∷◌, [], length, map, not, IfOk, OnOk, OnErr, Some, None};
-ghost use Rattle.std.specs.Prelude.{slice_get, nat_eq};
+ghost use Rattle.std.specs.Prelude.{slice_get, nat_eq, true};
 ghost use Rattle.std.specs.Option.{IsSomeAnd};
 ghost use Rattle.std.specs.Cmp.Lexicographic.{pointwise};
 ghost use Rattle.indexmap.specs.IndexMap.{get, Updates, IsUnchanged};
@@ -17,16 +17,22 @@ use name_map::{HashKey, name_map};
 use stat_defs::{NoMemory, Txt};
 use std::alloc::Global;
 use std::marker::Model;
-use std::mem;
 
-/// A scope, with the numbers of the metrics that it bears.
+// What a live scope has: its prefix, and the numbers of the metrics that it bears.
+#[derive(Drop)]
+struct LiveScope {
+    prefix: Txt,
+    bears: NumberSet,
+}
+
+// A scope. All scopes that were ever opened have a row, so one that was released is a word.
 #[derive(Drop)]
 struct ScopeRow {
-    /// Its label alone, which contracts see and no call asks for.
+    // Its label alone, which contracts see and no call asks for.
     label: GhostList<Txt>,
-    prefix: Txt,
-    live: bool,
-    bears: NumberSet,
+    // The prefix alone of a scope that was released.
+    past_prefix: GhostList<Txt>,
+    live: Option<Box<LiveScope>>,
 }
 
 /// The scopes that were opened so far; a scope's number is its place. Contracts see a table as the list of its scopes.
@@ -75,16 +81,25 @@ impl ScopeTable {
         number_of(&self.live, label)
     }
 
-    /// The prefix of a scope.
+    /// The prefix of a live scope.
     pub fn prefix(&self, id: u32) -> &Txt
-        requires { id < length self.now }
+        requires { IsSomeAnd (slice_get self.now id) (λ scope. scope.live ≡ true) }
         ensures { IsSomeAnd (slice_get self.now id) (λ scope. scope.prefix ≡ result.now) }
     {
-        &self.rows[id as usize].prefix
+        match &self.rows[id as usize].live {
+            Some(scope) => &scope.prefix,
+            None => unreachable!(),
+        }
     }
 
     /// Opens a scope of a label that is not live, with the next number.
-    pub fn open(&mut self, id: u32, label: &Txt, prefix: &Txt) -> Result<(), NoMemory>
+    pub fn open(
+        &mut self,
+        alloc: Global,
+        id: u32,
+        label: &Txt,
+        prefix: &Txt,
+    ) -> Result<(), NoMemory>
         requires free { live_in (map scope_of_view self.old) label.now ≡ None }
         requires next { id ≡ length self.old }
         ensures opened { OnOk result (self.new ≡ self.old ++ opened label.now prefix.now ∷ []) }
@@ -92,12 +107,7 @@ impl ScopeTable {
         ensures err { OnErr result (self.new ≡ self.old) }
     {
         let key = label.clone()?;
-        let row = ScopeRow {
-            label: GhostList::new().and(label),
-            prefix: prefix.clone()?,
-            live: true,
-            bears: NumberSet::new(),
-        };
+        let row = live_row(alloc, label, prefix)?;
         self.rows.reserve(1)?;
         list_label(&mut self.live, key, id)?;
         self.rows.push_reserved(row);
@@ -114,9 +124,9 @@ impl ScopeTable {
         empty_row(&mut self.rows, id as usize)
     }
 
-    /// Lets a scope bear a metric besides, and tells whether it did not bear it before.
+    /// Lets a live scope bear a metric besides, and returns whether it did not bear it before.
     pub fn bear(&mut self, alloc: Global, id: u32, metric: u32) -> Result<bool, NoMemory>
-        requires { id < length self.old }
+        requires { IsSomeAnd (slice_get self.old id) (λ scope. scope.live ≡ true) }
         ensures bears { OnOk result (self.new ≡ change_at (bearing metric) id self.old) }
         ensures new { IfOk result (λ new. IsSomeAnd (slice_get self.old id)
             (λ scope. new ≡ not (has metric scope.bears))) }
@@ -147,32 +157,72 @@ fn unlist_label(live: &mut LabelTable, label: &Txt)
     let _ = live.swap_remove(label);
 }
 
+// A live scope that bears nothing.
+fn live_row(alloc: Global, label: &Txt, prefix: &Txt) -> Result<ScopeRow, NoMemory>
+    ensures { IfOk result (λ row. row_shown row ≡ opened label.now prefix.now) }
+{
+    let scope = LiveScope {
+        prefix: prefix.clone()?,
+        bears: NumberSet::new(),
+    };
+    Ok(ScopeRow {
+        label: GhostList::new().and(label),
+        past_prefix: GhostList::new(),
+        live: Some(Box::new(alloc, scope)?),
+    })
+}
+
 // Makes the scope at a place dead, and gives the metrics that it bore.
 fn empty_row(rows: &mut Vec<ScopeRow>, at: usize) -> NumberSet
-    requires { at < length rows.old.items }
+    requires { IsSomeAnd (slice_get (map row_shown rows.old.items) at) (λ scope. scope.live ≡ true) }
     ensures emptied { map row_shown rows.new.items ≡ change_at emptied at (map row_shown rows.old.items) }
     ensures borne { IsSomeAnd (slice_get (map row_shown rows.old.items) at) (λ scope. result ≡ scope.bears) }
 {
-    let row = &mut rows[at];
-    row.live = false;
-    mem::replace(&mut row.bears, NumberSet::new())
+    end_row(&mut rows[at])
 }
 
-// Lets the scope at a place bear a metric besides.
+// Makes a scope dead, and gives the metrics that it bore.
+fn end_row(row: &mut ScopeRow) -> NumberSet
+    requires { (row_shown row.old).live ≡ true }
+    ensures emptied { row_shown row.new ≡ emptied (row_shown row.old) }
+    ensures borne { result ≡ (row_shown row.old).bears }
+{
+    let Some(scope) = row.live.take() else {
+        unreachable!()
+    };
+    let LiveScope { prefix, bears } = Box::into_inner(scope);
+    row.past_prefix = GhostList::new().and(&prefix);
+    bears
+}
+
+// Lets the live scope at a place bear a metric besides.
 fn bear_at(
     alloc: Global,
     rows: &mut Vec<ScopeRow>,
     at: usize,
     metric: u32,
 ) -> Result<bool, NoMemory>
-    requires { at < length rows.old.items }
+    requires { IsSomeAnd (slice_get (map row_shown rows.old.items) at) (λ scope. scope.live ≡ true) }
     ensures bears { OnOk result (map row_shown rows.new.items
         ≡ change_at (bearing metric) at (map row_shown rows.old.items)) }
     ensures new { IfOk result (λ new. IsSomeAnd (slice_get (map row_shown rows.old.items) at)
         (λ scope. new ≡ not (has metric scope.bears))) }
     ensures err { OnErr result (map row_shown rows.new.items ≡ map row_shown rows.old.items) }
 {
-    let row = &mut rows[at];
-    let new = row.bears.insert(alloc, metric)?;
-    Ok(new)
+    bear_in(alloc, &mut rows[at], metric)
+}
+
+// Lets a live scope bear a metric besides.
+fn bear_in(alloc: Global, row: &mut ScopeRow, metric: u32) -> Result<bool, NoMemory>
+    requires { (row_shown row.old).live ≡ true }
+    ensures bears { OnOk result (row_shown row.new ≡ bearing metric (row_shown row.old)) }
+    ensures new { IfOk result (λ new. new ≡ not (has metric (row_shown row.old).bears)) }
+    ensures err { OnErr result (row_shown row.new ≡ row_shown row.old) }
+{
+    let Some(mut scope) = row.live.take() else {
+        unreachable!()
+    };
+    let new = scope.bears.insert(alloc, metric);
+    row.live = Some(scope);
+    new
 }

@@ -318,7 +318,7 @@ impl BookState {
             self.note(entry);
             return Ok(());
         };
-        self.scopes.open(id.0, label, prefix)?;
+        self.scopes.open(alloc, id.0, label, prefix)?;
         self.past = self.past.and(entry);
         Ok(())
     }
@@ -407,12 +407,12 @@ impl BookState {
 }
 
 /// The symbol numbers that a find's reply has.
-pub fn numbers_of(reply: &Reply) -> &[u32]
+pub fn numbers_of(reply: &Reply) -> &Numbers
     requires { MakesOf reply.now }
     ensures { result.now ≡ numbers_in reply.now }
 {
     match reply {
-        Reply::Made { numbers, .. } => numbers.items(),
+        Reply::Made { numbers, .. } => numbers,
         _ => unreachable!(),
     }
 }
@@ -423,7 +423,7 @@ fn new_metric(
     rules: &TagRules,
     key: &Key,
     name: &Txt,
-    numbers: &[u32],
+    numbers: &Numbers,
 ) -> Result<Metric, NoMemory>
     requires { IsFullName name.now }
     ensures { IfOk result (λ metric. metric ≡ fresh_metric rules.now key.now name.now numbers.now) }
@@ -432,7 +432,7 @@ fn new_metric(
         name: name.clone()?,
         kind: key.kind,
         mode: key.mode,
-        numbers: Numbers::of(numbers.to_vec(alloc)?),
+        numbers: numbers.clone()?,
         tagged: rules.split(alloc, name)?,
         text: Txt::of(alloc, b"")?,
         life: Life::Live,

@@ -68,7 +68,7 @@ fn reads_names(rt: HostRuntime) -> Result<(), Fail> {
 
 #[test]
 fn stores_names(rt: HostRuntime) -> Result<(), Fail> {
-    let name = StatName::of(Numbers::of([1, 300].to_vec(rt.alloc())?));
+    let name = StatName::of(Numbers::of([1, 300].to_vec(rt.alloc())?)?);
     let mut out = Vec::new(rt.alloc());
     name.write(rt.alloc(), &mut out)?;
     assert_eq!(rt; out.as_slice(), [3, 1, 0xac, 0x02].as_slice());

@@ -14,8 +14,8 @@ pub struct List<T> {
     held: Vec<T>,
 }
 
-/// Symbol numbers of 32 bits.
-pub type Numbers = List<u32>;
+/// Symbol numbers of 32 bits, whose copies share them.
+pub type Numbers = SharedList<u32>;
 
 /// Words of 64 bits.
 pub type Words = List<u64>;

@@ -124,7 +124,7 @@ fn numbers_of(alloc: Global, bytes: &[u8]) -> Result<Option<Numbers>, NoMemory>
     if numbers.is_empty() {
         return Ok(None);
     }
-    Ok(Some(Numbers::of(numbers)))
+    Ok(Some(Numbers::of(numbers)?))
 }
 
 /// A law: no stored name is a prefix of another one.

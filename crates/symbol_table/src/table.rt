@@ -105,10 +105,12 @@ impl SymbolTable {
         ensures table { OnOk result (IsTable self.new) }
         ensures err { OnErr result (self.new ≡ self.old) }
     {
-        let parts = tokens_of(alloc, name)?;
-        let numbers = self.intern_all(alloc, &parts)?;
         self.is_table();
-        Ok(StatName::of(Numbers::of(numbers)))
+        let parts = tokens_of(alloc, name)?;
+        let drawn = self.intern_all(alloc, &parts)?;
+        let numbers = self.share_or_drop(alloc, &drawn)?;
+        self.is_table();
+        Ok(StatName::of(numbers))
     }
 
     /// Counts each number of a name once more.
@@ -190,6 +192,23 @@ impl SymbolTable {
             }
         }
         Ok(numbers)
+    }
+
+    /// The numbers as a name shares them. Where there is no memory, one use of each is taken away.
+    fn share_or_drop(&mut self, alloc: Global, numbers: &[u32]) -> Result<Numbers, NoMemory>
+        requires { (n : ℕ) → times n numbers.now ≤ uses_at self.old n }
+        ensures shared { IfOk result (λ shared. shared ≡ numbers.now) }
+        ensures kept { OnOk result (self.new ≡ self.old) }
+        ensures dropped { OnErr result (self.new ≡ uncounted_all self.old numbers.now) }
+        ensures table { OnErr result (IsTable self.new) }
+    {
+        match shared(alloc, numbers) {
+            Ok(numbers) => Ok(numbers),
+            Err(fault) => {
+                self.drop_numbers(numbers);
+                Err(fault)
+            }
+        }
     }
 
     /// One use more of a token, whose number is looked up only where it was not counted lately.
@@ -286,6 +305,12 @@ impl SymbolTable {
         let slots = &self.slots;
         token_at(slots, n as usize - 1)
     }
+}
+
+fn shared(alloc: Global, numbers: &[u32]) -> Result<Numbers, NoMemory>
+    ensures { IfOk result (λ shared. shared ≡ numbers.now) }
+{
+    Numbers::of(numbers.to_vec(alloc)?)
 }
 
 /// A name cut at its dots.

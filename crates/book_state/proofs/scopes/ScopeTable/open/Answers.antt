@@ -1,4 +1,4 @@
-use Rattle.std.proofs.Common.{◌≡◌, ℕ, None, Some, List, [], ◌∷◌, ◌++◌, nat_eq, true, refl, ap, sym, ◌∙◌, subst, map, length}
+use Rattle.std.proofs.Common.{◌≡◌, ℕ, None, Some, List, [], ◌∷◌, ◌++◌, nat_eq, ap, sym, ◌∙◌, subst, map, length}
 use Rattle.std.proofs.lemmas.List.{map_push}
 use Rattle.std.specs.Cmp.Lexicographic.{pointwise}
 use Rattle.indexmap.specs.IndexMap.{Updates}
@@ -17,10 +17,8 @@ row_put items before after row label prefix same put is =
 pub invariant_of-self-2 : goal.invariant_of-self-2
 invariant_of-self-2 c =
     let free : live_in (map scope_of_view (shown c.self.inside)) c.args.label.now ≡ None = subst (λ (v : List ScopeView). live_in (map scope_of_view v) c.args.label.now ≡ None) (sym c.self.view_is) c.requires.free in
-    let is : row_shown (record { label = c.and.result; prefix = c.in_ok-clone.field-0; live = true; bears = c.new-2.result }) ≡ opened c.args.label.now c.args.prefix.now
-    = rw (c.in_ok-clone.ensures.cases, c.and.ensures, c.new.ensures, c.new-2.ensures) refl in
     opened_kept c.self.inside _ c.args.label.now c.args.prefix.now free
-    (row_put _ c.self.inside.rows.items _ _ c.args.label.now c.args.prefix.now c.in_ok-reserve.ensures.items c.push_reserved.ensures.items is)
+    (row_put _ c.self.inside.rows.items _ _ c.args.label.now c.args.prefix.now c.in_ok-reserve.ensures.items c.push_reserved.ensures.items c.in_ok-row.ensures)
     (subst (λ (n : ℕ). Updates (pointwise nat_eq) c.self.inside.live c.list_label.new.live c.args.label.now (Some n))
     (c.requires.next ∙ ap length (sym c.self.view_is)) (rw c.in_ok-key.ensures.cases at c.in_ok-list_label.ensures.ok))
     c.self.invariant

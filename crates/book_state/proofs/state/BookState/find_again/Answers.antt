@@ -8,14 +8,14 @@ use Rattle.book_state.specs.Stored.{StateView, IsStored, IsNext, after_entry}
 use Rattle.book_state.specs.StateKept.{shown, stored_in}
 use Rattle.book_state.proofs.Entering.{kept_with, seen_with}
 use Rattle.book_state.proofs.Applying.{released_at}
-use Rattle.book_state.proofs.Stepping.{find_within, found_room, found_stored}
+use Rattle.book_state.proofs.Stepping.{find_lives, found_room, found_stored}
 use Rattle.book_state.proofs.state.BookState.find_again.Goals as goal
 
 pub bear-requires : goal.bear-requires
 bear-requires c =
     let b = c.self.inside in let v = shown b in let e = c.args.entry.now in
     let next = subst (λ (w : StateView). IsNext w e) (sym c.self.view_is) c.requires.next in
-    find_within v (stored_in b) c.self.invariant e next c.args.key.now c.args.scope c.requires.call (subst (λ (w : StateView). live_scope w.state c.args.key.now.label ≡ Some c.args.scope) (sym c.self.view_is) c.requires.scope)
+    find_lives v (stored_in b) c.self.invariant e next c.args.key.now c.args.scope c.requires.call (subst (λ (w : StateView). live_scope w.state c.args.key.now.label ≡ Some c.args.scope) (sym c.self.view_is) c.requires.scope)
 
 pub find_again-requires : goal.find_again-requires
 find_again-requires c =

@@ -14,14 +14,14 @@ use Rattle.book_state.specs.Finding.{name_of}
 use Rattle.book_state.specs.Metrics.{metric_of}
 use Rattle.book_state.specs.Stored.{numbers_in, fresh_metric}
 use Rattle.book_state.proofs.Naming.{makes_of}
-use Rattle.book_state.proofs.Stepping.{find_within, make_new, made_stored}
+use Rattle.book_state.proofs.Stepping.{find_lives, make_new, made_stored}
 use Rattle.book_state.proofs.state.BookState.make.Goals as goal
 
 pub make-requires-clause-scope : goal.make-requires-clause-scope
 make-requires-clause-scope c =
     let b = c.self.inside in let v = shown b in let e = c.args.entry.now in
     let next = subst (λ (w : StateView). IsNext w e) (sym c.self.view_is) c.requires.next in
-    find_within v (stored_in b) c.self.invariant e next c.args.key.now c.args.scope c.requires.find (subst (λ (w : StateView). live_scope w.state c.args.key.now.label ≡ Some c.args.scope) (sym c.self.view_is) c.requires.scope)
+    find_lives v (stored_in b) c.self.invariant e next c.args.key.now c.args.scope c.requires.find (subst (λ (w : StateView). live_scope w.state c.args.key.now.label ≡ Some c.args.scope) (sym c.self.view_is) c.requires.scope)
 
 pub make-requires-clause-new : goal.make-requires-clause-new
 make-requires-clause-new c =

@@ -4,13 +4,13 @@ use Rattle.book_state.specs.State.{live_scope}
 use Rattle.book_state.specs.Finding.{name_of}
 use Rattle.book_state.specs.Stored.{StateView}
 use Rattle.book_state.specs.StateKept.{shown, stored_in}
-use Rattle.book_state.proofs.Naming.{full_is_full, scope_within, prefix_lawful, name_is}
+use Rattle.book_state.proofs.Naming.{full_is_full, scope_lives, prefix_lawful, name_is}
 use Rattle.book_state.proofs.state.BookState.name_key.Goals as goal
 
 pub prefix-requires : goal.prefix-requires
 prefix-requires c =
     let live = subst (λ (w : StateView). live_scope w.state c.args.key.now.label ≡ Some c.args.scope) (sym c.self.view_is) c.requires.scope in
-    scope_within (stored_in c.self.inside) (shown c.self.inside).state c.self.invariant c.args.key.now c.args.scope live
+    scope_lives (stored_in c.self.inside) (shown c.self.inside).state c.self.invariant c.args.key.now c.args.scope live
 
 pub full_name-requires-clause-prefix : goal.full_name-requires-clause-prefix
 full_name-requires-clause-prefix c =
