@@ -108,6 +108,16 @@ impl<A: KnowsLog> BookSeat<A> {
         access
     }
 
+    // A law: want of memory before the book is called is a call in vain.
+    #[inline(always)]
+    pub(crate) fn waits_in_vain(&self)
+        requires { WorksUnder (A.known self.now) }
+        ensures { CallsInVain (A.known self.now) (A.known self.now) }
+    {
+        // The invariant holds where a field is read.
+        let _access = &self.access;
+    }
+
     // Finds the query's key, which is not held. A verdict to hold is held.
     #[inline(never)]
     fn find_anew<W>(
@@ -127,7 +137,7 @@ impl<A: KnowsLog> BookSeat<A> {
             (A.known self.old) (A.known self.new)) }
         ensures err { OnErr result (CallsInVain (A.known self.old) (A.known self.new)) }
     {
-        let _access = &self.access;
+        self.waits_in_vain();
         let key = key_of(alloc, query)?;
         self.cache.reserve(&key)?;
         let answer = self.access.find(way, alloc, &key)?;

@@ -37,7 +37,7 @@ impl<A: KnowsLog> BookSeat<A> {
             (A.known self.old) (A.known self.new)) }
         ensures err { OnErr result (CallsInVain (A.known self.old) (A.known self.new)) }
     {
-        let _access = &self.access;
+        self.waits_in_vain();
         let label = Txt::of(alloc, label)?;
         let prefix = Txt::of(alloc, prefix)?;
         self.access.open(way, alloc, &label, &prefix)
@@ -54,7 +54,7 @@ impl<A: KnowsLog> BookSeat<A> {
             (A.known self.old) (A.known self.new)) }
         ensures err { OnErr result (CallsInVain (A.known self.old) (A.known self.new)) }
     {
-        let _access = &self.access;
+        self.waits_in_vain();
         let label = Txt::of(alloc, label)?;
         self.access.release(way, alloc, &label)
     }
@@ -76,7 +76,7 @@ impl<A: KnowsLog> BookSeat<A> {
         ensures sets { OnOk result (SetsText text.now (verdict.Accepted id) (A.known self.old) (A.known self.new)) }
         ensures err { OnErr result (CallsInVain (A.known self.old) (A.known self.new)) }
     {
-        let _access = &self.access;
+        self.waits_in_vain();
         let text = Txt::of(alloc, text)?;
         self.access.set_text(way, alloc, id, &text)
     }
@@ -98,7 +98,7 @@ impl<A: KnowsLog> BookSeat<A> {
         ensures sets { OnOk result (SetsText text.now verdict (A.known self.old) (A.known self.new)) }
         ensures err { OnErr result (CallsInVain (A.known self.old) (A.known self.new)) }
     {
-        let _access = &self.access;
+        self.waits_in_vain();
         match verdict {
             Verdict::Accepted(id) => self.set_text(way, alloc, id, text),
             _ => Ok(()),

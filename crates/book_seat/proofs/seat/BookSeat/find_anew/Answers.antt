@@ -19,9 +19,8 @@ use Rattle.book_seat.proofs.seat.BookSeat.find_anew.Goals as goal
 
 pub returns-in_err-key-clause-err : goal.returns-in_err-key-clause-err
 returns-in_err-key-clause-err g c =
-    let K = g.A.KnowsLog.known in let old = c.self.inside in let es = old.cache.entries in let p = K old.access in let is = ap K c.self.view_is in
-    let sits = sits_of p es old.tag c.self.invariant (subst WorksUnder (sym is) c.requires.works) in
-    err_so c.from_residual.result (CallsInVain (K c.args.self.now) (K c.args.self.now)) (subst (λ (x : LogKnown). CallsInVain x x) is (s.vain_same p es old.tag sits))
+    let K = g.A.KnowsLog.known in
+    err_so c.from_residual.result (CallsInVain (K c.args.self.now) (K c.args.self.now)) c.waits_in_vain.ensures
 
 pub returns-in_err-reserve-clause-err : goal.returns-in_err-reserve-clause-err
 returns-in_err-reserve-clause-err g c =

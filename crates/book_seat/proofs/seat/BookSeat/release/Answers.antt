@@ -10,9 +10,8 @@ use Rattle.book_seat.proofs.seat.BookSeat.release.Goals as goal
 
 pub returns-in_err-label-clause-err : goal.returns-in_err-label-clause-err
 returns-in_err-label-clause-err g c =
-    let K = g.A.KnowsLog.known in let old = c.self.inside in let es = old.cache.entries in let p = K old.access in let is = ap K c.self.view_is in
-    let sits = sits_of p es old.tag c.self.invariant (subst WorksUnder (sym is) c.requires.works) in
-    err_so c.from_residual.result (CallsInVain (K c.args.self.now) (K c.args.self.now)) (subst (λ (x : LogKnown). CallsInVain x x) is (s.vain_same p es old.tag sits))
+    let K = g.A.KnowsLog.known in
+    err_so c.from_residual.result (CallsInVain (K c.args.self.now) (K c.args.self.now)) c.waits_in_vain.ensures
 
 pub invariant_of-self : goal.invariant_of-self
 invariant_of-self g c =
