@@ -26,13 +26,13 @@ use stats_commands::{NO_COMMAND, NO_MEMORY, OUT_OF_MEMORY, USAGE, say};
 pub use stats_commands::{Outcome, quiet_stats, quiet_stats_with};
 use stats_io::{FolderShelf, Shelf, Sink, StdSink};
 use std::alloc::Global;
-use std::io;
 use std::io::{Stderr, Stdout};
 use std::process::ExitCode;
 use std::random::RandomSource;
 use std::rt::Env;
 use std::sync::Wait;
 use std::thread::Threads;
+use std::{io, mem};
 use tag_rules::{PatternMaker, RegexMaker};
 
 // The words of the command line without the program's name.
@@ -74,7 +74,13 @@ fn serve<R: Threads + Wait + Sync, K: PatternMaker, F: Shelf, O: Sink, E: Sink>(
         × IsUnreadable (E.state err.old) (E.state err.new) fault result) }
 {
     match words {
-        Ok(words) => envoy_stats_with(rt, alloc, key, &words, maker, shelf, out, err).status,
+        Ok(words) => {
+            let outcome = envoy_stats_with(rt, alloc, key, &words, maker, shelf, out, err);
+            let status = outcome.status;
+            // The process ends next and gives all memory back at once: to drop a long log takes time.
+            mem::forget(outcome);
+            status
+        }
         Err(fault) => refuse(err, fault),
     }
 }
