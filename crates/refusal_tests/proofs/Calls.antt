@@ -1,5 +1,5 @@
 -- A recorder after a call, refused or not.
-use Rattle.std.proofs.Common.{◌≡◌, ℕ, suc, ◌+◌, ◌<◌, ◌≤◌, ap, sym, ◌∙◌, subst, arith, inl, inr}
+use Rattle.std.proofs.Common.{◌≡◌, ℕ, suc, ◌+◌, ◌<◌, ◌≤◌, Some, None, ap, sym, ◌∙◌, subst, arith, inl, inr}
 use Rattle.std.specs.Prelude.{Bool, true, false}
 use Rattle.atomic_table.specs.Seated.{TableId}
 use Rattle.stat_defs.specs.declared.events.Event.{Event}
@@ -12,7 +12,7 @@ use Rattle.store_parts.specs.declared.store.Store.{Store}
 use Rattle.recorder.specs.declared.limits.TheConstants.{MAX_GIVEN}
 use Rattle.recorder.specs.declared.polling.Polled.{Polled}
 use Rattle.recorder.specs.Knowing.{RecorderKnown}
-use Rattle.recorder.specs.Calling.{Applies, IsCutShort, PollsOnce, PollIsCutShort}
+use Rattle.recorder.specs.Calling.{Decided, Hits, Applies, IsCutShort, PollsOnce, PollIsCutShort}
 use Rattle.recorder.specs.Tied.{IsWorkerOf}
 use Rattle.refusal_tests.specs.Standing.{MayBeGiven}
 
@@ -36,17 +36,32 @@ module _ (store : Store) (more : ℕ) (old new : RecorderKnown) where
         (subst (λ (id : TableId). HasCell store old.place id) (sym cell) is.cell);
   }
 
-  pub after_event : (e : Event) (v : Verdict) → Applies e v old new → MayBeGiven store (more + 1) old
-      → MayBeGiven store more new
-  after_event e v did is =
-      let rest = did.decided.rest in
-      let given = ap (λ (r : RecorderKnown). r.given) rest in
+  after_decided : (e : Event) (v : Verdict) → Decided (e, v) old new → new.seat.number ≡ old.seat.number
+      → MayBeGiven store (more + 1) old → MayBeGiven store more new
+  after_decided e v did number is =
+      let given = ap (λ (r : RecorderKnown). r.given) did.rest in
       let few = is.few in
       record {
-        worker = same_worker (ap (λ (r : RecorderKnown). r.of) rest) did.event.added.number
-            (ap (λ (r : RecorderKnown). r.place) rest) (ap (λ (r : RecorderKnown). r.side.cell.cell) rest) is.worker;
+        worker = same_worker (ap (λ (r : RecorderKnown). r.of) did.rest) number
+            (ap (λ (r : RecorderKnown). r.place) did.rest) (ap (λ (r : RecorderKnown). r.side.cell.cell) did.rest)
+            is.worker;
         few = omega (arith, few, given);
       }
+
+  pub after_event : (e : Event) (v : Verdict) → Applies e v old new → MayBeGiven store (more + 1) old
+      → MayBeGiven store more new
+  after_event e v did is = after_decided e v did.decided did.event.added.number is
+
+  -- a hit is one event, where two may be given
+  pub after_hit : (e : Event) (v : Verdict) → Hits e (Some v) old new → MayBeGiven store (more + 2) old
+      → MayBeGiven store more new
+  after_hit e v did is =
+      let few = is.few in
+      after_decided e v did.0 (ap (λ (k : LogKnown). k.number) did.1)
+      (record { worker = is.worker; few = omega (arith, few) })
+
+  pub after_no_hit : (e : Event) → Hits e None old new → MayBeGiven store more old → MayBeGiven store more new
+  after_no_hit e same is = subst (λ (r : RecorderKnown). MayBeGiven store more r) (sym same) is
 
   pub after_refused_event : (e : Event) → IsCutShort e old new → MayBeGiven store (more + 1) old
       → MayBeGiven store more new

@@ -13,7 +13,7 @@ use admin_side::Admin;
 use event_script::{Lines, Step, line_says_lawful_events};
 use flush_cells::Pass;
 use flusher::Flusher;
-use recorder::Recorder;
+use recorder::{Polled, Recorder};
 use stat_defs::{Event, EventRef, FlushRecord, NoMemory, ReadRecord, Verdict};
 use stats_io::SureSource;
 use std::alloc::Global;
@@ -33,14 +33,33 @@ pub(crate) struct Desk<'a, R: Wait> {
 // Only one request for memory is refused in a run, so a call that is made once more has memory.
 const REFUSED_TWICE: &str = "refused twice";
 
-fn poll<R: Wait>(desk: &Desk<'_, R>, recorder: &mut Recorder, _more: u32) -> Result<(), Fail>
+/// What a poll told, and whether it was made once more. A poll that is refused may have turned the half, which it does
+/// not tell then.
+#[derive(Clone, Copy, Drop, Debug, PartialEq, Eq)]
+pub(crate) struct Looked {
+    pub(crate) polled: Polled,
+    pub(crate) refused: bool,
+}
+
+/// Looks whether the flusher asks for the half, and whether scopes were released.
+pub(crate) fn poll<R: Wait>(
+    desk: &Desk<'_, R>,
+    recorder: &mut Recorder,
+    _more: u32,
+) -> Result<Looked, Fail>
     requires { MayBeGiven desk.now.store.now _more recorder.old }
     ensures { MayBeGiven desk.now.store.now _more recorder.new }
 {
     match recorder.poll(desk.rt, desk.alloc, desk.store) {
-        Ok(_) => Ok(()),
+        Ok(polled) => Ok(Looked {
+            polled,
+            refused: false,
+        }),
         Err(NoMemory) if desk.again => match recorder.poll(desk.rt, desk.alloc, desk.store) {
-            Ok(_) => Ok(()),
+            Ok(polled) => Ok(Looked {
+                polled,
+                refused: true,
+            }),
             Err(NoMemory) => Err(REFUSED_TWICE)?,
         },
         Err(NoMemory) => Err(NoMemory)?,
@@ -63,6 +82,29 @@ fn apply<R: Wait>(
             desk.rt, desk.alloc, desk.store, event,
         ) {
             Ok(verdict) => Ok(verdict),
+            Err(NoMemory) => Err(REFUSED_TWICE)?,
+        },
+        Err(NoMemory) => Err(NoMemory)?,
+    }
+}
+
+// Applies an event by what is held, and by the book where its key is not held.
+fn apply_hit<R: Wait>(
+    desk: &Desk<'_, R>,
+    recorder: &mut Recorder,
+    event: &EventRef<'_>,
+    more: u32,
+) -> Result<Verdict, Fail>
+    requires given { MayBeGiven desk.now.store.now (more + 2) recorder.old }
+    requires lawful { IsLawfulEvent (event_of event.now) }
+    ensures { IfOk result (λ _. MayBeGiven desk.now.store.now more recorder.new) }
+{
+    match recorder.apply_hit(desk.alloc, desk.store, event) {
+        Ok(Some(verdict)) => Ok(verdict),
+        Ok(None) => apply(desk, recorder, event, more),
+        Err(NoMemory) if desk.again => match recorder.apply_hit(desk.alloc, desk.store, event) {
+            Ok(Some(verdict)) => Ok(verdict),
+            Ok(None) => Err("a refused hit is none")?,
             Err(NoMemory) => Err(REFUSED_TWICE)?,
         },
         Err(NoMemory) => Err(NoMemory)?,
@@ -94,7 +136,7 @@ pub(crate) fn work<R: Wait>(
 {
     let event = event_in(desk.alloc, line)?;
     poll(desk, recorder, more + 2)?;
-    apply(desk, recorder, &event.borrowed(), more)
+    apply_hit(desk, recorder, &event.borrowed(), more)
 }
 
 /// Polls, and applies the event that a line says once. False where there was no memory for it.
@@ -179,19 +221,26 @@ fn take<R: Wait>(desk: &Desk<'_, R>, flusher: &mut Flusher) -> Result<FlushRecor
     }
 }
 
-// The worker gives its half, and the round that was begun becomes a flush.
-fn finish<R: Wait>(
-    desk: &Desk<'_, R>,
-    recorder: &mut Recorder,
-    flusher: &mut Flusher,
-    more: u32,
-) -> Result<FlushRecord, Fail>
-    requires worker { MayBeGiven desk.now.store.now more recorder.old }
-    requires flusher { IsFlusherOf desk.now.store.now flusher.old × IsSome flusher.old.round }
-    ensures worker { IfOk result (λ _. MayBeGiven desk.now.store.now more recorder.new) }
-    ensures flusher { IfOk result (λ _. IsIdle desk.now.store.now flusher.new) }
+/// Begins a round whose first pass does not find the worker's half.
+pub(crate) fn begin_late<R: Wait>(desk: &Desk<'_, R>, flusher: &mut Flusher) -> Result<(), Fail>
+    requires { IsIdle desk.now.store.now flusher.old }
+    ensures { OnOk result (IsFlusherOf desk.now.store.now flusher.new × IsSome flusher.new.round) }
 {
-    poll(desk, recorder, more)?;
+    begin(desk, flusher)?;
+    if pass(desk, flusher)? != Pass::Late(1, 1) {
+        return Err("the half was not waited for")?;
+    }
+    Ok(())
+}
+
+/// The flush of a round for which the worker has given its half.
+pub(crate) fn end_round<R: Wait>(
+    desk: &Desk<'_, R>,
+    flusher: &mut Flusher,
+) -> Result<FlushRecord, Fail>
+    requires { IsFlusherOf desk.now.store.now flusher.old × IsSome flusher.old.round }
+    ensures { IfOk result (λ _. IsIdle desk.now.store.now flusher.new) }
+{
     match pass(desk, flusher)? {
         Pass::Done => take(desk, flusher),
         Pass::Late(..) => Err("the half was not given")?,
@@ -211,24 +260,6 @@ pub(crate) fn flush<R: Wait>(
     ensures flusher { IfOk result (λ _. IsIdle desk.now.store.now flusher.new) }
 {
     begin(desk, flusher)?;
-    finish(desk, recorder, flusher, more)
-}
-
-/// A flush whose first pass does not find the worker's half.
-pub(crate) fn late_flush<R: Wait>(
-    desk: &Desk<'_, R>,
-    recorder: &mut Recorder,
-    flusher: &mut Flusher,
-    more: u32,
-) -> Result<FlushRecord, Fail>
-    requires worker { MayBeGiven desk.now.store.now more recorder.old }
-    requires flusher { IsIdle desk.now.store.now flusher.old }
-    ensures worker { IfOk result (λ _. MayBeGiven desk.now.store.now more recorder.new) }
-    ensures flusher { IfOk result (λ _. IsIdle desk.now.store.now flusher.new) }
-{
-    begin(desk, flusher)?;
-    if pass(desk, flusher)? != Pass::Late(1, 1) {
-        return Err("the half was not waited for")?;
-    }
-    finish(desk, recorder, flusher, more)
+    poll(desk, recorder, more)?;
+    end_round(desk, flusher)
 }

@@ -5,7 +5,7 @@ ghost use Rattle.recorder.specs.Tied.{IsWorkerOf};
 ghost use Rattle.refusal_tests.specs.Standing.{MayBeGiven};
 
 use crate::again::{Desk, work_once};
-use crate::closing::{finds_in, sums_in};
+use crate::closing::{finds_in, sums_in, units_of};
 use crate::row::{Row, course};
 use admin_side::Admin;
 use flusher::Flusher;
@@ -25,11 +25,12 @@ fn calls<R: Wait>(desk: &Desk<'_, R>, recorder: &mut Recorder) -> Result<[bool; 
     Ok([first, second, third, fourth])
 }
 
-// The units and values of those events.
-fn sums_of(given: [bool; 4]) -> (u64, u64) {
+// The units of counter a and those of counter b, and the values of the histogram.
+fn sums_of(given: [bool; 4]) -> (u64, u64, u64) {
     let [first, second, third, fourth] = given;
     (
-        u64::from(first) + 2 * u64::from(third) + 4 * u64::from(fourth),
+        u64::from(first) + 4 * u64::from(fourth),
+        2 * u64::from(third),
         u64::from(second),
     )
 }
@@ -60,7 +61,9 @@ fn goes_on_without_a_refused_event(rt: HostRuntime) -> Result<(), Fail> {
     let (given, end) = course::<WithoutRefused, HostRuntime>(&rt, rt.alloc(), true)?;
     // One request for memory is refused in a run at most, so the recorder goes on behind it.
     assert!(rt; count_of(given) >= 3);
-    assert!(rt; sums_in(&end.last) == sums_of(given));
+    let (a, b, values) = sums_of(given);
+    assert!(rt; units_of(&end, b"a") == a && units_of(&end, b"b") == b);
+    assert!(rt; sums_in(&end.last) == (a.wrapping_add(b), values));
     // The opening of `root`, the finds, the worker's end and the sweep. The find of a refused event may stand there.
     let finds = finds_in(end.log.items());
     assert!(rt; finds <= 3 && end.log.items().len() == finds + 3);

@@ -67,6 +67,20 @@ pub(crate) fn sums_in(flush: &FlushRecord) -> (u64, u64) {
     (units, values)
 }
 
+/// The units of the counters of this name.
+pub(crate) fn units_of(end: &LastFlush, name: &[u8]) -> u64 {
+    let metrics = end.names.metrics.items();
+    let mut units = 0u64;
+    for delta in end.last.deltas.items() {
+        if let Some(metric) = metrics.get(delta.id.0 as usize) {
+            if metric.name.bytes() == name {
+                units = units.wrapping_add(delta.n);
+            }
+        }
+    }
+    units
+}
+
 /// The number of finds.
 pub(crate) fn finds_in(log: &[Entry]) -> usize {
     let mut finds = 0usize;

@@ -3,6 +3,7 @@
 use crate::again::{Desk, flush, read, work};
 use crate::closing::{finds_in, sums_in};
 use crate::row::{Row, course};
+use crate::text::{text_sink, write_flush};
 use admin_side::Admin;
 use flusher::Flusher;
 use recorder::Recorder;
@@ -74,6 +75,13 @@ const NEWEST_NAME: u64 = 9;
 
 const FINDS: usize = 4;
 
+// The counter in both flushes.
+const FLUSHES: &str = "# flush 1
+envoy.cluster.c.n:7|c
+# last
+envoy.cluster.c.n:8|c
+";
+
 // The word of the one counter.
 fn word_in(reading: &ReadRecord) -> u64 {
     match reading.counters.items() {
@@ -84,12 +92,18 @@ fn word_in(reading: &ReadRecord) -> u64 {
 
 #[test]
 fn goes_on_after_a_refusal(rt: HostRuntime) -> Result<(), Fail> {
-    let (told, end) = course::<SharedMetrics, HostRuntime>(&rt, rt.alloc(), true)?;
+    let alloc = rt.alloc();
+    let (told, end) = course::<SharedMetrics, HostRuntime>(&rt, alloc, true)?;
     assert!(rt; told.verdicts == VERDICTS);
     assert!(rt; told.reading.at == NEWEST_NAME && word_in(&told.reading) == 7);
     assert!(rt; told.flush.at == ENTRIES && sums_in(&told.flush) == (7, 1));
     // Behind the flush's sweep the worker's end.
     assert!(rt; end.last.at == ENTRIES + 2 && sums_in(&end.last) == (8, 1));
     assert!(rt; end.log.items().len() == 13 && finds_in(end.log.items()) == FINDS);
+    let mut out = text_sink(alloc)?;
+    let metrics = end.names.metrics.items();
+    write_flush(alloc, "# flush 1\n", metrics, &told.flush, &mut out)?;
+    write_flush(alloc, "# last\n", metrics, &end.last, &mut out)?;
+    assert_eq!(rt; out.bytes(), FLUSHES.as_bytes());
     Ok(())
 }

@@ -19,3 +19,5 @@ mod parties;
 mod row;
 #[cfg(test)]
 mod rows;
+#[cfg(test)]
+mod text;

@@ -1,38 +1,54 @@
-//! Rows of two stores. Each is tried with refused calls made once more, and without.
+//! Rows of three stores. Each is tried with refused calls made once more, and without.
 ghost use Rattle.std.specs.Prelude.{IfOk};
 ghost use Rattle.recorder.specs.declared.limits.TheConstants.{MAX_GIVEN};
 ghost use Rattle.recorder.specs.Tied.{IsWorkerOf};
 ghost use Rattle.refusal_tests.specs.Standing.{MayBeGiven, IsIdle};
 
-use crate::again::{Desk, late_flush, work};
-use crate::closing::sums_in;
+use crate::again::{Desk, Looked, begin_late, end_round, poll, work};
 use crate::row::{Row, course};
+use crate::text::output;
 use admin_side::Admin;
 use flusher::Flusher;
-use recorder::Recorder;
-use stat_defs::{Bin, BinCount, FlushRecord, Kind, LastFlush, Life, MetricId, ScopeId, Verdict};
+use recorder::{Polled, Recorder};
+use stat_defs::{Bin, BinCount, FlushRecord, Kind, Life, LogNames, MetricId, ScopeId, Verdict};
 use std::alloc::Global;
 use std::process::Abort;
 use std::sync::Wait;
 use std::test::Fail;
 
-// Three values, a flush that waits for the worker's half, and a value more.
+// What a flush told that waited for the worker's half.
+#[derive(Drop)]
+struct Late {
+    /// The poll before the flush was begun, and the one that it waited for.
+    looks: [Looked; 2],
+    flush: FlushRecord,
+}
+
+// A poll, three events, a flush that waits for the worker's half, and an event more.
 fn late_calls<R: Wait>(
     desk: &Desk<'_, R>,
     recorder: &mut Recorder,
     flusher: &mut Flusher,
-) -> Result<FlushRecord, Fail>
+    lines: [&'static str; 4],
+) -> Result<Late, Fail>
     requires worker { MayBeGiven desk.now.store.now MAX_GIVEN recorder.old }
     requires flusher { IsIdle desk.now.store.now flusher.old }
     ensures worker { IfOk result (λ _. IsWorkerOf desk.now.store.now 1 recorder.new) }
     ensures flusher { IfOk result (λ _. IsIdle desk.now.store.now flusher.new) }
 {
-    let _first = work(desk, recorder, "rec root h 7", 131_070)?;
-    let _second = work(desk, recorder, "rec root h 7", 131_068)?;
-    let _third = work(desk, recorder, "rec root h 100", 131_066)?;
-    let shown = late_flush(desk, recorder, flusher, 131_066)?;
-    let _fourth = work(desk, recorder, "rec root h 5", 131_064)?;
-    Ok(shown)
+    let [first, second, third, fourth] = lines;
+    let before = poll(desk, recorder, 131_072)?;
+    let _first = work(desk, recorder, first, 131_070)?;
+    let _second = work(desk, recorder, second, 131_068)?;
+    let _third = work(desk, recorder, third, 131_066)?;
+    begin_late(desk, flusher)?;
+    let waited_for = poll(desk, recorder, 131_066)?;
+    let flush = end_round(desk, flusher)?;
+    let _fourth = work(desk, recorder, fourth, 131_064)?;
+    Ok(Late {
+        looks: [before, waited_for],
+        flush,
+    })
 }
 
 // Two scopes that share a counter; one of them is released.
@@ -64,24 +80,40 @@ const fn bin_of(val: u8, exp: i8, count: u64) -> BinCount {
     }
 }
 
+// A poll that did this, and was not refused.
+const fn looked(turned: bool, acked: bool) -> Looked {
+    Looked {
+        polled: Polled { turned, acked },
+        refused: false,
+    }
+}
+
 struct LateHalf;
 
 impl Row for LateHalf {
-    type Told = FlushRecord;
+    type Told = Late;
 
     fn calls<R: Wait>(
         desk: &Desk<'_, R>,
         recorder: &mut Recorder,
         flusher: &mut Flusher,
         _admin: &mut Admin,
-    ) -> Result<FlushRecord, Fail> {
-        late_calls(desk, recorder, flusher)
+    ) -> Result<Late, Fail> {
+        let lines = [
+            "rec root h 7",
+            "rec root h 7",
+            "rec root h 100",
+            "rec root h 5",
+        ];
+        late_calls(desk, recorder, flusher, lines)
     }
 }
 
 fn turn_and_late<R: Wait + Abort>(rt: &R, alloc: Global, again: bool) -> Result<(), Fail> {
-    let (shown, end) = course::<LateHalf, R>(rt, alloc, again)?;
-    assert!(rt; has_bins(&shown, &[bin_of(70, 0, 2), bin_of(10, 2, 1)]));
+    let (late, end) = course::<LateHalf, R>(rt, alloc, again)?;
+    // No scope was released, so neither poll asks for memory.
+    assert!(rt; late.looks == [looked(false, false), looked(true, false)]);
+    assert!(rt; has_bins(&late.flush, &[bin_of(70, 0, 2), bin_of(10, 2, 1)]));
     assert!(rt; has_bins(&end.last, &[bin_of(50, 0, 1)]));
     Ok(())
 }
@@ -96,6 +128,49 @@ fn goes_on_from_a_late_half(rt: HostRuntime) -> Result<(), Fail> {
     turn_and_late(&rt, rt.alloc(), true)
 }
 
+struct ReleaseBeside;
+
+impl Row for ReleaseBeside {
+    type Told = Late;
+
+    fn calls<R: Wait>(
+        desk: &Desk<'_, R>,
+        recorder: &mut Recorder,
+        flusher: &mut Flusher,
+        _admin: &mut Admin,
+    ) -> Result<Late, Fail> {
+        let lines = [
+            "open p cluster.c",
+            "rec root h 7",
+            "release p",
+            "rec root h 5",
+        ];
+        late_calls(desk, recorder, flusher, lines)
+    }
+}
+
+// The poll that the flush waits for turns the half and then acknowledges the release. Where it has no memory for the
+// entry, the half is turned all the same, and the poll behind it acknowledges alone.
+fn release_and_late<R: Wait + Abort>(rt: &R, alloc: Global, again: bool) -> Result<(), Fail> {
+    let (late, end) = course::<ReleaseBeside, R>(rt, alloc, again)?;
+    let [before, waited_for] = late.looks;
+    assert!(rt; before == looked(false, false));
+    assert!(rt; waited_for.polled.acked && waited_for.polled.turned != waited_for.refused);
+    assert!(rt; has_bins(&late.flush, &[bin_of(70, 0, 1)]));
+    assert!(rt; has_bins(&end.last, &[bin_of(50, 0, 1)]));
+    Ok(())
+}
+
+#[test]
+fn a_release_beside_a_late_half(rt: HostRuntime) -> Result<(), Fail> {
+    release_and_late(&rt, rt.alloc(), false)
+}
+
+#[test]
+fn goes_on_with_a_release_beside_a_late_half(rt: HostRuntime) -> Result<(), Fail> {
+    release_and_late(&rt, rt.alloc(), true)
+}
+
 const VERDICTS: [Verdict; 6] = [
     Verdict::Opened(ScopeId(1)),
     Verdict::Opened(ScopeId(2)),
@@ -105,15 +180,18 @@ const VERDICTS: [Verdict; 6] = [
     Verdict::Accepted(MetricId(0)),
 ];
 
-// Whether the one metric is a live counter whose name is spelled by the first three symbols.
-fn has_symbols(end: &LastFlush) -> bool {
-    match end.names.metrics.items() {
-        [metric] => {
-            metric.name.bytes() == b"cluster.c.n".as_slice()
-                && metric.kind == Kind::Counter
-                && metric.numbers.items() == [1, 2, 3].as_slice()
-                && metric.life == Life::Live
-        }
+// What the program writes of these events, with symbols.
+const OUTPUT: &str = "# last
+envoy.cluster.c.n:7|c
+# symbols
+cluster.c.n counter - 03010203 1=cluster 2=c 3=n
+# worker 1: 6 accepted, 0 dropped
+";
+
+// Whether the one metric is a live counter.
+fn is_live_counter(names: &LogNames) -> bool {
+    match names.metrics.items() {
+        [metric] => metric.kind == Kind::Counter && metric.life == Life::Live,
         _ => false,
     }
 }
@@ -136,7 +214,8 @@ impl Row for SharedSymbols {
 fn symbols_shared<R: Wait + Abort>(rt: &R, alloc: Global, again: bool) -> Result<(), Fail> {
     let (verdicts, end) = course::<SharedSymbols, R>(rt, alloc, again)?;
     assert!(rt; verdicts == VERDICTS);
-    assert!(rt; sums_in(&end.last) == (7, 0) && has_symbols(&end));
+    assert!(rt; is_live_counter(&end.names));
+    assert_eq!(rt; output(alloc, &end, &verdicts)?.bytes(), OUTPUT.as_bytes());
     Ok(())
 }
 
