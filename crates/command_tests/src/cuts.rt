@@ -4,7 +4,7 @@ use crate::calls::{assert_call, play_over};
 use stat_defs::Report;
 use std::process::Abort;
 use std::test::Fail;
-use test_support::{Wanted, shelf_of};
+use test_support::{Wanted, shelf_of, shelf_with};
 
 const CUT: &[u8] = b"inc root a 1\nrec root h 7\nrelease root\n";
 
@@ -69,15 +69,20 @@ fn values_of(report: &Report) -> u64 {
     sum
 }
 
+const THREE_FLUSHES: &[u8] = br#"{"stats_run":{"flushes":3}}"#;
+
+// A replay has its one flush, however many a run would have.
 #[test]
 fn values_cut_anywhere(rt: HostRuntime) -> Result<(), Fail> {
     let alloc = rt.alloc();
     let mut file = Vec::new(alloc);
     for count in 0..=10u64 {
-        let played = play_over(alloc, "replay - f1", shelf_of(alloc, &file, 99)?, 100, 999)?;
+        let shelf = shelf_with(alloc, &file, THREE_FLUSHES, b"", 99)?;
+        let played = play_over(alloc, "replay f2 f1", shelf, 100, 999)?;
         let Some(report) = &played.outcome.report else {
             panic!(rt; "{count} values and no report");
         };
+        assert_eq!(rt; report.flushes.items().len(), 1);
         assert_eq!(rt; values_of(report), count);
         file.extend_from_slice(b"rec root h 7\n")?;
     }
