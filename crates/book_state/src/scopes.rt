@@ -25,7 +25,7 @@ struct LiveScope {
     bears: NumberSet,
 }
 
-// A scope. All scopes that were ever opened have a row, so one that was released is a word.
+// A scope. All scopes that were ever opened have a row, so what only a live one needs lies in a box that its release frees.
 #[derive(Drop)]
 struct ScopeRow {
     // Its label alone, which contracts see and no call asks for.
