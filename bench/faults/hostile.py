@@ -4,9 +4,10 @@
 Makes the files of each case in a temporary folder and runs `replay` and `run` over them. It looks at the status, at
 standard error and at the end of the output, and prints the time and the peak of memory, beside those of ordinary files
 of the same sizes: scripts of `load`, which are half increments of 512 counters, a quarter values of 16 histograms and a
-quarter moves of a gauge, at most as many events as a file may have. A case is wrong where the status or what was
-written is another one, where more than 4 GB were in use, or where it took more than ten times as long as the ordinary
-files; times below a twentieth of a second count as that. Its own status is the number of cases that were wrong.
+quarter moves of a gauge, at most as many events as a file may have. Beside a bootstrap of patterns stands an ordinary
+one, of as many patterns of that size, each a list of names. A case is wrong where the status or what was written is
+another one, where more than 4 GB were in use, or where it took more than ten times as long as the ordinary files; times
+below a twentieth of a second count as that. Its own status is the number of cases that were wrong.
 
 Words behind PROGRAM are the names of the cases to run; all where there is none. It needs GNU time, and Linux.
 """
@@ -36,11 +37,12 @@ LETTERS = "abcdefghijklmnopqrstuvwxyz0123456789_"
 
 class Case:
     """Words behind the command, and what is to come of them. `beside` are the sizes of the ordinary files, or other
-    files to compare with."""
+    files to compare with, and `beside_boot` is their bootstrap."""
 
-    def __init__(self, words, status=0, err="", ends=None, boot=USUAL, beside=None, feeds=(), out=None):
+    def __init__(self, words, status=0, err="", ends=None, boot=USUAL, beside=None, beside_boot=USUAL, feeds=(),
+                 out=None):
         self.words, self.status, self.err, self.ends = words, status, err, ends
-        self.boot, self.beside, self.feeds, self.out = boot, beside, feeds, out
+        self.boot, self.beside, self.beside_boot, self.feeds, self.out = boot, beside, beside_boot, feeds, out
 
 
 def put(name, content):
@@ -98,7 +100,7 @@ def once(program, words, out, feeds=()):
 def in_turn(program, command, case):
     """One run of the case and the seconds of ordinary files: of each the fastest of three in turn, since a machine has
     faster and slower moments. A case that feeds the program runs once."""
-    words, others = [command, case.boot] + case.words, [command, USUAL] + beside(case)
+    words, others = [command, case.boot] + case.words, [command, case.beside_boot] + beside(case)
     runs, usual = [], []
     for _ in range(1 if case.feeds else 3):
         runs.append(once(program, words, case.out, case.feeds))
@@ -114,21 +116,35 @@ def beside(case):
     return [put("ordinary%d" % at, ordinary(size, at)) for at, size in enumerate(sizes, 1)]
 
 
-def faults_of(case, run, usual):
-    status, out, err, wall, memory = run
+def cost_faults(wall, usual, memory):
     faults = []
-    if status != case.status:
-        faults.append("status %d, and not %d" % (status, case.status))
-    if not re.fullmatch(case.err, err):
-        faults.append("said %r" % err[-200:])
     if memory > MOST_MEMORY:
         faults.append("more than 4 GB")
     if wall > 10 * max(usual, 0.05):
         faults.append("%.0f times the time of an ordinary one" % (wall / usual))
+    return faults
+
+
+def faults_of(case, run, usual):
+    status, out, err, wall, memory = run
+    faults = cost_faults(wall, usual, memory)
+    if status != case.status:
+        faults.append("status %d, and not %d" % (status, case.status))
+    if not re.fullmatch(case.err, err):
+        faults.append("said %r" % err[-200:])
     told = accepted(out)
     if case.ends and not case.ends(told):
         faults.append("ended with %r" % told[:4])
     return faults
+
+
+def told_wrong(name, command, ended, figures, faults):
+    """Prints the line of a case, and gives whether it was wrong. Figures are the seconds, the ordinary ones, and kB."""
+    wall, usual, memory = figures
+    told = "WRONG: " + ", ".join(faults) if faults else ""
+    print("%-20s %-6s %s, %7.3f s (ordinary %6.3f), %6.1f MB%s"
+          % (name, command, ended, wall, usual, memory / 1024, told and "; " + told), flush=True)
+    return bool(faults)
 
 
 def same_name(count, line):
@@ -189,6 +205,17 @@ def churn():
     return Case(files, ends=lambda told: told[0][0] + told[0][1] == EVENTS and len(told) == 32)
 
 
+def ordinary_rules(count=64, patterns=32):
+    """A bootstrap of so many tag rules and patterns of 1,024 bytes, each a list of names."""
+    names = lambda at: "|".join("cluster_%02d_%02d" % (at, n) for n in range(77))
+    rules = [{"tag_name": "t%02d" % at, "regex": r"\.((?:%s)\.)" % names(at)} for at in range(count)]
+    regexes = [{"safe_regex": {"regex": r"http\.(?:%s)\.rq" % names(at)}} for at in range(patterns)]
+    config = {"use_all_default_tags": False, "stats_tags": rules}
+    if patterns:
+        config["stats_matcher"] = {"exclusion_list": {"patterns": regexes}}
+    return put_boot("ordinary_boot", {"stats_config": config})
+
+
 def rules_of(count, names):
     """64 tag rules and 32 patterns of 1,024 bytes, each with a star in a star, and so many names of 511 bytes."""
     rules, patterns = [], []
@@ -203,7 +230,8 @@ def rules_of(count, names):
     scopes = [{"label": "s", "prefix": "a" * 255}]
     boot = put_boot("b%d" % count, {"stats_config": config, "stats_run": {"scopes": scopes}})
     lines = ["inc s %s%03d 1" % ("a" * 252, at) for at in range(names)]
-    return Case([put("f%d" % count, lines)], boot=boot, ends=lambda told: told == [(names, 0)])
+    return Case([put("f%d" % count, lines)], boot=boot, beside_boot=ordinary_rules(),
+                ends=lambda told: told == [(names, 0)])
 
 
 def rules():
@@ -223,7 +251,7 @@ def searched_rules():
               "stats_matcher": {"exclusion_list": {"patterns": patterns}}}
     boot = put_boot("b", {"stats_config": config, "stats_run": {"scopes": [{"label": "s", "prefix": "a" * 255}]}})
     lines = ["inc s %s%s%03d 1" % ("a" * 60, "".join(words), at) for at in range(64)]
-    return Case([put("f", lines)], boot=boot, ends=lambda told: told == [(64, 0)])
+    return Case([put("f", lines)], boot=boot, beside_boot=ordinary_rules(), ends=lambda told: told == [(64, 0)])
 
 
 def late_matches():
@@ -233,7 +261,7 @@ def late_matches():
     boot = put_boot("b", {"stats_config": {"use_all_default_tags": False, "stats_tags": rules},
                           "stats_run": {"scopes": [{"label": "s", "prefix": "a" * 255}]}})
     lines = ["inc s %s%s 1" % ("a" * (247 - at), "z" * 8) for at in range(64)]
-    return Case([put("f", lines)], boot=boot, ends=lambda told: told == [(64, 0)])
+    return Case([put("f", lines)], boot=boot, beside_boot=ordinary_rules(64, 0), ends=lambda told: told == [(64, 0)])
 
 
 def folded(a, b):
@@ -406,10 +434,8 @@ def try_case(program, make):
             run, usual = in_turn(program, command, case)
             faults = faults_of(case, run, usual)
             os.chdir("/")
-        told = "WRONG: " + ", ".join(faults) if faults else ""
-        print("%-20s %-6s status %d, %7.3f s (ordinary %6.3f), %6.1f MB%s"
-              % (make.__name__, command, run[0], run[3], usual, run[4] / 1024, told and "; " + told), flush=True)
-        wrong += bool(faults)
+        figures = run[3], usual, run[4]
+        wrong += told_wrong(make.__name__, command, "status %d" % run[0], figures, faults)
     return wrong
 
 
@@ -424,13 +450,15 @@ def opened_below(process, path):
 
 def replaced(program, command):
     """A file is replaced by another one of its name while a second file, a pipe, holds the program up. What was opened
-    before is read to its end. A run has opened the first file by then, and a replay has read it."""
+    before is read to its end. A run has opened the first file by then, and a replay has read it. The time is that from
+    the first byte of the pipe on."""
     with tempfile.TemporaryDirectory() as place:
         os.chdir(place)
         put("f", ["inc root old 1"] * 3)
         put("new", ["inc root new 1"] * 5)
+        usual = min(once(program, [command, USUAL, "f", put("g", ["inc root p 1"])], None)[3] for _ in range(3))
         os.mkfifo("p")
-        started, timed = time.perf_counter(), ["/usr/bin/time", "-q", "-f", "%M", "-o", "figures"]
+        timed = ["/usr/bin/time", "-q", "-f", "%M", "-o", "figures"]
         process = subprocess.Popen(timed + [program, command, USUAL, "f", "p"], stdout=subprocess.PIPE,
                                    stderr=subprocess.PIPE)
         patience = time.time() + 10
@@ -438,6 +466,7 @@ def replaced(program, command):
             time.sleep(0.01)
         time.sleep(0.3)
         os.rename("new", "f")
+        started = time.perf_counter()
         with open("p", "w") as to:
             to.write("inc root p 1\n")
         out, err = process.communicate(timeout=LONGEST)
@@ -445,10 +474,10 @@ def replaced(program, command):
         os.chdir("/")
     whole = (b"# last\nenvoy.old:3|c\nenvoy.p:1|c\n"
              b"# worker 1: 3 accepted, 0 dropped\n# worker 2: 1 accepted, 0 dropped\n")
-    right = process.returncode == 0 and err == b"" and out == whole
-    print("%-20s %-6s status %d, %7.3f s held up, %6.1f MB%s" % (
-        "replaced", command, process.returncode, wall, memory / 1024, "" if right else "; WRONG: %r" % out))
-    return not right
+    faults = cost_faults(wall, usual, memory)
+    if process.returncode != 0 or err or out != whole:
+        faults.append("ended with %r, %r" % (out, err))
+    return told_wrong("replaced", command, "status %d" % process.returncode, (wall, usual, memory), faults)
 
 
 def rewritten(program, command):
@@ -458,6 +487,8 @@ def rewritten(program, command):
         lines = b"inc root a 1\n" * EVENTS
         path, done = os.path.join(place, "f"), threading.Event()
         put(path, lines)
+        others = [command, USUAL, put("usual", ordinary(len(lines), 1))]
+        usual = min(once(program, others, None)[3] for _ in range(3))
 
         def write():
             while not done.is_set():
@@ -470,11 +501,12 @@ def rewritten(program, command):
         time.sleep(0.1)
         os.chdir("/")
     said = re.compile(r"|file 1 line \d+: (no event|line too long)\n|file 1: too many events\n")
-    right = all(status in (0, 3) and said.fullmatch(err) and accepted(out) for status, out, err, _, _ in runs)
-    print("%-20s %-6s statuses %s, at most %.3f s, %6.1f MB%s" % (
-        "rewritten", command, sorted({run[0] for run in runs}), max(run[3] for run in runs),
-        max(run[4] for run in runs) / 1024, "" if right else "; WRONG"))
-    return not right
+    wall, memory = max(run[3] for run in runs), max(run[4] for run in runs)
+    faults = cost_faults(wall, usual, memory)
+    faults += ["status %d, said %r" % (status, err) for status, out, err, _, _ in runs
+               if status not in (0, 3) or not said.fullmatch(err) or not accepted(out)]
+    ended = "statuses %s" % sorted({run[0] for run in runs})
+    return told_wrong("rewritten", command, ended, (wall, usual, memory), faults)
 
 
 def main():

@@ -64,9 +64,9 @@ def run_ended(status, out, err):
 def test_ended(status, out, err):
     if status == 0:
         return "whole"
-    told = b"NoMemory" in err or b"AllocFailed" in err or b"AllocError" in err
-    # A test gives the error, or stops where it expects that there is none.
-    return "refused" if status in (101, -6) and told else "wrong"
+    # A test gives the error. One that stops, as where it looks at what came of its calls, told something else.
+    told = re.search(rb"^error: .*\b(NoMemory|AllocFailed|AllocError)\b", err, re.M)
+    return "refused" if status == 101 and told else "wrong"
 
 
 def refuse_each(name, words, ended, place, shim):
