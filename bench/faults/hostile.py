@@ -67,8 +67,11 @@ def ordinary(size, script):
         i, j = r >> 2, r >> 11
         rest = ("c%d %d" % (i % 512, j % 1000), "c%d %d" % (i % 512, j % 1000), "h%d %d" % (i % 16, j % 100000),
                 "g%d acc %d" % (script, j % 1000))[r & 3]
-        lines.append("%s root %s%s" % (("inc", "inc", "rec", "add")[r & 3], more, rest))
-        held += len(lines[-1]) + 1
+        line = "%s root %s%s" % (("inc", "inc", "rec", "add")[r & 3], more, rest)
+        held += len(line) + 1
+        if held > BYTES:
+            break
+        lines.append(line)
     return lines
 
 
@@ -97,6 +100,13 @@ def once(program, words, out, feeds=()):
     return status, "" if out else Path("out").read_text(errors="replace"), Path("err").read_text(), wall, memory
 
 
+def ordinary_time(program, words):
+    """The seconds of ordinary files, over which the program has no fault."""
+    status, _, err, wall, _ = once(program, words, None)
+    assert status == 0 and not err, err
+    return wall
+
+
 def in_turn(program, command, case):
     """One run of the case and the seconds of ordinary files: of each the fastest of three in turn, since a machine has
     faster and slower moments. A case that feeds the program runs once."""
@@ -104,7 +114,7 @@ def in_turn(program, command, case):
     runs, usual = [], []
     for _ in range(1 if case.feeds else 3):
         runs.append(once(program, words, case.out, case.feeds))
-        usual.append(once(program, others, None)[3])
+        usual.append(ordinary_time(program, others))
     return min(runs, key=lambda run: run[3]), min(usual)
 
 
@@ -207,7 +217,7 @@ def churn():
 
 def ordinary_rules(count=64, patterns=32):
     """A bootstrap of so many tag rules and patterns of 1,024 bytes, each a list of names."""
-    names = lambda at: "|".join("cluster_%02d_%02d" % (at, n) for n in range(77))
+    names = lambda at: "|".join("cluster_%02d_%02d" % (at, n) for n in range(72))
     rules = [{"tag_name": "t%02d" % at, "regex": r"\.((?:%s)\.)" % names(at)} for at in range(count)]
     regexes = [{"safe_regex": {"regex": r"http\.(?:%s)\.rq" % names(at)}} for at in range(patterns)]
     config = {"use_all_default_tags": False, "stats_tags": rules}
@@ -456,7 +466,8 @@ def replaced(program, command):
         os.chdir(place)
         put("f", ["inc root old 1"] * 3)
         put("new", ["inc root new 1"] * 5)
-        usual = min(once(program, [command, USUAL, "f", put("g", ["inc root p 1"])], None)[3] for _ in range(3))
+        others = [command, USUAL, "f", put("g", ["inc root p 1"])]
+        usual = min(ordinary_time(program, others) for _ in range(3))
         os.mkfifo("p")
         timed = ["/usr/bin/time", "-q", "-f", "%M", "-o", "figures"]
         process = subprocess.Popen(timed + [program, command, USUAL, "f", "p"], stdout=subprocess.PIPE,
@@ -488,7 +499,7 @@ def rewritten(program, command):
         path, done = os.path.join(place, "f"), threading.Event()
         put(path, lines)
         others = [command, USUAL, put("usual", ordinary(len(lines), 1))]
-        usual = min(once(program, others, None)[3] for _ in range(3))
+        usual = min(ordinary_time(program, others) for _ in range(3))
 
         def write():
             while not done.is_set():
